@@ -1,0 +1,5 @@
+-- What closes the needs of this crate's functions: `search ways`.
+use borrow.Author.Needs.{needs}
+use Rattle.arithmetic.proofs.LittleEndianLaws.{byte-past, u32-short, u32-far, u32-is, u64-short, u64-far, u64-is, four-bytes, eight-bytes}
+
+pub ruleset ways = (needs, byte-past, u32-short, u32-far, u32-is, u64-short, u64-far, u64-is, four-bytes, eight-bytes)

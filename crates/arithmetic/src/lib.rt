@@ -1,0 +1,2 @@
+// Amounts, units, fees, and numbers as bytes.
+pub mod little_endian;

@@ -1,0 +1,4 @@
+pub mod Items
+pub mod Layout
+pub mod Molecule
+pub mod Partial
