@@ -1,0 +1,11 @@
+pub mod ChunksLaws
+pub mod HeaderLaws
+pub mod ItemsLaws
+pub mod LayoutLaws
+pub mod MoleculeLaws
+pub mod Offsets
+pub mod PartialLaws
+pub mod ReadableLaws
+pub mod TestLaws
+pub mod Ways
+pub mod WriteLaws

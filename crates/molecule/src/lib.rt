@@ -1,4 +1,198 @@
-// Molecule (RFC 0008).
-pub fn header(n: u32) -> u64 {
-    4 * (n as u64) + 4
+// Readers of Molecule (RFC 0008) over a lent slice of bytes. Each is total: past the end a number is 0 and a part is empty. A part that is handed
+// back is a stretch of the lent bytes: `ensures` says which bytes, and where in the lent slice they stand.
+pub mod write;
+
+use arithmetic::little_endian;
+ghost use mathlib.Core.Path.{_≡_};
+ghost use Prim.Native.Nat.{_+_, min};
+ghost use lib.ListN.{length};
+ghost use Rattle.molecule.specs.Molecule.{readable, fixvec, dynvec, array, byte};
+ghost use Rattle.molecule.specs.Layout.{part, partStart, inside, word, start, hasItems, fieldOf, fieldStart, itemCount, itemOf, itemStart, fixCount, fixItem, fixStart, content, contentStart, entryOf, entryStart};
+
+fn lesser(a: usize, b: usize) -> usize
+    ensures { λ r. ⌜ r ≡ min a b ⌝ }
+{
+    if a < b { a } else { b }
+}
+
+// The bytes from `from` up to `to`, as many of them as there are.
+pub fn part(s: &[u8], from: usize, to: usize) -> &[u8]
+    ensures { λ r. ⌜ now r ≡ part (now (s .entry)) from to ⌝ }
+    ensures { λ r. ⌜ r .ptr ≡ inside (s .entry .ptr) (partStart (now (s .entry)) from to) ⌝ }
+{
+    let e = lesser(to, s.len());
+    let b = lesser(from, e);
+    &s[b..e]
+}
+
+// The i-th number of four bytes.
+pub fn word(s: &[u8], i: usize) -> u32
+    ensures { λ r. ⌜ r ≡ word (now (s .entry)) i ⌝ }
+{
+    if s.len() / 4 <= i {
+        return 0;
+    }
+    little_endian::u32_at(s, 4 * i)
+}
+
+// Where item i of n starts, and the end for i = n.
+fn start(s: &[u8], n: usize, i: usize) -> usize
+    ensures { λ r. ⌜ r ≡ start (now (s .entry)) n i ⌝ }
+{
+    if i < n {
+        return word(s, i + 1) as usize;
+    }
+    s.len()
+}
+
+// Whether s is a header and n items without gaps: a table of n fields, or a dynvec of n items.
+pub fn has_items(s: &[u8], n: usize) -> bool
+    ensures { λ r. ⌜ r ≡ hasItems (now (s .entry)) n ⌝ }
+{
+    if s.len() / 4 <= n {
+        return false;
+    }
+    if word(s, 0) as usize != s.len() {
+        return false;
+    }
+    let mut from = start(s, n, 0);
+    if from != 4 + 4 * n {
+        return false;
+    }
+    let mut i = 0;
+    while i < n {
+        i += 1;
+        let to = start(s, n, i);
+        if to < from {
+            return false;
+        }
+        from = to;
+    }
+    true
+}
+
+// Item i of n.
+pub fn field(s: &[u8], n: usize, i: usize) -> &[u8]
+    ensures { λ r. ⌜ now r ≡ fieldOf (now (s .entry)) n i ⌝ }
+    ensures { λ r. ⌜ r .ptr ≡ inside (s .entry .ptr) (fieldStart (now (s .entry)) n i) ⌝ }
+{
+    if n <= i {
+        return part(s, s.len(), s.len());
+    }
+    let a = start(s, n, i);
+    let b = start(s, n, i + 1);
+    part(s, a, b)
+}
+
+// How many bytes item i of n has.
+pub fn field_len(s: &[u8], n: usize, i: usize) -> usize
+    ensures { λ r. ⌜ r ≡ length (fieldOf (now (s .entry)) n i) ⌝ }
+{
+    field(s, n, i).len()
+}
+
+// How many items a dynvec says that it has.
+pub fn item_count(s: &[u8]) -> u32
+    ensures { λ r. ⌜ r ≡ itemCount (now (s .entry)) ⌝ }
+{
+    if s.len() == 4 {
+        return 0;
+    }
+    let first = word(s, 1);
+    if first < 8 {
+        return 0;
+    }
+    first / 4 - 1
+}
+
+// Item i of a dynvec.
+pub fn item(s: &[u8], i: usize) -> &[u8]
+    ensures { λ r. ⌜ now r ≡ itemOf (now (s .entry)) i ⌝ }
+    ensures { λ r. ⌜ r .ptr ≡ inside (s .entry .ptr) (itemStart (now (s .entry)) i) ⌝ }
+{
+    let n = item_count(s) as usize;
+    field(s, n, i)
+}
+
+// Whether s is a fixvec of items of k bytes.
+pub fn is_fixvec(s: &[u8], k: u32) -> bool
+    ensures { λ r. ⌜ r ≡ readable (fixvec (array byte k)) (now (s .entry)) ⌝ }
+{
+    if s.len() < 4 {
+        return false;
+    }
+    if s.len() > 0xffff_ffff {
+        return false;
+    }
+    let n = word(s, 0) as usize;
+    let w = k as usize;
+    if s.len() == 4 + w * n {
+        return true;
+    }
+    false
+}
+
+// How many items a fixvec says that it has.
+pub fn fix_count(s: &[u8]) -> u32
+    ensures { λ r. ⌜ r ≡ fixCount (now (s .entry)) ⌝ }
+{
+    word(s, 0)
+}
+
+// Item i of a fixvec of items of k bytes.
+pub fn fix_item(s: &[u8], k: u32, i: usize) -> &[u8]
+    ensures { λ r. ⌜ now r ≡ fixItem (now (s .entry)) k i ⌝ }
+    ensures { λ r. ⌜ r .ptr ≡ inside (s .entry .ptr) (fixStart (now (s .entry)) k i) ⌝ }
+{
+    let n = word(s, 0) as usize;
+    if n <= i {
+        return part(s, 0, 0);
+    }
+    let w = k as usize;
+    let a = 4 + w * i;
+    let b = a + w;
+    part(s, a, b)
+}
+
+// Whether s is a fixvec of bytes.
+pub fn is_bytes(s: &[u8]) -> bool
+    ensures { λ r. ⌜ r ≡ readable (fixvec byte) (now (s .entry)) ⌝ }
+{
+    is_fixvec(s, 1)
+}
+
+// The bytes of a fixvec of bytes.
+pub fn content(s: &[u8]) -> &[u8]
+    ensures { λ r. ⌜ now r ≡ content (now (s .entry)) ⌝ }
+    ensures { λ r. ⌜ r .ptr ≡ inside (s .entry .ptr) (contentStart (now (s .entry))) ⌝ }
+{
+    part(s, 4, s.len())
+}
+
+// Whether s is a dynvec of fixvecs of bytes.
+pub fn is_bytes_vec(s: &[u8]) -> bool
+    ensures { λ r. ⌜ r ≡ readable (dynvec (fixvec byte)) (now (s .entry)) ⌝ }
+{
+    let n = item_count(s) as usize;
+    if !has_items(s, n) {
+        return false;
+    }
+    let mut i = 0;
+    while i < n {
+        let x = item(s, i);
+        if !is_bytes(x) {
+            return false;
+        }
+        i += 1;
+    }
+    true
+}
+
+// The bytes of item i of a dynvec of fixvecs of bytes.
+pub fn entry(s: &[u8], i: usize) -> &[u8]
+    ensures { λ r. ⌜ now r ≡ entryOf (now (s .entry)) i ⌝ }
+    ensures { λ r. ⌜ r .ptr ≡ inside (s .entry .ptr) (entryStart (now (s .entry)) i) ⌝ }
+{
+    let x = item(s, i);
+    content(x)
 }

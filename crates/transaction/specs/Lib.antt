@@ -1,0 +1,2 @@
+pub mod Ckb
+pub mod Tx
