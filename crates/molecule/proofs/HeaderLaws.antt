@@ -4,7 +4,7 @@ use mathlib.Core.Path.{_≡_, refl, sym, ap, ap₂, _∙_, subst}
 use Prim.Native.Nat.{ℕ, zero, suc, _+_, _-_, _*_, _/_, _%_, _^_, _≤_, _<_}
 use mathlib.Core.List.{List, [], _∷_}
 use mathlib.Core.Bool.{Bool, true, false, cond, _&&_, and-true, and-false, and-assoc, and-eq-true-iff, false≢true}
-use mathlib.Core.Option.{Option, none, some, Option·map, map-eq-some-iff, Option·some-injective, Option·none-ne-some}
+use mathlib.Core.Option.{Option, none, some, Option·map, map-eq-some-iff}
 use mathlib.Core.Logic.{_≢_}
 use native.Mathlib.Nat.{mul-comm}
 use native.Mathlib.Decide.{decLt}
@@ -18,11 +18,12 @@ use Rattle.arithmetic.specs.LittleEndian.{le}
 use Rattle.arithmetic.proofs.LittleEndianLaws.{num-some}
 use Rattle.molecule.specs.Partial.{only}
 use Rattle.molecule.specs.Items.{cuts, words, items, split}
-use Rattle.molecule.specs.Molecule.{Ty, fixvec, dynvec, table, option, Fields, end, _&_, size, readable, fixed}
+use Rattle.molecule.specs.Molecule.{Ty, fixvec, dynvec, table, Fields, end, _&_, size, readable, fixed}
 use Rattle.molecule.specs.Layout.{part, word, span, splitsInto, hasItems, start, fieldOf, itemCount, itemOf, itemsOf, fixCount}
 use Rattle.molecule.proofs.PartialLaws.{only-yes, only-no, only-some, pick-yes, pick-no}
-use Rattle.molecule.proofs.ReadableLaws.{holds, every, allReadable, readable-table, readable-dynvec, readable-option, readable-fixvec}
-use Rattle.molecule.proofs.Offsets.{upTo, inOrder, offsetsOk, up-all, up-from, start-in, start-out, Offsets, offsets-parts, first-offset, span-length}
+use Rattle.molecule.proofs.ReadableLaws.{holds, every, allReadable, readable-table, readable-dynvec, readable-fixvec}
+pub use Rattle.molecule.proofs.ReadableLaws.{readable-option as option-readable}
+use Rattle.molecule.proofs.Offsets.{upTo, inOrder, offsetsOk, up-all, up-from, start-in, start-out, offsets-parts, first-offset, span-length}
 
 -- the i-th number, where its bytes are there
 pub word-is : (s : List ℕ) (i : ℕ) → 4 * i + 4 ≤ length s → le (take 4 (drop (4 * i) s)) ≡ word s i
@@ -71,7 +72,7 @@ module _ (s : List ℕ) (n : ℕ) (room : 4 + 4 * n ≤ length s) where
       (drop-drop (p - o) o s ∙ ap (λ (j : ℕ). drop j s) a)
       ∙ ap (λ (q : ℕ). Option·map (λ xs. take (q - o) (drop o s) ∷ xs) (cuts q (words m (drop (8 + 4 * (k + 1)) s)) (drop q s))) e
 
-  pub cut-all : (m k : ℕ) → k + suc m ≡ n → Ordered k → cut k m ≡ some (span (fieldOf s n) k (suc m))
+  cut-all : (m k : ℕ) → k + suc m ≡ n → Ordered k → cut k m ≡ some (span (fieldOf s n) k (suc m))
   unfolding cuts words span fieldOf part
   cut-all zero k e h =
       let z : start s n (k + 1) ≡ length s = start-end k (omega arith) in
@@ -85,7 +86,7 @@ module _ (s : List ℕ) (n : ℕ) (room : 4 + 4 * n ≤ length s) where
       ∙ ap (Option·map (λ xs. fieldOf s n k ∷ xs)) (cut-all m (k + 1) (omega arith) f)
       ∙ ap (λ (j : ℕ). some (fieldOf s n k ∷ span (fieldOf s n) j (suc m))) (sym y)
 
-  pub cut-ordered : (m k : ℕ) → k + suc m ≡ n → start s n k ≤ length s → (xs : List (List ℕ)) → cut k m ≡ some xs → Ordered k
+  cut-ordered : (m k : ℕ) → k + suc m ≡ n → start s n k ≤ length s → (xs : List (List ℕ)) → cut k m ≡ some xs → Ordered k
   unfolding cuts words
   cut-ordered zero k e w xs c j p q =
       let z : start s n (k + 1) ≡ length s = start-end k (omega arith) in
@@ -110,7 +111,7 @@ module _ (s : List ℕ) (m : ℕ) (room : 4 + 4 * suc m ≤ length s) (first : s
   abbrev n : ℕ
   n = suc m
 
-  pub cuts-are : cut s n room 0 m ≡ cond (upTo (inOrder s n) n) (some (span (fieldOf s n) 0 n)) none
+  cuts-are : cut s n room 0 m ≡ cond (upTo (inOrder s n) n) (some (span (fieldOf s n) 0 n)) none
   cuts-are = by (upTo (inOrder s n) n) refl
     where
       none-of : (o : Option (List (List ℕ))) → ((xs : List (List ℕ)) → o ≡ some xs → ⊥) → o ≡ none
@@ -230,7 +231,7 @@ module _ (s : List ℕ) (four : 4 ≤ length s) (w : word s 0 ≡ length s) (mor
           ≡ cond (ltb (suc m) (length s / 4) && eqb (word s 0) (length s) && eqb (start s (suc m) 0) (4 + 4 * suc m) && upTo (inOrder s (suc m)) (suc m)) (some (span (fieldOf s (suc m)) 0 (suc m))) none
       tests a b d = rw (a, b, d)
 
-  pub rest-is : Whole s
+  rest-is : Whole s
   rest-is = by (leb 8 h && eqb (h % 4) 0 && leb h (length s)) refl
     where
       by : (b : Bool) → leb 8 h && eqb (h % 4) 0 && leb h (length s) ≡ b → Whole s
@@ -245,7 +246,7 @@ module _ (s : List ℕ) (four : 4 ≤ length s) (w : word s 0 ≡ length s) (mor
           let f : 8 ≤ h → h % 4 ≡ 0 → h ≤ length s → ⊥ = λ p q r. false≢true (sym e ∙ rw (le-leb 8 h p, eq-eqb (h % 4) 0 q, le-leb h (length s) r)) in
           both-none s (to-items ∙ items-none h s f) (bad f)
 
--- THE LAW OF THE HEADER
+-- the law of the header
 pub split-is : (s : List ℕ) → split s ≡ cond (offsetsOk s (itemCount s)) (some (itemsOf s)) none
 split-is s =
     elim (decLt (length s) 4) [
@@ -350,9 +351,6 @@ dynvec-readable t s =
     holds-cond : (b : Bool) → holds (cond b (some (itemsOf s)) none) (every (readable t)) ≡ (b && every (readable t) (itemsOf s))
     holds-cond true = refl
     holds-cond false = refl
-
-pub option-readable : (t : Ty) (s : List ℕ) → readable (option t) s ≡ cond (eqb (length s) 0) true (readable t s)
-option-readable t s = readable-option t s
 
 pub fixvec-readable : (t : Ty) → T (fixed t) → (s : List ℕ)
     → readable (fixvec t) s ≡ (ltb (length s) (2 ^ 32) && leb 4 (length s) && eqb (length s) (4 + size t * fixCount s))

@@ -1,14 +1,13 @@
 -- `split` and `join` are inverse: `split-join` and `join-split`.
-use mathlib.Core.Path.{_≡_, refl, ap, ap₂, sym, _∙_, subst}
+use mathlib.Core.Path.{_≡_, refl, ap, ap₂, sym, _∙_}
 use Prim.Native.Nat.{ℕ, zero, suc, _+_, _-_, _*_, _/_, _%_, _^_, _≤_, _<_}
 use mathlib.Core.List.{List, [], _∷_, _++_, flatten, append-assoc, append-nil}
-use mathlib.Core.Option.{Option, none, some, Option·map, map-eq-some-iff, Option·some-injective}
-use mathlib.Core.Bool.{Bool, true, false}
+use mathlib.Core.Option.{Option, some, Option·map, map-eq-some-iff, Option·some-injective}
 use mathlib.Core.Logic.{_≢_, ⊎-elim}
 use native.Mathlib.Omega.{arith}
-use lib.ListN.{length, take, drop, getD, length-append, length-take, length-drop, take-append-drop}
-use lib.Seq.{take-at, drop-at, take-take, drop-drop, take-add, length-take-le, getD-drop, getD-take, take-all}
-use lib.Dec.{T, leb, eqb, leb→le, le→leb, eqb→eq, eqb-refl}
+use lib.ListN.{length, take, drop, length-append, length-drop, take-append-drop}
+use lib.Seq.{take-at, drop-at, drop-drop, take-add, length-take-le, getD-drop, take-all}
+use lib.Dec.{leb→le, eqb→eq}
 use mir.Facts.{yes-eqb, yes-leb, no-eqb}
 use Rattle.arithmetic.specs.LittleEndian.{le, toLe, AllBytes}
 use Rattle.arithmetic.proofs.LittleEndianLaws.{length-toLe, le-toLe, toLe-le, le-lt, bytes-toLe}
@@ -130,10 +129,10 @@ length-join xs =
     omega (arith, length-append (unwords ns) (flatten xs), length-unwords ns, length-offsets h xs)
 
 -- `split` where the header's tests pass
-pub split-items : (s : List ℕ) (h : ℕ) → le (take 4 s) ≡ length s → le (take 4 (drop 4 s)) ≡ h → 8 ≤ h → h % 4 ≡ 0 → h ≤ length s
+split-tests : (s : List ℕ) (h : ℕ) → le (take 4 s) ≡ length s → le (take 4 (drop 4 s)) ≡ h → 8 ≤ h → h % 4 ≡ 0 → h ≤ length s
     → split s ≡ cuts h (words (h / 4 - 2) (drop 8 s)) (drop h s)
 unfolding split items
-split-items s h size first low whole high =
+split-tests s h size first low whole high =
     let four : 4 ≤ length s = omega arith in
     let more : length s ≢ 4 = omega arith in
     only-yes _ _ (yes-leb four)
@@ -194,7 +193,7 @@ split-parts x xs bound =
     let ls : size ≡ length s = sym (length-join (x ∷ xs)) ∙ ap length j in
     let n : h / 4 - 2 ≡ length xs = omega arith in
     ap split j
-    ∙ split-items s h (parts-size size h rest flat bound ∙ ls) (parts-first size h rest flat (omega arith)) (omega arith) (omega arith) (omega arith)
+    ∙ split-tests s h (parts-size size h rest flat bound ∙ ls) (parts-first size h rest flat (omega arith)) (omega arith) (omega arith) (omega arith)
     ∙ ap₂ (cuts h)
     (ap₂ words n (parts-rest size h rest flat) ∙ words-offsets (h + length x) xs flat (omega (arith, length-flatten x xs)))
     (parts-flat size h rest flat (omega arith))

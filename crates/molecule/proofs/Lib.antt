@@ -1,4 +1,5 @@
 pub mod ChunksLaws
+pub mod DecodedLaws
 pub mod HeaderLaws
 pub mod ItemsLaws
 pub mod LayoutLaws

@@ -1,11 +1,11 @@
 -- A string is read as a value exactly if it is that value, written: `encode-decode`, `decode-encode`, and both as `accepted`.
 use mathlib.Core.Path.{_≡_, refl, ap, ap₂, sym, _∙_, subst}
-use Prim.Native.Nat.{ℕ, zero, suc, _+_, _-_, _*_, _^_, _≤_, _<_}
+use Prim.Native.Nat.{ℕ, zero, suc, _+_, _*_, _^_, _≤_, _<_}
 use native.Mathlib.Nat.{le-mul-of-pos-right}
 use native.Mathlib.Omega.{arith}
 use mathlib.Core.List.{List, [], _∷_, _++_, map, flatten}
-use mathlib.Core.Option.{Option, none, some, Option·map, bind, bind-eq-some-iff, map-eq-some-iff, Option·some-injective, Option·none-ne-some}
-use mathlib.Core.Bool.{Bool, true, false, not, _&&_}
+use mathlib.Core.Option.{Option, none, some, Option·map, bind-eq-some-iff, map-eq-some-iff, Option·some-injective, Option·none-ne-some}
+use mathlib.Core.Bool.{not}
 use mathlib.Core.Logic.{_↔_}
 use lib.ListN.{length, take, drop, length-append, length-drop, length-map, take-append-drop}
 use lib.Seq.{take-at, drop-at}
@@ -13,7 +13,7 @@ use lib.Dec.{T, leb→le, ltb→lt, eqb→eq, lit<}
 use mir.Facts.{and-yes, yes-and, yes-eqb, yes-leb, yes-ltb}
 use Rattle.arithmetic.specs.LittleEndian.{le, toLe, AllBytes}
 use Rattle.arithmetic.proofs.LittleEndianLaws.{length-toLe, le-toLe, bytes-toLe}
-use Rattle.molecule.specs.Partial.{only, both, each, All}
+use Rattle.molecule.specs.Partial.{both, each, All}
 use Rattle.molecule.specs.Items.{join, split}
 use Rattle.molecule.specs.Molecule.{Ty, byte, array, struct, fixvec, dynvec, table, option, Fields, end, _&_, Value, Values, size, sizes, encode, encodes, chunks, pieces, oneByte, decode, decodes, Good, Goods, fixed, allFixed, hasBytes, valid, allValid}
 use Rattle.molecule.proofs.PartialLaws.{only-yes, only-some, both-some, bind-some, length-each, each-all, map-each, each-map, all-map}
@@ -52,7 +52,7 @@ size-positive (option t) f h = absurd f
 
 -- ---- what is read is what was written
 
-one-byte : (s : List ℕ) (b : ℕ) → oneByte s ≡ some b → b ∷ [] ≡ s
+pub one-byte : (s : List ℕ) (b : ℕ) → oneByte s ≡ some b → b ∷ [] ≡ s
 unfolding oneByte
 one-byte [] b e = absurd (Option·none-ne-some b e)
 one-byte (a ∷ []) b e = ap {B = List ℕ} (λ (x : ℕ). x ∷ []) (sym (Option·some-injective _ _ e))

@@ -1,7 +1,7 @@
 -- The header of a dynvec or a table by index, as code tests it: definitions over specs/Layout.antt, and their laws.
 use mathlib.Core.Path.{_≡_, refl, sym, ap, _∙_}
 use Prim.Native.Nat.{ℕ, zero, suc, _+_, _*_, _/_, _≤_, _<_}
-use mathlib.Core.List.{List, [], _∷_}
+use mathlib.Core.List.{List}
 use mathlib.Core.Bool.{Bool, true, false, _&&_, and-false, and-eq-true-iff, false≢true}
 use native.Mathlib.Decide.{decLt}
 use native.Mathlib.Omega.{arith}

@@ -1,6 +1,6 @@
 -- Which strings are readable: one law for each kind of type, and `read-exactly`, that these are exactly the encodings.
 use mathlib.Core.Path.{_≡_, refl, ap, ap₂, sym, _∙_}
-use Prim.Native.Nat.{ℕ, zero, suc, _+_, _*_, _^_, _≤_, _<_}
+use Prim.Native.Nat.{ℕ, _+_, _*_, _^_, _<_}
 use native.Mathlib.Omega.{arith}
 use mathlib.Core.List.{List, [], _∷_}
 use mathlib.Core.Option.{Option, none, some, bind, bind-eq-some-iff, map-eq-some-iff}
@@ -14,11 +14,11 @@ use mir.Facts.{and-yes}
 use Rattle.arithmetic.specs.LittleEndian.{le, AllBytes}
 use Rattle.molecule.specs.Partial.{there, each, All}
 use Rattle.molecule.specs.Items.{split}
-use Rattle.molecule.specs.Molecule.{Ty, byte, array, struct, fixvec, dynvec, table, option, Fields, end, _&_, Value, size, sizes, chunks, pieces, oneByte, encode, decode, decodes, readable, Good, fixed, allFixed, valid, hasBytes}
+use Rattle.molecule.specs.Molecule.{Ty, byte, array, struct, fixvec, dynvec, table, option, Fields, end, _&_, Value, size, sizes, chunks, pieces, oneByte, encode, decode, decodes, readable, Good, fixed, allFixed, valid}
 use Rattle.molecule.proofs.PartialLaws.{there-some, there-only, there-test, there-both, there-map}
 use Rattle.molecule.proofs.ItemsLaws.{split-below}
-use Rattle.molecule.proofs.ChunksLaws.{Long, chunks-long}
-use Rattle.molecule.proofs.MoleculeLaws.{Fixvec, fixvec-read, encode-decode, accepted}
+use Rattle.molecule.proofs.ChunksLaws.{chunks-long}
+use Rattle.molecule.proofs.MoleculeLaws.{fixvec-read, encode-decode, accepted}
 
 -- ---- a test of each item
 

@@ -1,0 +1,4 @@
+pub mod FieldLaws
+pub mod ListLaws
+pub mod TableLaws
+pub mod Ways

@@ -1,0 +1,17 @@
+use Rattle.transaction.proofs.Ways.{ways}
+use Rattle.transaction.proofs.is_script.Statement.{statement}
+use Rattle.transaction.proofs.is_script.Tie as tie
+
+pub is-script-spec : {M : Type 1} → statement M
+is-script-spec =
+    tie.close
+    (tie.spec
+    (λ c κs. search ways)  -- has-items-requires
+    (λ c. search ways)  -- returns
+    (λ c κs. search ways)  -- field-len-requires
+    (λ c. search ways)  -- returns-2
+    (λ c κs. search ways)  -- field-len-requires-2
+    (λ c. search ways)  -- returns-3
+    (λ c κs. search ways)  -- field-requires
+    (λ c κs. search ways)  -- is-bytes-requires
+    (λ c. search ways))  -- returns-4
