@@ -1,2 +1,7 @@
 pub mod LittleEndianLaws
+pub mod AmountLaws
+pub mod AmountAnswers
+pub mod UnitsLaws
+pub mod FeeLaws
+pub mod Examples
 pub mod Ways

@@ -1,1 +1,4 @@
+pub mod Amount
+pub mod Fee
 pub mod LittleEndian
+pub mod Units

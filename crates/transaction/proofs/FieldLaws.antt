@@ -4,6 +4,9 @@ use Prim.Native.Nat.{ℕ, _+_}
 use mathlib.Core.List.{List}
 use lib.ListN.{getD}
 use Rattle.arithmetic.specs.LittleEndian.{u32At, u64At}
+use Rattle.arithmetic.specs.declared.units.Shannons.{Shannons}
+use Rattle.arithmetic.specs.Amount.{amountOf}
+use Rattle.arithmetic.specs.Units.{inShannons}
 use Rattle.molecule.specs.Layout.{part, inside, word, fieldOf, fieldStart, itemCount, itemOf, itemStart, fixItem, fixStart, content, contentStart, entryOf, entryStart}
 use Rattle.molecule.proofs.LayoutLaws.{inside-twice}
 use Rattle.transaction.specs.Tx.{rawField, rawStart, witnessesOf, codeHashOf, hashTypeOf, argsOf, argsStart, capacityOf, lockOf, typeOf, previousOutputOf, txHashOf, outPointOf, firstOf, dataOf, dataStart}
@@ -74,6 +77,10 @@ module _ (s : List ℕ) where
   args-place p e g h = inside-twice p _ _ g (rw e at h)
 
   -- ---- an output
+
+  pub capacity-is : {f : List ℕ} {x : ℕ} {r : Shannons} → f ≡ fieldOf s 3 0 → x ≡ u64At f 0 → r ≡ inShannons (amountOf x) → r ≡ inShannons (amountOf (capacityOf s))
+  unfolding capacityOf
+  capacity-is e g h = h ∙ ap (λ (n : ℕ). inShannons (amountOf n)) (rw e at g)
 
   pub lock-is : {f : List ℕ} → f ≡ fieldOf s 3 1 → f ≡ lockOf s
   unfolding lockOf

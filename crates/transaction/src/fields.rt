@@ -1,8 +1,11 @@
 // What stands in a transaction and its parts. Each accessor is total: of bytes that are in no form it answers 0 or a part of them. A part that is
 // handed back is a stretch of the lent bytes.
 use arithmetic::little_endian;
+use arithmetic::units::Shannons;
 ghost use mathlib.Core.Path.{_≡_};
 ghost use Prim.Native.Nat.{_+_};
+ghost use Rattle.arithmetic.specs.Amount.{amountOf};
+ghost use Rattle.arithmetic.specs.Units.{inShannons};
 ghost use Rattle.molecule.specs.Layout.{partStart, inside, fieldStart, itemCount, itemOf, itemStart, fixCount, fixItem, fixStart, entryOf, entryStart};
 ghost use Rattle.transaction.specs.Tx.{rawField, rawStart, witnessesOf, txAt, codeHashOf, hashTypeOf, argsOf, argsStart, capacityOf, lockOf, typeOf, sinceOf, previousOutputOf, txHashOf, indexOf, outPointOf, depTypeOf, firstOf, dataOf, dataStart};
 
@@ -196,6 +199,14 @@ pub fn args(s: &[u8]) -> &[u8]
 {
     let f = molecule::field(s, 3, 2);
     molecule::content(f)
+}
+
+// The capacity of an output.
+pub fn capacity(s: &[u8]) -> Shannons
+    ensures { λ r. ⌜ r ≡ inShannons (amountOf (capacityOf (now (s .entry)))) ⌝ }
+{
+    let f = molecule::field(s, 3, 0);
+    Shannons::from_u64(little_endian::u64_at(f, 0))
 }
 
 // The lock of an output.
