@@ -141,20 +141,16 @@ module _ (a b : Amount) where
 
   -- ---- comparisons
 
-  pub less-high : a .low < 2 ^ 64 → a .high < b .high → true ≡ isLess a b
-  unfolding isLess
-  less-high l h = sym (lt-ltb (value a) (value b) (high-less l h))
+  high-more : b .low < 2 ^ 64 → b .high ≤ a .high → (a .high ≡ b .high → ⊥) → value b ≤ value a
+  high-more l h n = omega arith
 
-  high-more : b .low < 2 ^ 64 → b .high < a .high → value b ≤ value a
-  high-more l h = omega arith
-
-  pub more-high : b .low < 2 ^ 64 → b .high < a .high → false ≡ isLess a b
+  pub less-high : a .low < 2 ^ 64 → b .low < 2 ^ 64 → (a .high ≡ b .high → ⊥) → ltb (a .high) (b .high) ≡ isLess a b
   unfolding isLess
-  more-high l h = sym (le-ltb (value a) (value b) (high-more l h))
+  less-high la lb n = ltb-as (a .high) (b .high) (value a) (value b) (λ h. high-less la h) (λ h. high-more lb h n)
 
-  pub less-low : b .high ≤ a .high → a .high ≤ b .high → ltb (a .low) (b .low) ≡ isLess a b
+  pub less-low : a .high ≡ b .high → ltb (a .low) (b .low) ≡ isLess a b
   unfolding isLess
-  less-low h k = ltb-as (a .low) (b .low) (value a) (value b) (λ e. omega arith) (λ e. omega arith)
+  less-low e = ltb-as (a .low) (b .low) (value a) (value b) (λ h. omega arith) (λ h. omega arith)
 
   pub same-low : a .high ≡ b .high → eqb (a .low) (b .low) ≡ isSame a b
   unfolding isSame

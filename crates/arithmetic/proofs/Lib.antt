@@ -1,6 +1,6 @@
 pub mod LittleEndianLaws
 pub mod AmountLaws
-pub mod AmountAnswers
+pub mod Answers
 pub mod UnitsLaws
 pub mod FeeLaws
 pub mod Examples

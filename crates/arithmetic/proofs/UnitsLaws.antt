@@ -1,4 +1,4 @@
--- Laws of specs/Units.antt: one law for each way out of the functions, and what an answer tells a caller.
+-- Laws of specs/Units.antt: one law for each way out of the functions.
 use mathlib.Core.Path.{_≡_, refl, sym, ap, _∙_}
 use mathlib.Core.Bool.{Bool, true, false}
 use Prim.Native.Nat.{ℕ, _+_, _-_, _^_, _≤_, _<_, min}

@@ -47,8 +47,8 @@ impl Amount {
     pub const ZERO: Amount = Amount { low: 0, high: 0 };
 
     pub const MAX: Amount = Amount {
-        low: 0xffff_ffff_ffff_ffff,
-        high: 0xffff_ffff_ffff_ffff,
+        low: u64::MAX,
+        high: u64::MAX,
     };
 
     pub fn new(low: u64, high: u64) -> Amount
@@ -114,11 +114,8 @@ impl Amount {
     pub fn less(self, other: Amount) -> bool
         ensures { λ r. ⌜ r ≡ isLess self other ⌝ }
     {
-        if self.high < other.high {
-            return true;
-        }
-        if other.high < self.high {
-            return false;
+        if self.high != other.high {
+            return self.high < other.high;
         }
         self.low < other.low
     }

@@ -33,7 +33,7 @@ pub struct Millis(pub u64);
 pub struct BlockNumber(pub u64);
 
 impl Shannons {
-    pub const ZERO: Shannons = Shannons(Amount { low: 0, high: 0 });
+    pub const ZERO: Shannons = Shannons(Amount::ZERO);
 
     pub fn zero() -> Shannons
         ensures { λ r. ⌜ r ≡ inShannons (amountOf 0) ⌝ }
@@ -85,7 +85,7 @@ impl Shannons {
 }
 
 impl Tokens {
-    pub const ZERO: Tokens = Tokens(Amount { low: 0, high: 0 });
+    pub const ZERO: Tokens = Tokens(Amount::ZERO);
 
     pub fn zero() -> Tokens
         ensures { λ r. ⌜ r ≡ inTokens (amountOf 0) ⌝ }

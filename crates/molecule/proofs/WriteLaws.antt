@@ -8,7 +8,7 @@ use native.Mathlib.Omega.{arith}
 use borrow.Author.Tests.{le-leb, lt-leb}
 use lib.ListN.{length, take, drop, getD, set, length-set, take-append-drop, length-append, length-drop}
 use lib.Seq.{take-at, drop-append-add, drop-drop, length-take-le, paste, paste-zero, paste-suc, take-length}
-use Rattle.molecule.specs.Write.{splice, putAt, putEnd}
+use Rattle.molecule.specs.Write.{splice, putAt, putEnd, Put}
 
 -- ---- the loop that copies: the first i bytes of src stand in out
 
@@ -79,12 +79,6 @@ pub end-as : (out : List ℕ) (at : ℕ) {xs ys : List ℕ} {r : ℕ} → xs ≡
 end-as out at e h = rw e at h
 
 -- ---- a run of writes: each starts where the one before it ended, and together they write one list
-
--- the buffer `after` is `out` with xs at `at`, where there is room for it, and `next` is the place after it
-pub record Put (out : List ℕ) (at : ℕ) (xs : List ℕ) (after : List ℕ) (next : ℕ) : Type 0 where
-  pub bytes : after ≡ splice out at xs
-  pub end : next ≡ at + length xs
-  pub room : at + length xs ≤ length out
 
 -- what a call of `put` did, where there was room
 pub did : (xs : List ℕ) {out : List ℕ} {at : ℕ} {after : List ℕ} {next : ℕ} → after ≡ putAt out at xs → next ≡ putEnd out at xs → at + length xs ≤ length out → Put out at xs after next

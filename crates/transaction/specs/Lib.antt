@@ -1,2 +1,3 @@
 pub mod Ckb
+pub mod Claims
 pub mod Tx

@@ -7,5 +7,4 @@ less-spec =
     tie.close
     (tie.spec
     (λ c. search ways)  -- returns
-    (λ c. search ways)  -- returns-2
-    (λ c. search ways))  -- returns-3
+    (λ c. search ways))  -- returns-2

@@ -1,0 +1,128 @@
+-- What the functions of this crate put, one after the other, is what the definitions say: one law for each function.
+use mathlib.Core.Path.{_≡_, refl, sym, ap, _∙_}
+use Prim.Native.Nat.{ℕ, _+_, _*_, _-_, _≤_, _<_, min}
+use mathlib.Core.List.{List, [], _∷_, _++_, flatten, append-assoc, append-nil}
+use native.Mathlib.Omega.{arith}
+use lib.ListN.{length, length-append}
+use Rattle.arithmetic.specs.LittleEndian.{toLe}
+use Rattle.arithmetic.proofs.LittleEndianLaws.{length-toLe}
+use Rattle.molecule.specs.Items.{join, unwords, offsets}
+use Rattle.molecule.specs.Write.{putAt, putEnd, Put}
+use Rattle.molecule.proofs.ItemsLaws.{length-join}
+use Rattle.molecule.proofs.WriteLaws.{did, then, and-put}
+use Rattle.transaction_writer.specs.Written.{rawBytes, txBytes, threeWords, fourWords, threeParts, fiveParts, rawSize, txSize}
+
+-- the same bytes, said otherwise
+as-bytes : {out after : List ℕ} {at next : ℕ} {xs ys : List ℕ} → xs ≡ ys → Put out at xs after next → Put out at ys after next
+as-bytes e p = rw e at p
+
+-- ---- words
+
+module _ (out : List ℕ) (at : ℕ) (w x y : ℕ) {o₁ o₂ : List ℕ} {n₁ n₂ n₃ : ℕ} (e₁ : o₁ ≡ putAt out at (toLe 4 w)) (f₁ : n₁ ≡ putEnd out at (toLe 4 w)) (e₂ : o₂ ≡ putAt o₁ n₁ (toLe 4 x)) (f₂ : n₂ ≡ putEnd o₁ n₁ (toLe 4 x)) (f₃ : n₃ ≡ putEnd o₂ n₂ (toLe 4 y)) where
+  pub three-words : {o₃ : List ℕ} → at + 12 ≤ length out → o₃ ≡ putAt o₂ n₂ (toLe 4 y) → Put out at (threeWords w x y) o₃ n₃
+  unfolding threeWords
+  three-words h e₃ =
+      let a = length-toLe 4 w in
+      let b = length-toLe 4 x in
+      let c = length-toLe 4 y in
+      let p = did (toLe 4 w) e₁ f₁ (omega arith) in
+      let q = and-put (toLe 4 x) p e₂ f₂ (omega arith) in
+      and-put (toLe 4 y) q e₃ f₃ (rw length-append (omega arith))
+
+  -- where it ends
+  pub three-end : at + 12 ≤ length out → n₃ ≡ at + 12
+  unfolding threeWords
+  three-end h = three-words h refl .end ∙ simp (length-append, length-toLe)
+
+-- a fourth after three
+module _ (out : List ℕ) (at w x y z : ℕ) {o₃ : List ℕ} {n₃ n₄ : ℕ} (h : at + 16 ≤ length out) (p : Put out at (threeWords w x y) o₃ n₃) (f₄ : n₄ ≡ putEnd o₃ n₃ (toLe 4 z)) where
+  pub four-words : {o₄ : List ℕ} → o₄ ≡ putAt o₃ n₃ (toLe 4 z) → Put out at (fourWords w x y z) o₄ n₄
+  unfolding fourWords threeWords
+  four-words e₄ = and-put (toLe 4 z) p e₄ f₄ (simp (length-append, length-toLe) (omega arith))
+
+  pub four-end : n₄ ≡ at + 16
+  unfolding fourWords
+  four-end = four-words refl .end ∙ simp (length-append, length-toLe)
+
+-- ---- lists
+
+module _ (out : List ℕ) (at : ℕ) (a b c : List ℕ) {o₁ o₂ : List ℕ} {n₁ n₂ n₃ : ℕ} (h : at + length a + length b + length c ≤ length out) (e₁ : o₁ ≡ putAt out at a) (f₁ : n₁ ≡ putEnd out at a) (e₂ : o₂ ≡ putAt o₁ n₁ b) (f₂ : n₂ ≡ putEnd o₁ n₁ b) (f₃ : n₃ ≡ putEnd o₂ n₂ c) where
+  pub three-parts : {o₃ : List ℕ} → o₃ ≡ putAt o₂ n₂ c → Put out at (threeParts a b c) o₃ n₃
+  unfolding threeParts
+  three-parts e₃ =
+      let p₁ = did a e₁ f₁ (omega arith) in
+      let p₂ = and-put b p₁ e₂ f₂ (omega arith) in
+      and-put c p₂ e₃ f₃ (simp length-append (omega arith))
+
+  pub parts-end : n₃ ≡ at + length a + length b + length c
+  unfolding threeParts
+  parts-end = three-parts refl .end ∙ simp length-append (omega arith)
+
+module _ (out : List ℕ) (at : ℕ) (a b c d e : List ℕ) {o₃ o₄ : List ℕ} {n₃ n₄ n₅ : ℕ} (h : at + length a + length b + length c + length d + length e ≤ length out) (p : Put out at (threeParts a b c) o₃ n₃) (e₄ : o₄ ≡ putAt o₃ n₃ d) (f₄ : n₄ ≡ putEnd o₃ n₃ d) (f₅ : n₅ ≡ putEnd o₄ n₄ e) where
+  pub five-parts : {o₅ : List ℕ} → o₅ ≡ putAt o₄ n₄ e → Put out at (fiveParts a b c d e) o₅ n₅
+  unfolding fiveParts threeParts
+  five-parts e₅ =
+      let p₄ = and-put d p e₄ f₄ (simp length-append (omega arith)) in
+      and-put e p₄ e₅ f₅ (simp length-append (omega arith))
+
+  pub five-end : n₅ ≡ at + length a + length b + length c + length d + length e
+  unfolding fiveParts
+  five-end = five-parts refl .end ∙ simp length-append (omega arith)
+
+-- ---- the raw transaction: a table of six fields, of which the first has four bytes
+
+module _ (v : ℕ) (a b c d e : List ℕ) where
+  six-length : length (flatten (toLe 4 v ∷ a ∷ b ∷ c ∷ d ∷ e ∷ [])) ≡ 4 + length a + length b + length c + length d + length e
+  unfolding flatten
+  six-length = simp (length-append, length-toLe) (omega arith)
+
+  pub raw-length : length (rawBytes v a b c d e) ≡ rawSize a b c d e
+  unfolding rawBytes
+  raw-length = length-join _ ∙ omega (arith, six-length)
+
+  raw-runs : fourWords (rawSize a b c d e) 28 32 (32 + length a)
+      ++ fourWords (32 + length a + length b) (32 + length a + length b + length c) (32 + length a + length b + length c + length d) v
+      ++ fiveParts a b c d e
+      ≡ rawBytes v a b c d e
+  unfolding rawBytes join unwords offsets flatten fourWords fiveParts
+  raw-runs =
+      let n : 28 + length (flatten (toLe 4 v ∷ a ∷ b ∷ c ∷ d ∷ e ∷ [])) ≡ rawSize a b c d e = omega (arith, six-length) in
+      rw (n, length-toLe 4 v) (simp (append-assoc, append-nil))
+
+  pub put-raw : {out o₁ o₂ o₃ : List ℕ} {at n₁ n₂ n₃ : ℕ}
+      → Put out at (fourWords (rawSize a b c d e) 28 32 (32 + length a)) o₁ n₁
+      → Put o₁ n₁ (fourWords (32 + length a + length b) (32 + length a + length b + length c) (32 + length a + length b + length c + length d) v) o₂ n₂
+      → Put o₂ n₂ (fiveParts a b c d e) o₃ n₃
+      → Put out at (rawBytes v a b c d e) o₃ n₃
+  put-raw p q r = as-bytes raw-runs (then (then p q) r)
+
+  -- and the transaction: the raw one and the witnesses
+  module _ (w : List ℕ) where
+    pub tx-length : length (txBytes v a b c d e w) ≡ txSize a b c d e w
+    unfolding txBytes flatten
+    tx-length = length-join _ ∙ simp (length-append, raw-length) (omega arith)
+
+    tx-runs : threeWords (txSize a b c d e w) 12 (12 + rawSize a b c d e) ++ rawBytes v a b c d e ++ w ≡ txBytes v a b c d e w
+    unfolding txBytes join unwords offsets flatten threeWords
+    tx-runs =
+        let n : 12 + length (flatten (rawBytes v a b c d e ∷ w ∷ [])) ≡ txSize a b c d e w =
+        unfold flatten in simp (length-append, raw-length) (omega arith) in
+        rw (n, raw-length) (simp (append-assoc, append-nil))
+
+    pub put-tx : {out o₁ o₂ o₃ : List ℕ} {n₁ n₂ n₃ m : ℕ} → m ≡ txSize a b c d e w → m ≤ length out
+        → Put out 0 (threeWords m 12 (m - length w)) o₁ n₁ → Put o₁ n₁ (rawBytes v a b c d e) o₂ n₂ → o₃ ≡ putAt o₂ n₂ w → n₃ ≡ putEnd o₂ n₂ w
+        → Put out 0 (txBytes v a b c d e w) o₃ n₃
+    put-tx {m = m} h l p q g k =
+        let j : m - length w ≡ 12 + rawSize a b c d e = omega arith in
+        let u = then (rw (j, h) at p) q in
+        as-bytes tx-runs (and-put w u g k (simp (length-append, raw-length) (unfold threeWords in simp (length-append, length-toLe) (omega arith))))
+
+-- ---- a sum that stops at a cap
+
+cap-next : (m n x b : ℕ) → n ≡ min x 133117 → m ≡ min (n + b) 133117 → m ≡ min (x + b) 133117
+cap-next m n x b e f = omega arith
+
+pub cap-six : (a b c d e f : ℕ) {n₁ n₂ n₃ n₄ n₅ n₆ : ℕ} → n₁ ≡ min (44 + a) 133117 → n₂ ≡ min (n₁ + b) 133117 → n₃ ≡ min (n₂ + c) 133117
+    → n₄ ≡ min (n₃ + d) 133117 → n₅ ≡ min (n₄ + e) 133117 → n₆ ≡ min (n₅ + f) 133117 → n₆ ≡ min (44 + a + b + c + d + e + f) 133117
+cap-six a b c d e f h₁ h₂ h₃ h₄ h₅ h₆ =
+    cap-next _ _ _ f (cap-next _ _ _ e (cap-next _ _ _ d (cap-next _ _ _ c (cap-next _ _ _ b h₁ h₂) h₃) h₄) h₅) h₆

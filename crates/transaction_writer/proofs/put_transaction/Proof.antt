@@ -1,0 +1,16 @@
+use Rattle.transaction_writer.proofs.Ways.{ways}
+use Rattle.transaction_writer.proofs.put_transaction.Statement.{statement}
+use Rattle.transaction_writer.proofs.put_transaction.Tie as tie
+
+pub put-transaction-spec : {M : Type 1} → statement M
+put-transaction-spec =
+    tie.close
+    (tie.spec
+    (λ c. search ways)  -- sub-second
+    (λ c. search ways)  -- cast-put-three-words
+    (λ c. search ways)  -- cast-put-three-words-2
+    (λ c κs. search ways)  -- put-three-words-requires
+    (λ c κs. search ways)  -- put-raw-requires
+    (λ c κs. search ways)  -- put-requires
+    (λ c. search ways)  -- same-length
+    (λ c. search ways))  -- returns

@@ -1,0 +1,61 @@
+-- Writing a transaction from its fields (RFC 0019): the version, and each list in its list form; and what a call that writes answers and leaves
+-- in the lent buffer (01-scope.md: 3 for a list that is not in its form, 13 over the lent buffer or 133,116 bytes).
+use Prim.Native.Nat.{ℕ, _+_}
+use mathlib.Core.Bool.{Bool, _&&_, cond}
+use mathlib.Core.List.{List, [], _∷_, _++_}
+use lib.ListN.{length, drop}
+use lib.Dec.{leb}
+use Rattle.arithmetic.specs.LittleEndian.{toLe}
+use Rattle.error.specs.declared.Refusal.{Refusal}
+use Rattle.molecule.specs.Items.{join}
+use Rattle.molecule.specs.Molecule.{fixvec, dynvec, readable}
+use Rattle.molecule.specs.Partial.{pick}
+use Rattle.transaction.specs.Ckb.{Byte32, Bytes, CellInput, CellDep, CellOutput}
+use Rattle.transaction_writer.specs.declared.Written.{Written}
+
+unfoldable pub rawBytes : ℕ → List ℕ → List ℕ → List ℕ → List ℕ → List ℕ → List ℕ
+rawBytes version deps headers inputs outputs datas = join (toLe 4 version ∷ deps ∷ headers ∷ inputs ∷ outputs ∷ datas ∷ [])
+
+unfoldable pub txBytes : ℕ → List ℕ → List ℕ → List ℕ → List ℕ → List ℕ → List ℕ → List ℕ
+txBytes version deps headers inputs outputs datas witnesses = join (rawBytes version deps headers inputs outputs datas ∷ witnesses ∷ [])
+
+-- each list is in its form
+unfoldable pub inForm : List ℕ → List ℕ → List ℕ → List ℕ → List ℕ → List ℕ → Bool
+inForm deps headers inputs outputs datas witnesses =
+    readable (fixvec CellDep) deps && readable (fixvec Byte32) headers && readable (fixvec CellInput) inputs
+    && readable (dynvec CellOutput) outputs && readable (dynvec Bytes) datas && readable (dynvec Bytes) witnesses
+
+-- n bytes fit a transaction (133,120 with the 4 of its size) and a buffer of so many bytes
+unfoldable pub fits : ℕ → ℕ → Bool
+fits n room = leb n 133116 && leb n room
+
+-- the answer of a call that writes: refused where its arguments are not right, then where the bytes do not fit
+unfoldable pub writes : Bool → Refusal → List ℕ → List ℕ → Written
+writes right refusal bytes out =
+    pick right
+    (pick (fits (length bytes) (length out)) (Written.Wrote (length bytes)) (Written.Refused Refusal.BufferTooShort))
+    (Written.Refused refusal)
+
+-- the buffer after it: the bytes, and what stood behind them; after a refusal all is as it was
+unfoldable pub leaves : Bool → List ℕ → List ℕ → List ℕ
+leaves right bytes out = cond (right && fits (length bytes) (length out)) (bytes ++ drop (length bytes) out) out
+
+-- ---- parts of what is written, one after the other
+
+unfoldable pub threeWords : ℕ → ℕ → ℕ → List ℕ
+threeWords x y z = toLe 4 x ++ toLe 4 y ++ toLe 4 z
+
+unfoldable pub fourWords : ℕ → ℕ → ℕ → ℕ → List ℕ
+fourWords w x y z = toLe 4 w ++ toLe 4 x ++ toLe 4 y ++ toLe 4 z
+
+unfoldable pub threeParts : List ℕ → List ℕ → List ℕ → List ℕ
+threeParts a b c = a ++ b ++ c
+
+unfoldable pub fiveParts : List ℕ → List ℕ → List ℕ → List ℕ → List ℕ → List ℕ
+fiveParts a b c d e = a ++ b ++ c ++ d ++ e
+
+abbrev pub rawSize : List ℕ → List ℕ → List ℕ → List ℕ → List ℕ → ℕ
+rawSize a b c d e = 32 + length a + length b + length c + length d + length e
+
+abbrev pub txSize : List ℕ → List ℕ → List ℕ → List ℕ → List ℕ → List ℕ → ℕ
+txSize a b c d e f = 44 + length a + length b + length c + length d + length e + length f
