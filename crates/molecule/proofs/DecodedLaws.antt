@@ -14,7 +14,8 @@ use mir.Facts.{and-yes}
 use Rattle.arithmetic.specs.LittleEndian.{le, toLe, AllBytes}
 use Rattle.molecule.specs.Partial.{each, All}
 use Rattle.molecule.specs.Items.{split}
-use Rattle.molecule.specs.Molecule.{Ty, byte, array, struct, fixvec, dynvec, table, Fields, end, _&_, Value, Values, size, encode, encodes, chunks, pieces, decode, decodes, fixed, hasBytes, valid}
+use Rattle.molecule.specs.Molecule.{Ty, byte, array, struct, fixvec, dynvec, table, Fields, end, _&_, Value, Values, size, encode, encodes, chunks, pieces, decode, decodes}
+use Rattle.molecule.proofs.Valid.{fixed, hasBytes, valid}
 use Rattle.molecule.specs.Layout.{part, span, splitsInto, hasItems, fieldOf, itemCount, itemOf, itemsOf, fixCount, fixItem, fixItems, content, entryOf, entriesOf}
 use Rattle.molecule.proofs.PartialLaws.{only-some, both-some, map-each}
 use Rattle.molecule.proofs.ItemsLaws.{split-bytes, bytes-drop}

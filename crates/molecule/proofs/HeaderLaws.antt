@@ -18,7 +18,8 @@ use Rattle.arithmetic.specs.LittleEndian.{le}
 use Rattle.arithmetic.proofs.LittleEndianLaws.{num-some}
 use Rattle.molecule.specs.Partial.{only}
 use Rattle.molecule.specs.Items.{cuts, words, items, split}
-use Rattle.molecule.specs.Molecule.{Ty, fixvec, dynvec, table, Fields, end, _&_, size, readable, fixed}
+use Rattle.molecule.specs.Molecule.{Ty, fixvec, dynvec, table, Fields, end, _&_, size, readable}
+use Rattle.molecule.proofs.Valid.{fixed}
 use Rattle.molecule.specs.Layout.{part, word, span, splitsInto, hasItems, start, fieldOf, itemCount, itemOf, itemsOf, fixCount}
 use Rattle.molecule.proofs.PartialLaws.{only-yes, only-no, only-some, pick-yes, pick-no}
 use Rattle.molecule.proofs.ReadableLaws.{holds, every, allReadable, readable-table, readable-dynvec, readable-fixvec}

@@ -8,5 +8,6 @@ pub mod Offsets
 pub mod PartialLaws
 pub mod ReadableLaws
 pub mod TestLaws
+pub mod Valid
 pub mod Ways
 pub mod WriteLaws

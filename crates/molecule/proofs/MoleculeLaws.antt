@@ -15,7 +15,8 @@ use Rattle.arithmetic.specs.LittleEndian.{le, toLe, AllBytes}
 use Rattle.arithmetic.proofs.LittleEndianLaws.{length-toLe, le-toLe, bytes-toLe}
 use Rattle.molecule.specs.Partial.{both, each, All}
 use Rattle.molecule.specs.Items.{join, split}
-use Rattle.molecule.specs.Molecule.{Ty, byte, array, struct, fixvec, dynvec, table, option, Fields, end, _&_, Value, Values, size, sizes, encode, encodes, chunks, pieces, oneByte, decode, decodes, Good, Goods, fixed, allFixed, hasBytes, valid, allValid}
+use Rattle.molecule.specs.Molecule.{Ty, byte, array, struct, fixvec, dynvec, table, option, Fields, end, _&_, Value, Values, size, sizes, encode, encodes, chunks, pieces, oneByte, decode, decodes, Good, Goods}
+use Rattle.molecule.proofs.Valid.{fixed, allFixed, hasBytes, valid, allValid}
 use Rattle.molecule.proofs.PartialLaws.{only-yes, only-some, both-some, bind-some, length-each, each-all, map-each, each-map, all-map}
 use Rattle.molecule.proofs.ItemsLaws.{word-back, bytes-drop, join-split, split-join, split-bytes, length-join, length-flatten, short-flatten, short-join, bytes-append, flatten-bytes, bytes-join}
 use Rattle.molecule.proofs.ChunksLaws.{Long, length-chunks, bytes-chunks, bytes-pieces, length-all, flatten-chunks, chunks-flatten, flatten-pieces}

@@ -14,7 +14,8 @@ use mir.Facts.{and-yes}
 use Rattle.arithmetic.specs.LittleEndian.{le, AllBytes}
 use Rattle.molecule.specs.Partial.{there, each, All}
 use Rattle.molecule.specs.Items.{split}
-use Rattle.molecule.specs.Molecule.{Ty, byte, array, struct, fixvec, dynvec, table, option, Fields, end, _&_, Value, size, sizes, chunks, pieces, oneByte, encode, decode, decodes, readable, Good, fixed, allFixed, valid}
+use Rattle.molecule.specs.Molecule.{Ty, byte, array, struct, fixvec, dynvec, table, option, Fields, end, _&_, Value, size, sizes, chunks, pieces, oneByte, encode, decode, decodes, readable, Good}
+use Rattle.molecule.proofs.Valid.{fixed, allFixed, valid}
 use Rattle.molecule.proofs.PartialLaws.{there-some, there-only, there-test, there-both, there-map}
 use Rattle.molecule.proofs.ItemsLaws.{split-below}
 use Rattle.molecule.proofs.ChunksLaws.{chunks-long}

@@ -8,7 +8,8 @@ use native.Mathlib.Omega.{arith}
 use borrow.Author.Tests.{le-leb, lt-leb, lt-ltb, le-ltb, eq-eqb, ne-eqb, not-true, not-false}
 use lib.Dec.{T}
 use lib.ListN.{length}
-use Rattle.molecule.specs.Molecule.{Ty, byte, array, fixvec, dynvec, size, fixed, readable}
+use Rattle.molecule.specs.Molecule.{Ty, byte, array, fixvec, dynvec, size, readable}
+use Rattle.molecule.proofs.Valid.{fixed}
 use Rattle.molecule.specs.Layout.{word, start, hasItems, itemCount, itemOf}
 use Rattle.molecule.proofs.Offsets.{upTo, inOrder, offsetsOk, up-stop}
 use Rattle.molecule.proofs.HeaderLaws.{offsets-has, dynvec-readable, fixvec-readable}

@@ -14,7 +14,8 @@ use mir.Facts.{and-yes}
 use Rattle.arithmetic.specs.LittleEndian.{le, AllBytes, numAt}
 use Rattle.arithmetic.proofs.LittleEndianLaws.{num-some}
 use Rattle.molecule.specs.Partial.{each, All}
-use Rattle.molecule.specs.Molecule.{Ty, byte, array, struct, fixvec, dynvec, table, Fields, end, _&_, Value, Values, size, sizes, encode, pieces, decode, decodes, valid, allValid}
+use Rattle.molecule.specs.Molecule.{Ty, byte, array, struct, fixvec, dynvec, table, Fields, end, _&_, Value, Values, size, sizes, encode, pieces, decode, decodes}
+use Rattle.molecule.proofs.Valid.{valid, allValid}
 use Rattle.molecule.specs.Layout.{part, span, start, fieldOf, itemCount, itemOf, fixCount, fixItem, content, entryOf}
 use Rattle.molecule.proofs.PartialLaws.{only-some, both-some}
 use Rattle.molecule.proofs.ItemsLaws.{bytes-take, bytes-drop}
@@ -24,7 +25,7 @@ use Rattle.molecule.proofs.Offsets.{span-length, start-out}
 use Rattle.molecule.proofs.HeaderLaws.{count}
 use Rattle.molecule.proofs.LayoutLaws.{part-none}
 use Rattle.molecule.proofs.DecodedLaws.{split-items, table-decodes, first-field, later-fields, fix-chunks, fixvec-decoded, dynvec-decoded, entries-decoded, bytes-decoded, encode-array-byte}
-use Rattle.transaction.specs.Claims.{Encoding, Listed, Items}
+use Rattle.transaction.proofs.Claims.{Encoding, Listed, Items}
 
 -- ---- the parts of a value
 

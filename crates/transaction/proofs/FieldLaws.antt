@@ -9,7 +9,7 @@ use Rattle.arithmetic.specs.Amount.{amountOf}
 use Rattle.arithmetic.specs.Units.{inShannons}
 use Rattle.molecule.specs.Layout.{part, inside, word, fieldOf, fieldStart, itemCount, itemOf, itemStart, fixItem, fixStart, content, contentStart, entryOf, entryStart}
 use Rattle.molecule.proofs.LayoutLaws.{inside-twice}
-use Rattle.transaction.specs.Tx.{rawField, rawStart, witnessesOf, codeHashOf, hashTypeOf, argsOf, argsStart, capacityOf, lockOf, typeOf, previousOutputOf, txHashOf, outPointOf, firstOf, dataOf, dataStart}
+use Rattle.transaction.specs.Tx.{rawField, rawStart, witnessesOf, argsOf, capacityOf, lockOf, typeOf, previousOutputOf, firstOf, dataOf}
 
 -- ---- a field of the raw transaction
 
@@ -53,6 +53,14 @@ module _ (g : List ℕ) {f : List ℕ} (e : f ≡ g) where
     pub entry-of-place : (j : ℕ) → r ≡ inside q (entryStart f j) → r ≡ inside p (a + entryStart g j)
     entry-of-place j h = inside-twice p _ _ d (rw e at h)
 
+-- a byte of the list, and what it holds as a fixvec of bytes
+module _ (g : List ℕ) {f : List ℕ} (e : f ≡ g) where
+  pub byte-of : {r : ℕ} → r ≡ getD f 0 0 → r ≡ getD g 0 0
+  byte-of h = rw e at h
+
+  pub content-place : (p : ℕ × ℕ) (a : ℕ) {q r : ℕ × ℕ} → q ≡ inside p a → r ≡ inside q (contentStart f) → r ≡ inside p (a + contentStart g)
+  content-place p a d h = inside-twice p _ _ d (rw e at h)
+
 pub witnesses-are : (s : List ℕ) {f : List ℕ} → f ≡ fieldOf s 2 1 → f ≡ witnessesOf s
 unfolding witnessesOf
 witnesses-are s h = h
@@ -60,21 +68,9 @@ witnesses-are s h = h
 -- ---- a script
 
 module _ (s : List ℕ) where
-  pub code-hash-is : {f : List ℕ} → f ≡ fieldOf s 3 0 → f ≡ codeHashOf s
-  unfolding codeHashOf
-  code-hash-is h = h
-
-  pub hash-type-is : {f : List ℕ} {r : ℕ} → f ≡ fieldOf s 3 1 → r ≡ getD f 0 0 → r ≡ hashTypeOf s
-  unfolding hashTypeOf
-  hash-type-is e h = rw e at h
-
   pub args-are : {f x : List ℕ} → f ≡ fieldOf s 3 2 → x ≡ content f → x ≡ argsOf s
   unfolding argsOf
   args-are e h = rw e at h
-
-  pub args-place : {f : List ℕ} (p : ℕ × ℕ) {q r : ℕ × ℕ} → f ≡ fieldOf s 3 2 → q ≡ inside p (fieldStart s 3 2) → r ≡ inside q (contentStart f) → r ≡ inside p (argsStart s)
-  unfolding argsStart
-  args-place p e g h = inside-twice p _ _ g (rw e at h)
 
   -- ---- an output
 
@@ -96,14 +92,6 @@ module _ (s : List ℕ) where
   unfolding previousOutputOf
   previous-is h = h
 
-  pub tx-hash-is : {f : List ℕ} → f ≡ part s 0 32 → f ≡ txHashOf s
-  unfolding txHashOf
-  tx-hash-is h = h
-
-  pub out-point-is : {f : List ℕ} → f ≡ part s 0 36 → f ≡ outPointOf s
-  unfolding outPointOf
-  out-point-is h = h
-
   -- ---- a record, a token cell
 
   pub first-is : {f : List ℕ} → f ≡ fieldOf s 2 0 → f ≡ firstOf s
@@ -113,7 +101,3 @@ module _ (s : List ℕ) where
   pub data-is : {f x : List ℕ} → f ≡ fieldOf s 2 1 → x ≡ content f → x ≡ dataOf s
   unfolding dataOf
   data-is e h = rw e at h
-
-  pub data-place : {f : List ℕ} (p : ℕ × ℕ) {q r : ℕ × ℕ} → f ≡ fieldOf s 2 1 → q ≡ inside p (fieldStart s 2 1) → r ≡ inside q (contentStart f) → r ≡ inside p (dataStart s)
-  unfolding dataStart
-  data-place p e g h = inside-twice p _ _ g (rw e at h)

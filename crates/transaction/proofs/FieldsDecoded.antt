@@ -13,19 +13,20 @@ use lib.Dec.{T, eqb}
 use Rattle.arithmetic.specs.LittleEndian.{le, AllBytes}
 use Rattle.arithmetic.proofs.LittleEndianLaws.{num-some}
 use Rattle.molecule.specs.Partial.{only, there}
-use Rattle.molecule.specs.Molecule.{Ty, byte, fixvec, dynvec, table, option, end, _&_, Value, size, pieces, encode, decode, readable, fixed, hasBytes, valid}
+use Rattle.molecule.specs.Molecule.{Ty, byte, fixvec, dynvec, table, option, end, _&_, Value, size, pieces, encode, decode, readable}
+use Rattle.molecule.proofs.Valid.{fixed, hasBytes, valid}
 use Rattle.molecule.specs.Layout.{part, span, fieldOf, itemCount, itemOf, fixCount, fixItem, entryOf}
 use Rattle.molecule.proofs.HeaderLaws.{count}
 use Rattle.molecule.proofs.DecodedLaws.{content-decoded, entries-decoded, bytes-decoded, fixvec-decoded, dynvec-decoded}
 use Rattle.transaction.specs.Ckb.{Uint32, Uint64, Byte32, Bytes, OutPoint, OutPoints, CellDep, CellDeps, CellInput, Script, CellOutput, RawTransaction, Transaction, TokenCell, TokenCells, Record, Records}
-use Rattle.transaction.specs.Tx.{rawField, witnessesOf, txAt, readTx, codeHashOf, hashTypeOf, argsOf, capacityOf, lockOf, typeOf, previousOutputOf, txHashOf, outPointOf, firstOf, dataOf}
-use Rattle.transaction.specs.Claims.{Decoded, Encoding, OutPointFields, InputFields, CellDepFields, ScriptFields, OutputFields, CellFields, Optional, Listed, Items, recordAt, valueRecord, valueTx, TransactionFields}
+use Rattle.transaction.specs.Tx.{rawField, witnessesOf, txAt, readTx, argsOf, capacityOf, lockOf, typeOf, previousOutputOf, firstOf, dataOf}
+use Rattle.transaction.proofs.Claims.{Decoded, Encoding, OutPointFields, InputFields, CellDepFields, ScriptFields, OutputFields, CellFields, Optional, Listed, Items, recordAt, valueRecord, valueTx, TransactionFields}
 use Rattle.transaction.proofs.DecodedParts.{Parts, table-parts, struct-parts, struct-length, number, one-number, fixvec-items, dynvec-items, entries, encode-arrays, bytes-field, bytes-item, item-past}
 
 -- ---- structs
 
 pub out-point-fields : Decoded OutPoint OutPointFields
-unfolding valid fixed size pieces txHashOf part
+unfolding valid fixed size pieces part
 out-point-fields p b v e =
     let l : length p ≡ 36 = struct-length (Byte32 & Uint32 & end) p v e in
     let c = struct-parts (Byte32 & Uint32 & end) tt p b v e in
@@ -42,7 +43,7 @@ input-fields i b v e =
     record { since = num-some 8 i 0 (omega arith) ∙ ap le (bytes-decoded 8 _ (v .0) (c .0 .value)); previousOutput = c .1 .0 }
 
 pub cell-dep-fields : Decoded CellDep CellDepFields
-unfolding valid fixed size pieces outPointOf part
+unfolding valid fixed size pieces part
 cell-dep-fields d b v e =
     let c = struct-parts (OutPoint & byte & end) tt d b v e in
     record {
@@ -53,7 +54,7 @@ cell-dep-fields d b v e =
 -- ---- tables
 
 pub script-fields : Decoded Script ScriptFields
-unfolding valid fixed hasBytes count span codeHashOf hashTypeOf argsOf
+unfolding valid fixed hasBytes count span argsOf
 script-fields s b v e =
     let c = table-parts (Byte32 & byte & Bytes & end) tt s b v e in
     record {

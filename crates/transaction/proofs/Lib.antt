@@ -1,3 +1,4 @@
+pub mod Claims
 pub mod DecodedParts
 pub mod Examples
 pub mod FieldLaws

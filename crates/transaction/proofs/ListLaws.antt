@@ -5,7 +5,8 @@ use mathlib.Core.List.{List}
 use mathlib.Core.Bool.{Bool, true}
 use borrow.Author.Tests.{eq-eqb, ne-eqb}
 use lib.ListN.{length}
-use Rattle.molecule.specs.Molecule.{Ty, byte, array, fixvec, option, size, fixed, readable}
+use Rattle.molecule.specs.Molecule.{Ty, byte, array, fixvec, option, size, readable}
+use Rattle.molecule.proofs.Valid.{fixed}
 use Rattle.molecule.proofs.HeaderLaws.{option-readable}
 use Rattle.molecule.proofs.TestLaws.{fix-as}
 use Rattle.transaction.specs.Ckb.{Byte32, OutPoint, CellInput, CellDep}

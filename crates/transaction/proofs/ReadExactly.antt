@@ -6,10 +6,11 @@ use mathlib.Core.Bool.{Bool, true, _&&_}
 use lib.Dec.{T}
 use mir.Facts.{and-yes}
 use Rattle.molecule.specs.Partial.{All}
-use Rattle.molecule.specs.Molecule.{Ty, size, fixed, hasBytes, valid}
+use Rattle.molecule.specs.Molecule.{Ty, size}
+use Rattle.molecule.proofs.Valid.{fixed, hasBytes, valid}
 use Rattle.molecule.proofs.ReadableLaws as molecule
 use Rattle.molecule.proofs.ReadableLaws.{dynamic}
-use Rattle.transaction.specs.Claims.{tested, ReadExactly, Decoded, Encoding}
+use Rattle.transaction.proofs.Claims.{tested, ReadExactly, Decoded, Encoding}
 
 -- p holds of each type
 unfoldable passes : (Ty → Bool) → List Ty → Bool

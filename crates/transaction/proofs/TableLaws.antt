@@ -6,7 +6,8 @@ use mathlib.Core.Bool.{Bool, true, false, not, _&&_, and-true, and-false}
 use borrow.Author.Tests.{eq-eqb, ne-eqb, not-true, not-false}
 use lib.Dec.{T, eqb}
 use lib.ListN.{length}
-use Rattle.molecule.specs.Molecule.{Ty, byte, fixvec, dynvec, table, option, end, _&_, size, fixed, readable}
+use Rattle.molecule.specs.Molecule.{Ty, byte, fixvec, dynvec, table, option, end, _&_, size, readable}
+use Rattle.molecule.proofs.Valid.{fixed}
 use Rattle.molecule.specs.Layout.{span, hasItems, fieldOf}
 use Rattle.molecule.proofs.ReadableLaws.{allReadable, readable-fixed}
 use Rattle.molecule.proofs.HeaderLaws.{count, table-readable}

@@ -1,13 +1,12 @@
 -- What the bytes of a transaction and of its parts say (RFC 0019). Everything here is total; of bytes that are no transaction it says what the
 -- readers answer.
 use Prim.Native.Nat.{ℕ, _+_}
-use mathlib.Core.List.{List, []}
-use mathlib.Core.Option.{Option, none, some}
-use lib.ListN.{getD}
+use mathlib.Core.List.{List}
+use mathlib.Core.Option.{Option, some}
 use Rattle.arithmetic.specs.LittleEndian.{u32At, u64At}
 use Rattle.molecule.specs.Partial.{only}
 use Rattle.molecule.specs.Molecule.{readable}
-use Rattle.molecule.specs.Layout.{part, partStart, fieldOf, fieldStart, itemsOf, fixItems, content, contentStart, entriesOf}
+use Rattle.molecule.specs.Layout.{part, fieldOf, fieldStart, itemsOf, fixItems, content, entriesOf}
 use Rattle.transaction.specs.Ckb.{Transaction}
 
 -- outputs, deps and inputs are their bytes; a data entry and a witness is what it holds
@@ -45,19 +44,10 @@ txAt s = record {
 unfoldable pub readTx : List ℕ → Option Tx
 readTx s = only (readable Transaction s) (some (txAt s))
 
--- ---- a script
-
-unfoldable pub codeHashOf : List ℕ → List ℕ
-codeHashOf s = fieldOf s 3 0
-
-unfoldable pub hashTypeOf : List ℕ → ℕ
-hashTypeOf s = getD (fieldOf s 3 1) 0 0
+-- ---- the args of a script
 
 unfoldable pub argsOf : List ℕ → List ℕ
 argsOf s = content (fieldOf s 3 2)
-
-unfoldable pub argsStart : List ℕ → ℕ
-argsStart s = fieldStart s 3 2 + contentStart (fieldOf s 3 2)
 
 -- ---- an output
 
@@ -71,25 +61,10 @@ lockOf o = fieldOf o 3 1
 unfoldable pub typeOf : List ℕ → List ℕ
 typeOf o = fieldOf o 3 2
 
--- ---- an input, an out point and a cell dep: parts at fixed places
-
-abbrev pub sinceOf : List ℕ → ℕ
-sinceOf i = u64At i 0
+-- ---- the out point that an input spends
 
 unfoldable pub previousOutputOf : List ℕ → List ℕ
 previousOutputOf i = part i 8 44
-
-unfoldable pub txHashOf : List ℕ → List ℕ
-txHashOf p = part p 0 32
-
-abbrev pub indexOf : List ℕ → ℕ
-indexOf p = u32At p 32
-
-unfoldable pub outPointOf : List ℕ → List ℕ
-outPointOf d = part d 0 36
-
-abbrev pub depTypeOf : List ℕ → ℕ
-depTypeOf d = getD d 36 0
 
 -- ---- a record (output, data) or a token cell (out point, data)
 
@@ -98,6 +73,3 @@ firstOf r = fieldOf r 2 0
 
 unfoldable pub dataOf : List ℕ → List ℕ
 dataOf r = content (fieldOf r 2 1)
-
-unfoldable pub dataStart : List ℕ → ℕ
-dataStart r = fieldStart r 2 1 + contentStart (fieldOf r 2 1)

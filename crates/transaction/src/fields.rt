@@ -4,10 +4,12 @@ use arithmetic::little_endian;
 use arithmetic::units::Shannons;
 ghost use mathlib.Core.Path.{_≡_};
 ghost use Prim.Native.Nat.{_+_};
+ghost use lib.ListN.{getD};
+ghost use Rattle.arithmetic.specs.LittleEndian.{u32At, u64At};
 ghost use Rattle.arithmetic.specs.Amount.{amountOf};
 ghost use Rattle.arithmetic.specs.Units.{inShannons};
-ghost use Rattle.molecule.specs.Layout.{partStart, inside, fieldStart, itemCount, itemOf, itemStart, fixCount, fixItem, fixStart, entryOf, entryStart};
-ghost use Rattle.transaction.specs.Tx.{rawField, rawStart, witnessesOf, txAt, codeHashOf, hashTypeOf, argsOf, argsStart, capacityOf, lockOf, typeOf, sinceOf, previousOutputOf, txHashOf, indexOf, outPointOf, depTypeOf, firstOf, dataOf, dataStart};
+ghost use Rattle.molecule.specs.Layout.{part, partStart, inside, fieldOf, fieldStart, itemCount, itemOf, itemStart, fixCount, fixItem, fixStart, contentStart, entryOf, entryStart};
+ghost use Rattle.transaction.specs.Tx.{rawField, rawStart, witnessesOf, txAt, argsOf, capacityOf, lockOf, typeOf, previousOutputOf, firstOf, dataOf};
 
 // Field i of the raw transaction: 0 version, 1 cell deps, 2 header deps, 3 inputs, 4 outputs, 5 outputs' data.
 pub fn raw_field(s: &[u8], i: usize) -> &[u8]
@@ -178,7 +180,7 @@ pub fn witness(s: &[u8], i: usize) -> &[u8]
 
 // The code hash of a script.
 pub fn code_hash(s: &[u8]) -> &[u8]
-    ensures { λ r. ⌜ now r ≡ codeHashOf (now (s .entry)) ⌝ }
+    ensures { λ r. ⌜ now r ≡ fieldOf (now (s .entry)) 3 0 ⌝ }
     ensures { λ r. ⌜ r .ptr ≡ inside (s .entry .ptr) (fieldStart (now (s .entry)) 3 0) ⌝ }
 {
     molecule::field(s, 3, 0)
@@ -186,7 +188,7 @@ pub fn code_hash(s: &[u8]) -> &[u8]
 
 // The hash type of a script.
 pub fn hash_type(s: &[u8]) -> u8
-    ensures { λ r. ⌜ r ≡ hashTypeOf (now (s .entry)) ⌝ }
+    ensures { λ r. ⌜ r ≡ getD (fieldOf (now (s .entry)) 3 1) 0 0 ⌝ }
 {
     let f = molecule::field(s, 3, 1);
     little_endian::byte(f, 0)
@@ -195,7 +197,7 @@ pub fn hash_type(s: &[u8]) -> u8
 // The args of a script.
 pub fn args(s: &[u8]) -> &[u8]
     ensures { λ r. ⌜ now r ≡ argsOf (now (s .entry)) ⌝ }
-    ensures { λ r. ⌜ r .ptr ≡ inside (s .entry .ptr) (argsStart (now (s .entry))) ⌝ }
+    ensures { λ r. ⌜ r .ptr ≡ inside (s .entry .ptr) (fieldStart (now (s .entry)) 3 2 + contentStart (fieldOf (now (s .entry)) 3 2)) ⌝ }
 {
     let f = molecule::field(s, 3, 2);
     molecule::content(f)
@@ -227,7 +229,7 @@ pub fn type_script(s: &[u8]) -> &[u8]
 
 // The since of an input.
 pub fn since(s: &[u8]) -> u64
-    ensures { λ r. ⌜ r ≡ sinceOf (now (s .entry)) ⌝ }
+    ensures { λ r. ⌜ r ≡ u64At (now (s .entry)) 0 ⌝ }
 {
     little_endian::u64_at(s, 0)
 }
@@ -242,7 +244,7 @@ pub fn previous_output(s: &[u8]) -> &[u8]
 
 // The transaction hash of an out point.
 pub fn tx_hash(s: &[u8]) -> &[u8]
-    ensures { λ r. ⌜ now r ≡ txHashOf (now (s .entry)) ⌝ }
+    ensures { λ r. ⌜ now r ≡ part (now (s .entry)) 0 32 ⌝ }
     ensures { λ r. ⌜ r .ptr ≡ inside (s .entry .ptr) (partStart (now (s .entry)) 0 32) ⌝ }
 {
     molecule::part(s, 0, 32)
@@ -250,14 +252,14 @@ pub fn tx_hash(s: &[u8]) -> &[u8]
 
 // The output number of an out point.
 pub fn index(s: &[u8]) -> u32
-    ensures { λ r. ⌜ r ≡ indexOf (now (s .entry)) ⌝ }
+    ensures { λ r. ⌜ r ≡ u32At (now (s .entry)) 32 ⌝ }
 {
     little_endian::u32_at(s, 32)
 }
 
 // The out point of a cell dep.
 pub fn out_point(s: &[u8]) -> &[u8]
-    ensures { λ r. ⌜ now r ≡ outPointOf (now (s .entry)) ⌝ }
+    ensures { λ r. ⌜ now r ≡ part (now (s .entry)) 0 36 ⌝ }
     ensures { λ r. ⌜ r .ptr ≡ inside (s .entry .ptr) (partStart (now (s .entry)) 0 36) ⌝ }
 {
     molecule::part(s, 0, 36)
@@ -265,7 +267,7 @@ pub fn out_point(s: &[u8]) -> &[u8]
 
 // The dep type of a cell dep.
 pub fn dep_type(s: &[u8]) -> u8
-    ensures { λ r. ⌜ r ≡ depTypeOf (now (s .entry)) ⌝ }
+    ensures { λ r. ⌜ r ≡ getD (now (s .entry)) 36 0 ⌝ }
 {
     little_endian::byte(s, 36)
 }
@@ -281,7 +283,7 @@ pub fn first(s: &[u8]) -> &[u8]
 // The data of a record or a token cell.
 pub fn data(s: &[u8]) -> &[u8]
     ensures { λ r. ⌜ now r ≡ dataOf (now (s .entry)) ⌝ }
-    ensures { λ r. ⌜ r .ptr ≡ inside (s .entry .ptr) (dataStart (now (s .entry))) ⌝ }
+    ensures { λ r. ⌜ r .ptr ≡ inside (s .entry .ptr) (fieldStart (now (s .entry)) 2 1 + contentStart (fieldOf (now (s .entry)) 2 1)) ⌝ }
 {
     let f = molecule::field(s, 2, 1);
     molecule::content(f)

@@ -8,9 +8,9 @@ use Rattle.arithmetic.specs.LittleEndian.{toLe}
 use Rattle.arithmetic.proofs.LittleEndianLaws.{length-toLe}
 use Rattle.molecule.specs.Items.{join, unwords, offsets}
 use Rattle.molecule.specs.Write.{putAt, putEnd, Put}
-use Rattle.molecule.proofs.ItemsLaws.{length-join}
+use Rattle.molecule.proofs.ItemsLaws.{length-join, length-unwords}
 use Rattle.molecule.proofs.WriteLaws.{did, then, and-put}
-use Rattle.transaction_writer.specs.Written.{rawBytes, txBytes, threeWords, fourWords, threeParts, fiveParts, rawSize, txSize}
+use Rattle.transaction_writer.specs.Written.{rawBytes, txBytes, rawSize, txSize}
 
 -- the same bytes, said otherwise
 as-bytes : {out after : List ℕ} {at next : ℕ} {xs ys : List ℕ} → xs ≡ ys → Put out at xs after next → Put out at ys after next
@@ -19,54 +19,56 @@ as-bytes e p = rw e at p
 -- ---- words
 
 module _ (out : List ℕ) (at : ℕ) (w x y : ℕ) {o₁ o₂ : List ℕ} {n₁ n₂ n₃ : ℕ} (e₁ : o₁ ≡ putAt out at (toLe 4 w)) (f₁ : n₁ ≡ putEnd out at (toLe 4 w)) (e₂ : o₂ ≡ putAt o₁ n₁ (toLe 4 x)) (f₂ : n₂ ≡ putEnd o₁ n₁ (toLe 4 x)) (f₃ : n₃ ≡ putEnd o₂ n₂ (toLe 4 y)) where
-  pub three-words : {o₃ : List ℕ} → at + 12 ≤ length out → o₃ ≡ putAt o₂ n₂ (toLe 4 y) → Put out at (threeWords w x y) o₃ n₃
-  unfolding threeWords
+  pub three-words : {o₃ : List ℕ} → at + 12 ≤ length out → o₃ ≡ putAt o₂ n₂ (toLe 4 y) → Put out at (unwords (w ∷ x ∷ y ∷ [])) o₃ n₃
+  unfolding unwords
   three-words h e₃ =
       let a = length-toLe 4 w in
       let b = length-toLe 4 x in
       let c = length-toLe 4 y in
       let p = did (toLe 4 w) e₁ f₁ (omega arith) in
       let q = and-put (toLe 4 x) p e₂ f₂ (omega arith) in
-      and-put (toLe 4 y) q e₃ f₃ (rw length-append (omega arith))
+      as-bytes (simp (append-assoc, append-nil)) (and-put (toLe 4 y) q e₃ f₃ (rw length-append (omega arith)))
 
   -- where it ends
   pub three-end : at + 12 ≤ length out → n₃ ≡ at + 12
-  unfolding threeWords
-  three-end h = three-words h refl .end ∙ simp (length-append, length-toLe)
+  three-end h = three-words h refl .end ∙ ap (λ (n : ℕ). at + n) (length-unwords (w ∷ x ∷ y ∷ []))
 
 -- a fourth after three
-module _ (out : List ℕ) (at w x y z : ℕ) {o₃ : List ℕ} {n₃ n₄ : ℕ} (h : at + 16 ≤ length out) (p : Put out at (threeWords w x y) o₃ n₃) (f₄ : n₄ ≡ putEnd o₃ n₃ (toLe 4 z)) where
-  pub four-words : {o₄ : List ℕ} → o₄ ≡ putAt o₃ n₃ (toLe 4 z) → Put out at (fourWords w x y z) o₄ n₄
-  unfolding fourWords threeWords
-  four-words e₄ = and-put (toLe 4 z) p e₄ f₄ (simp (length-append, length-toLe) (omega arith))
+module _ (out : List ℕ) (at w x y z : ℕ) {o₃ : List ℕ} {n₃ n₄ : ℕ} (h : at + 16 ≤ length out) (p : Put out at (unwords (w ∷ x ∷ y ∷ [])) o₃ n₃) (f₄ : n₄ ≡ putEnd o₃ n₃ (toLe 4 z)) where
+  pub four-words : {o₄ : List ℕ} → o₄ ≡ putAt o₃ n₃ (toLe 4 z) → Put out at (unwords (w ∷ x ∷ y ∷ z ∷ [])) o₄ n₄
+  unfolding unwords
+  four-words e₄ =
+      let l : length (unwords (w ∷ x ∷ y ∷ [])) ≡ 12 = length-unwords (w ∷ x ∷ y ∷ []) in
+      let d = length-toLe 4 z in
+      as-bytes (simp (append-assoc, append-nil)) (and-put (toLe 4 z) p e₄ f₄ (omega arith))
 
   pub four-end : n₄ ≡ at + 16
-  unfolding fourWords
-  four-end = four-words refl .end ∙ simp (length-append, length-toLe)
+  four-end = four-words refl .end ∙ ap (λ (n : ℕ). at + n) (length-unwords (w ∷ x ∷ y ∷ z ∷ []))
 
 -- ---- lists
 
 module _ (out : List ℕ) (at : ℕ) (a b c : List ℕ) {o₁ o₂ : List ℕ} {n₁ n₂ n₃ : ℕ} (h : at + length a + length b + length c ≤ length out) (e₁ : o₁ ≡ putAt out at a) (f₁ : n₁ ≡ putEnd out at a) (e₂ : o₂ ≡ putAt o₁ n₁ b) (f₂ : n₂ ≡ putEnd o₁ n₁ b) (f₃ : n₃ ≡ putEnd o₂ n₂ c) where
-  pub three-parts : {o₃ : List ℕ} → o₃ ≡ putAt o₂ n₂ c → Put out at (threeParts a b c) o₃ n₃
-  unfolding threeParts
+  pub three-parts : {o₃ : List ℕ} → o₃ ≡ putAt o₂ n₂ c → Put out at (flatten (a ∷ b ∷ c ∷ [])) o₃ n₃
+  unfolding flatten
   three-parts e₃ =
       let p₁ = did a e₁ f₁ (omega arith) in
       let p₂ = and-put b p₁ e₂ f₂ (omega arith) in
-      and-put c p₂ e₃ f₃ (simp length-append (omega arith))
+      as-bytes (simp (append-assoc, append-nil)) (and-put c p₂ e₃ f₃ (simp length-append (omega arith)))
 
   pub parts-end : n₃ ≡ at + length a + length b + length c
-  unfolding threeParts
+  unfolding flatten
   parts-end = three-parts refl .end ∙ simp length-append (omega arith)
 
-module _ (out : List ℕ) (at : ℕ) (a b c d e : List ℕ) {o₃ o₄ : List ℕ} {n₃ n₄ n₅ : ℕ} (h : at + length a + length b + length c + length d + length e ≤ length out) (p : Put out at (threeParts a b c) o₃ n₃) (e₄ : o₄ ≡ putAt o₃ n₃ d) (f₄ : n₄ ≡ putEnd o₃ n₃ d) (f₅ : n₅ ≡ putEnd o₄ n₄ e) where
-  pub five-parts : {o₅ : List ℕ} → o₅ ≡ putAt o₄ n₄ e → Put out at (fiveParts a b c d e) o₅ n₅
-  unfolding fiveParts threeParts
+module _ (out : List ℕ) (at : ℕ) (a b c d e : List ℕ) {o₃ o₄ : List ℕ} {n₃ n₄ n₅ : ℕ} (h : at + length a + length b + length c + length d + length e ≤ length out) (p : Put out at (flatten (a ∷ b ∷ c ∷ [])) o₃ n₃) (e₄ : o₄ ≡ putAt o₃ n₃ d) (f₄ : n₄ ≡ putEnd o₃ n₃ d) (f₅ : n₅ ≡ putEnd o₄ n₄ e) where
+  pub five-parts : {o₅ : List ℕ} → o₅ ≡ putAt o₄ n₄ e → Put out at (flatten (a ∷ b ∷ c ∷ d ∷ e ∷ [])) o₅ n₅
+  unfolding flatten
   five-parts e₅ =
-      let p₄ = and-put d p e₄ f₄ (simp length-append (omega arith)) in
-      and-put e p₄ e₅ f₅ (simp length-append (omega arith))
+      let p₃ : Put out at (a ++ b ++ c) o₃ n₃ = as-bytes (simp (append-assoc, append-nil)) p in
+      let p₄ = and-put d p₃ e₄ f₄ (simp length-append (omega arith)) in
+      as-bytes (simp (append-assoc, append-nil)) (and-put e p₄ e₅ f₅ (simp length-append (omega arith)))
 
   pub five-end : n₅ ≡ at + length a + length b + length c + length d + length e
-  unfolding fiveParts
+  unfolding flatten
   five-end = five-parts refl .end ∙ simp length-append (omega arith)
 
 -- ---- the raw transaction: a table of six fields, of which the first has four bytes
@@ -80,19 +82,19 @@ module _ (v : ℕ) (a b c d e : List ℕ) where
   unfolding rawBytes
   raw-length = length-join _ ∙ omega (arith, six-length)
 
-  raw-runs : fourWords (rawSize a b c d e) 28 32 (32 + length a)
-      ++ fourWords (32 + length a + length b) (32 + length a + length b + length c) (32 + length a + length b + length c + length d) v
-      ++ fiveParts a b c d e
+  raw-runs : unwords ((rawSize a b c d e) ∷ 28 ∷ 32 ∷ (32 + length a) ∷ [])
+      ++ unwords ((32 + length a + length b) ∷ (32 + length a + length b + length c) ∷ (32 + length a + length b + length c + length d) ∷ v ∷ [])
+      ++ flatten (a ∷ b ∷ c ∷ d ∷ e ∷ [])
       ≡ rawBytes v a b c d e
-  unfolding rawBytes join unwords offsets flatten fourWords fiveParts
+  unfolding rawBytes join unwords offsets flatten
   raw-runs =
       let n : 28 + length (flatten (toLe 4 v ∷ a ∷ b ∷ c ∷ d ∷ e ∷ [])) ≡ rawSize a b c d e = omega (arith, six-length) in
       rw (n, length-toLe 4 v) (simp (append-assoc, append-nil))
 
   pub put-raw : {out o₁ o₂ o₃ : List ℕ} {at n₁ n₂ n₃ : ℕ}
-      → Put out at (fourWords (rawSize a b c d e) 28 32 (32 + length a)) o₁ n₁
-      → Put o₁ n₁ (fourWords (32 + length a + length b) (32 + length a + length b + length c) (32 + length a + length b + length c + length d) v) o₂ n₂
-      → Put o₂ n₂ (fiveParts a b c d e) o₃ n₃
+      → Put out at (unwords ((rawSize a b c d e) ∷ 28 ∷ 32 ∷ (32 + length a) ∷ [])) o₁ n₁
+      → Put o₁ n₁ (unwords ((32 + length a + length b) ∷ (32 + length a + length b + length c) ∷ (32 + length a + length b + length c + length d) ∷ v ∷ [])) o₂ n₂
+      → Put o₂ n₂ (flatten (a ∷ b ∷ c ∷ d ∷ e ∷ [])) o₃ n₃
       → Put out at (rawBytes v a b c d e) o₃ n₃
   put-raw p q r = as-bytes raw-runs (then (then p q) r)
 
@@ -102,20 +104,20 @@ module _ (v : ℕ) (a b c d e : List ℕ) where
     unfolding txBytes flatten
     tx-length = length-join _ ∙ simp (length-append, raw-length) (omega arith)
 
-    tx-runs : threeWords (txSize a b c d e w) 12 (12 + rawSize a b c d e) ++ rawBytes v a b c d e ++ w ≡ txBytes v a b c d e w
-    unfolding txBytes join unwords offsets flatten threeWords
+    tx-runs : unwords ((txSize a b c d e w) ∷ 12 ∷ (12 + rawSize a b c d e) ∷ []) ++ rawBytes v a b c d e ++ w ≡ txBytes v a b c d e w
+    unfolding txBytes join unwords offsets flatten
     tx-runs =
         let n : 12 + length (flatten (rawBytes v a b c d e ∷ w ∷ [])) ≡ txSize a b c d e w =
         unfold flatten in simp (length-append, raw-length) (omega arith) in
         rw (n, raw-length) (simp (append-assoc, append-nil))
 
     pub put-tx : {out o₁ o₂ o₃ : List ℕ} {n₁ n₂ n₃ m : ℕ} → m ≡ txSize a b c d e w → m ≤ length out
-        → Put out 0 (threeWords m 12 (m - length w)) o₁ n₁ → Put o₁ n₁ (rawBytes v a b c d e) o₂ n₂ → o₃ ≡ putAt o₂ n₂ w → n₃ ≡ putEnd o₂ n₂ w
+        → Put out 0 (unwords (m ∷ 12 ∷ (m - length w) ∷ [])) o₁ n₁ → Put o₁ n₁ (rawBytes v a b c d e) o₂ n₂ → o₃ ≡ putAt o₂ n₂ w → n₃ ≡ putEnd o₂ n₂ w
         → Put out 0 (txBytes v a b c d e w) o₃ n₃
     put-tx {m = m} h l p q g k =
         let j : m - length w ≡ 12 + rawSize a b c d e = omega arith in
         let u = then (rw (j, h) at p) q in
-        as-bytes tx-runs (and-put w u g k (simp (length-append, raw-length) (unfold threeWords in simp (length-append, length-toLe) (omega arith))))
+        as-bytes tx-runs (and-put w u g k (simp (length-append, raw-length) (unfold unwords in simp (length-append, length-toLe) (omega arith))))
 
 -- ---- a sum that stops at a cap
 

@@ -13,7 +13,8 @@ use Rattle.arithmetic.proofs.LittleEndianLaws.{toLe-le, num-some}
 use Rattle.error.specs.declared.Refusal.{Refusal}
 use Rattle.molecule.specs.Partial.{All, pick}
 use Rattle.molecule.specs.Items.{join, split}
-use Rattle.molecule.specs.Molecule.{Ty, byte, fixvec, dynvec, table, Fields, end, _&_, size, fixed, readable}
+use Rattle.molecule.specs.Molecule.{Ty, byte, fixvec, dynvec, table, Fields, end, _&_, size, readable}
+use Rattle.molecule.proofs.Valid.{fixed}
 use Rattle.molecule.specs.Layout.{span, hasItems, fieldOf}
 use Rattle.molecule.proofs.ItemsLaws.{join-split, split-bytes}
 use Rattle.molecule.proofs.ReadableLaws.{allReadable, readable-fixed}

@@ -40,20 +40,7 @@ writes right refusal bytes out =
 unfoldable pub leaves : Bool → List ℕ → List ℕ → List ℕ
 leaves right bytes out = cond (right && fits (length bytes) (length out)) (bytes ++ drop (length bytes) out) out
 
--- ---- parts of what is written, one after the other
-
-unfoldable pub threeWords : ℕ → ℕ → ℕ → List ℕ
-threeWords x y z = toLe 4 x ++ toLe 4 y ++ toLe 4 z
-
-unfoldable pub fourWords : ℕ → ℕ → ℕ → ℕ → List ℕ
-fourWords w x y z = toLe 4 w ++ toLe 4 x ++ toLe 4 y ++ toLe 4 z
-
-unfoldable pub threeParts : List ℕ → List ℕ → List ℕ → List ℕ
-threeParts a b c = a ++ b ++ c
-
-unfoldable pub fiveParts : List ℕ → List ℕ → List ℕ → List ℕ → List ℕ → List ℕ
-fiveParts a b c d e = a ++ b ++ c ++ d ++ e
-
+-- how long they are
 abbrev pub rawSize : List ℕ → List ℕ → List ℕ → List ℕ → List ℕ → ℕ
 rawSize a b c d e = 32 + length a + length b + length c + length d + length e
 

@@ -4,12 +4,14 @@ use molecule::write;
 use transaction::fields;
 ghost use mathlib.Core.Path.{_≡_};
 ghost use Prim.Native.Nat.{_+_, _≤_, _<_, _^_, min};
+ghost use mathlib.Core.List.{[], _∷_, flatten};
 ghost use lib.ListN.{length};
 ghost use Rattle.arithmetic.specs.LittleEndian.{AllBytes};
+ghost use Rattle.molecule.specs.Items.{unwords};
 ghost use Rattle.molecule.specs.Molecule.{readable};
 ghost use Rattle.molecule.specs.Write.{Put};
 ghost use Rattle.transaction.specs.Ckb.{Transaction};
-ghost use Rattle.transaction_writer.specs.Written.{rawBytes, txBytes, inForm, writes, leaves, threeWords, fourWords, threeParts, fiveParts, rawSize, txSize};
+ghost use Rattle.transaction_writer.specs.Written.{rawBytes, txBytes, inForm, writes, leaves, rawSize, txSize};
 
 // The longest transaction that is written: 133,120 bytes with the 4 of its size.
 const MAX_BYTES: usize = 133_116;
@@ -22,7 +24,7 @@ pub enum Written {
 // Puts three numbers of four bytes.
 fn put_three_words(out: &mut [u8], at: usize, x: u32, y: u32, z: u32) -> usize
     requires { ⌜ at + 12 ≤ length (now out) ⌝ }
-    ensures { λ r. ⌜ Put (now (out .entry)) at (threeWords x y z) (now (out .exit)) r ⌝ }
+    ensures { λ r. ⌜ Put (now (out .entry)) at (unwords (x ∷ y ∷ z ∷ [])) (now (out .exit)) r ⌝ }
     ensures { λ r. ⌜ r ≡ at + 12 ⌝ }
 {
     let at = write::put_u32(out, at, x);
@@ -33,7 +35,7 @@ fn put_three_words(out: &mut [u8], at: usize, x: u32, y: u32, z: u32) -> usize
 // Puts four numbers of four bytes.
 fn put_four_words(out: &mut [u8], at: usize, w: u32, x: u32, y: u32, z: u32) -> usize
     requires { ⌜ at + 16 ≤ length (now out) ⌝ }
-    ensures { λ r. ⌜ Put (now (out .entry)) at (fourWords w x y z) (now (out .exit)) r ⌝ }
+    ensures { λ r. ⌜ Put (now (out .entry)) at (unwords (w ∷ x ∷ y ∷ z ∷ [])) (now (out .exit)) r ⌝ }
     ensures { λ r. ⌜ r ≡ at + 16 ⌝ }
 {
     let at = put_three_words(out, at, w, x, y);
@@ -43,7 +45,7 @@ fn put_four_words(out: &mut [u8], at: usize, w: u32, x: u32, y: u32, z: u32) -> 
 // Puts three lists.
 fn put_three(out: &mut [u8], at: usize, a: &[u8], b: &[u8], c: &[u8]) -> usize
     requires { ⌜ at + length (now a) + length (now b) + length (now c) ≤ length (now out) ⌝ }
-    ensures { λ r. ⌜ Put (now (out .entry)) at (threeParts (now (a .entry)) (now (b .entry)) (now (c .entry))) (now (out .exit)) r ⌝ }
+    ensures { λ r. ⌜ Put (now (out .entry)) at (flatten (now (a .entry) ∷ now (b .entry) ∷ now (c .entry) ∷ [])) (now (out .exit)) r ⌝ }
     ensures { λ r. ⌜ r ≡ at + length (now (a .entry)) + length (now (b .entry)) + length (now (c .entry)) ⌝ }
 {
     let at = write::put(out, at, a);
@@ -54,7 +56,7 @@ fn put_three(out: &mut [u8], at: usize, a: &[u8], b: &[u8], c: &[u8]) -> usize
 // Puts five lists.
 fn put_five(out: &mut [u8], at: usize, a: &[u8], b: &[u8], c: &[u8], d: &[u8], e: &[u8]) -> usize
     requires { ⌜ at + length (now a) + length (now b) + length (now c) + length (now d) + length (now e) ≤ length (now out) ⌝ }
-    ensures { λ r. ⌜ Put (now (out .entry)) at (fiveParts (now (a .entry)) (now (b .entry)) (now (c .entry)) (now (d .entry)) (now (e .entry))) (now (out .exit)) r ⌝ }
+    ensures { λ r. ⌜ Put (now (out .entry)) at (flatten (now (a .entry) ∷ now (b .entry) ∷ now (c .entry) ∷ now (d .entry) ∷ now (e .entry) ∷ [])) (now (out .exit)) r ⌝ }
     ensures { λ r. ⌜ r ≡ at + length (now (a .entry)) + length (now (b .entry)) + length (now (c .entry)) + length (now (d .entry)) + length (now (e .entry)) ⌝ }
 {
     let at = put_three(out, at, a, b, c);

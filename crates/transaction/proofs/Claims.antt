@@ -8,11 +8,11 @@ use mathlib.Core.Option.{Option, none, some, Option·map}
 use mathlib.Core.Logic.{_↔_}
 use lib.ListN.{length, getD}
 use lib.Dec.{eqb}
-use Rattle.arithmetic.specs.LittleEndian.{le, AllBytes}
+use Rattle.arithmetic.specs.LittleEndian.{le, AllBytes, u32At, u64At}
 use Rattle.molecule.specs.Molecule.{Ty, fixvec, dynvec, table, option, end, _&_, Value, encode, decode, readable, Good}
-use Rattle.molecule.specs.Layout.{itemCount, itemOf, fixCount, fixItem, entryOf}
+use Rattle.molecule.specs.Layout.{part, fieldOf, itemCount, itemOf, fixCount, fixItem, entryOf}
 use Rattle.transaction.specs.Ckb.{Byte32, Bytes, OutPoint, OutPoints, CellDep, CellDeps, CellInput, Script, CellOutput, RawTransaction, Transaction, TokenCell, TokenCells, Record, Records}
-use Rattle.transaction.specs.Tx.{Tx, rawField, witnessesOf, txAt, codeHashOf, hashTypeOf, argsOf, capacityOf, lockOf, typeOf, sinceOf, previousOutputOf, txHashOf, indexOf, outPointOf, depTypeOf, firstOf, dataOf}
+use Rattle.transaction.specs.Tx.{Tx, rawField, witnessesOf, txAt, argsOf, capacityOf, lockOf, typeOf, previousOutputOf, firstOf, dataOf}
 
 -- the types that the code tests
 abbrev pub tested : List Ty
@@ -36,20 +36,20 @@ pub record Encoding (t : Ty) (x : List ℕ) (v : Value t) : Type 0 where
   pub value : decode t x ≡ some v
 
 pub record OutPointFields (p : List ℕ) (v : Value OutPoint) : Type 0 where
-  pub txHash : txHashOf p ≡ v .0
-  pub index : indexOf p ≡ le (v .1 .0)
+  pub txHash : part p 0 32 ≡ v .0
+  pub index : u32At p 32 ≡ le (v .1 .0)
 
 pub record InputFields (i : List ℕ) (v : Value CellInput) : Type 0 where
-  pub since : sinceOf i ≡ le (v .0)
+  pub since : u64At i 0 ≡ le (v .0)
   pub previousOutput : Encoding OutPoint (previousOutputOf i) (v .1 .0)
 
 pub record CellDepFields (d : List ℕ) (v : Value CellDep) : Type 0 where
-  pub outPoint : Encoding OutPoint (outPointOf d) (v .0)
-  pub depType : depTypeOf d ≡ v .1 .0
+  pub outPoint : Encoding OutPoint (part d 0 36) (v .0)
+  pub depType : getD d 36 0 ≡ v .1 .0
 
 pub record ScriptFields (s : List ℕ) (v : Value Script) : Type 0 where
-  pub codeHash : codeHashOf s ≡ v .0
-  pub hashType : hashTypeOf s ≡ v .1 .0
+  pub codeHash : fieldOf s 3 0 ≡ v .0
+  pub hashType : getD (fieldOf s 3 1) 0 0 ≡ v .1 .0
   pub args : argsOf s ≡ v .1 .1 .0
 
 pub record OutputFields (o : List ℕ) (v : Value CellOutput) : Type 0 where
