@@ -1,0 +1,28 @@
+-- The transactions of the known outcomes (01-scope.md, "Case file and known outcomes"), as values of the schema.
+use Prim.Native.Nat.{ℕ}
+use mathlib.Core.List.{List, [], _∷_}
+use mathlib.Core.Option.{none}
+use lib.ListN.{replicate}
+use Rattle.arithmetic.specs.LittleEndian.{toLe}
+use Rattle.molecule.specs.Molecule.{Value}
+use Rattle.transaction.specs.Ckb.{Script, CellInput, CellOutput, Transaction}
+
+-- version 0 and empty lists
+abbrev pub emptyTx : Value Transaction
+emptyTx = ((toLe 4 0, ([], ([], ([], ([], ([], tt)))))), ([], tt))
+
+-- a script of a code hash of one byte repeated, hash type 0 and empty args
+abbrev pub plainScript : ℕ → Value Script
+plainScript b = (replicate 32 b, (0, ([], tt)))
+
+-- an output with no type
+abbrev pub plainOutput : ℕ → Value CellOutput
+plainOutput shannons = (toLe 8 shannons, (plainScript 0, (none, tt)))
+
+-- an input of since 0 and output 0 of the transaction whose hash is zeros
+abbrev pub plainInput : Value CellInput
+plainInput = (toLe 8 0, ((replicate 32 0, (toLe 4 0, tt)), tt))
+
+-- one input, one untyped output of 10,000,000,000 with empty lock args and empty data, no deps and no witnesses
+abbrev pub peerTx : Value Transaction
+peerTx = ((toLe 4 0, ([], ([], (plainInput ∷ [], (plainOutput 10000000000 ∷ [], ([] ∷ [], tt)))))), ([], tt))

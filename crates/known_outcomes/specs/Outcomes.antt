@@ -1,0 +1,46 @@
+-- The known outcomes (01-scope.md, "Case file and known outcomes", the starred ones), as one table: what the definitions compute, and what the
+-- paper says. proofs/KnownOutcomes.antt proves all rows at once.
+use Prim.Native.Nat.{ℕ, _+_, _*_, _^_}
+use mathlib.Core.List.{List, [], _∷_}
+use lib.ListN.{length}
+use Rattle.arithmetic.specs.declared.units.{Shannons.Shannons, CheckedShannons.CheckedShannons}
+use Rattle.arithmetic.specs.Amount.{value}
+use Rattle.arithmetic.specs.Fee.{requiredFee, changeCapacity}
+use Rattle.molecule.specs.Molecule.{encode}
+use Rattle.transaction.specs.Ckb.{Script, CellOutput, Transaction}
+use Rattle.known_outcomes.specs.Cases.{emptyTx, peerTx, plainScript, plainOutput}
+
+pub record Outcome : Type 0 where
+  pub computed : List ℕ
+  pub expected : List ℕ
+
+infix 20 _gives_
+abbrev pub _gives_ : List ℕ → List ℕ → Outcome
+c gives e = record { computed = c; expected = e }
+
+-- how many bytes a string has, and its size in a block
+abbrev measured : List ℕ → List ℕ
+measured s = length s ∷ (length s + 4) ∷ []
+
+abbrev shannons : Shannons → List ℕ
+shannons s = value (s .0) ∷ []
+
+-- nothing for what does not fit
+abbrev checkedShannons : CheckedShannons → List ℕ
+checkedShannons (CheckedShannons.Fits s) = shannons s
+checkedShannons CheckedShannons.Overflow = []
+
+abbrev pub outcomes : List Outcome
+outcomes =
+    -- version 0 and empty lists: 68 bytes, size 72
+    (measured (encode Transaction emptyTx) gives 68 ∷ 72 ∷ [])
+    -- one input, one untyped output: 201 bytes; its lock has 53, its output 77
+    ∷ (measured (encode Transaction peerTx) gives 201 ∷ 205 ∷ [])
+    ∷ (measured (encode Script (plainScript 0)) gives 53 ∷ 57 ∷ [])
+    ∷ (measured (encode CellOutput (plainOutput 10000000000)) gives 77 ∷ 81 ∷ [])
+    -- the fee at rate 1,000 is 205, and at rate 1,005 it is 206
+    ∷ (shannons (requiredFee 1000 205) gives 205 ∷ [])
+    ∷ (shannons (requiredFee 1005 205) gives 206 ∷ [])
+    -- lock args 20, type args 32: change capacity 14,200,000,000
+    ∷ (checkedShannons (changeCapacity 20 32) gives 14200000000 ∷ [])
+    ∷ []
