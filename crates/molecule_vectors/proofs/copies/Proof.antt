@@ -1,0 +1,27 @@
+use Prim.Native.Nat.{_-_}
+use borrow.Author.Needs.{needs}
+use Rattle.molecule_vectors.proofs.copies.Statement.{statement}
+use Rattle.molecule_vectors.proofs.copies.Tie as tie
+
+abbrev Inv-loop : tie.InvT-loop
+Inv-loop kind s list n c₀ i₀ c i = Unit {0}
+
+abbrev μ-loop : tie.MeasureT-loop
+μ-loop kind s list n c₀ i₀ c i = n - i
+
+pub copies-spec : {M : Type 1} → statement M
+copies-spec =
+    tie.close
+    (tie.spec
+    Inv-loop
+    μ-loop
+    (λ c κs. search needs)  -- item-count-requires
+    (λ c. search needs)  -- cast-n
+    (λ c. search needs)  -- loop-holds
+    (λ c κs. search needs)  -- item-requires
+    (λ c κs. search needs)  -- copied-requires
+    (λ c κs. search needs)  -- sum-requires
+    (λ c. search needs)  -- add-i
+    (λ c. search needs)  -- loop-less
+    (λ c. search needs)  -- loop-again
+    (λ c. search needs))  -- returns
