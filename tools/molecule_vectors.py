@@ -140,9 +140,14 @@ def damaged_items(xs):
         yield header(total + gap, [p + gap for p in starts]) + bytes(gap) + body
     yield header(0, starts) + body
     yield header(2 ** 32 - 1, starts) + body
-    yield header(total + 1, starts) + body + b'\0'  # a byte more in the last item
+    for i, x in enumerate(xs):  # an item a byte longer and a byte shorter
+        yield join(xs[:i] + [x + b'\0'] + xs[i + 1:])
+        yield join(xs[:i] + [x[:-1]] + xs[i + 1:])
     if not n:
+        yield header(total + 1, starts) + b'\0'
         return
+    if len(xs[0]) >= 4:  # the first item begins in the header
+        yield header(total - 4, [h - 4] + [p - 4 for p in starts[1:]]) + body[4:]
     yield join(xs[:-1])  # a field less
     yield header(total + 4, [h] + [p + 4 for p in starts[1:]]) + bytes(4) + body
     yield header(total, starts[:-1] + [total + 1]) + body  # past the end

@@ -3,14 +3,13 @@
 // refused, if one of its parts is not as expected, or if it is not written again byte for byte; a damaged copy is wrong if it is read
 // or refused against the answer that comes with it, or, where it is readable, if it is not written again byte for byte.
 mod parts;
-mod rewrite;
-mod types;
 
 use arithmetic::little_endian;
 use libc::STDIN_FILENO;
 use libc::STDOUT_FILENO;
 use molecule::write;
 use transaction_writer::Written;
+use vector_values::types;
 
 // Room for the longest vector and more.
 const ROOM: usize = 2048;
@@ -62,11 +61,23 @@ fn is_unwritten(s: &[u8]) -> bool {
 // Whether s is written again byte for byte, and the bytes behind it keep their value.
 fn is_rewritten(kind: u8, s: &[u8]) -> bool {
     let mut out = [MARK; ROOM];
-    let n = rewrite::put_value(&mut out, 0, s, kind);
+    let n = vector_values::put_value(&mut out, 0, s, kind);
     if !check::same(molecule::part(&out, 0, n), s) {
         return false;
     }
     is_unwritten(molecule::part(&out, n, ROOM))
+}
+
+// Whether s is written again where there is room for it and no more.
+fn is_fitted(kind: u8, s: &[u8]) -> bool {
+    let mut out = [MARK; ROOM];
+    let n = s.len();
+    if n > ROOM {
+        return false;
+    }
+    let room = &mut out[0..n];
+    vector_values::put_value(room, 0, s, kind);
+    check::same(room, s)
 }
 
 // Whether the library's own writer of transactions yields s again, or refuses s with 1 and writes nothing.
@@ -93,6 +104,9 @@ fn is_right(kind: u8, s: &[u8], answer: bool) -> bool {
     }
     if !answer {
         return true;
+    }
+    if !is_fitted(kind, s) {
+        return false;
     }
     is_rewritten(kind, s)
 }
@@ -175,7 +189,7 @@ fn at_places(kind: u8, s: &[u8], answers: &[u8]) -> Count {
 
 fn place(s: &[u8], i: usize) -> usize {
     let low = little_endian::byte(s, i) as usize;
-    let high = little_endian::byte(s, rewrite::plus(i, 1)) as usize;
+    let high = little_endian::byte(s, vector_values::plus(i, 1)) as usize;
     low + 256 * high
 }
 
@@ -202,7 +216,7 @@ fn put_changed(work: &mut [u8], s: &[u8], copy: &[u8]) -> usize {
         let change = molecule::part(copy, at, copy.len());
         end = put_change(work, end, s, from, change);
         from = place(change, 2);
-        at = rewrite::plus(at, change_len(change));
+        at = vector_values::plus(at, change_len(change));
         i += 1;
     }
     write::put(work, end, molecule::part(s, from, s.len()))

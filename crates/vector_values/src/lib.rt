@@ -1,9 +1,11 @@
 // A value that was read, written again part by part: what the library's accessors answer goes through the library's `put`. Each function
 // puts at `at` and answers the place after what it put. Places and sizes go through `plus`, `minus` and `narrow`, which are total; a string
 // that they would cap is longer than any buffer here, and would come out other than it went in.
-use crate::types;
+pub mod types;
+
 use molecule::write;
 use transaction::fields;
+use transaction_writer::Written;
 
 pub fn plus(a: usize, b: usize) -> usize {
     if usize::MAX - a < b {
@@ -179,36 +181,13 @@ fn put_fixvec(out: &mut [u8], at: usize, s: &[u8], size: u32) -> usize {
     end
 }
 
-// ---- a transaction, by its accessors
-
-fn put_lists(out: &mut [u8], at: usize, s: &[u8]) -> usize {
-    let b = write::put_u32(out, behind_header(at, 6), fields::version(s));
-    put_offset(out, at, 1, b);
-    let c = put_fixvec(out, b, fields::cell_deps(s), 37);
-    put_offset(out, at, 2, c);
-    put_fixvec(out, c, fields::header_deps(s), 32)
-}
-
-fn put_inputs(out: &mut [u8], at: usize, s: &[u8]) -> usize {
-    put_offset(out, at, 0, behind_header(at, 6));
-    let d = put_lists(out, at, s);
-    put_offset(out, at, 3, d);
-    put_fixvec(out, d, fields::inputs(s), 44)
-}
-
-fn put_raw(out: &mut [u8], at: usize, s: &[u8]) -> usize {
-    let e = put_inputs(out, at, s);
-    put_offset(out, at, 4, e);
-    let f = put_dynvec(out, e, fields::outputs(s), Item::Output);
-    put_offset(out, at, 5, f);
-    let end = put_dynvec(out, f, fields::outputs_data(s), Item::Bytes);
-    close(out, at, end)
-}
+// ---- a transaction, by the library's own writer; it is put at the start of out
 
 fn put_transaction(out: &mut [u8], at: usize, s: &[u8]) -> usize {
-    let b = put_raw(out, behind_header(at, 2), s);
-    let end = put_dynvec(out, b, fields::witnesses(s), Item::Bytes);
-    close_two(out, at, b, end)
+    match transaction_writer::rewrite(s, out) {
+        Written::Wrote(n) => n,
+        Written::Refused(_) => at,
+    }
 }
 
 // ---- RFC 0008's examples

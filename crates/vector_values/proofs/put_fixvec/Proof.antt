@@ -2,8 +2,8 @@ use Prim.Native.Nat.{_-_}
 use mathlib.Core.Path.{_≡_}
 use lib.ListN.{length}
 use borrow.Author.Needs.{needs}
-use Rattle.molecule_vectors.proofs.rewrite.put_fixvec.Statement.{statement}
-use Rattle.molecule_vectors.proofs.rewrite.put_fixvec.Tie as tie
+use Rattle.vector_values.proofs.put_fixvec.Statement.{statement}
+use Rattle.vector_values.proofs.put_fixvec.Tie as tie
 
 abbrev Inv-loop : tie.InvT-loop
 Inv-loop out₀ at s size n end₀ i₀ out end i = length out ≡ length out₀
