@@ -9,10 +9,8 @@ use lib.ListN.{length, take}
 use lib.Dec.{ltb, leb}
 use borrow.Author.Tests.{ltb-true, ltb-false, leb-true, leb-false}
 use Rattle.arithmetic.specs.declared.amount.{Amount.Amount, CheckedAmount.CheckedAmount, AmountRead.AmountRead}
-use Rattle.arithmetic.specs.declared.units.{Shannons.Shannons, CheckedShannons.CheckedShannons, Tokens.Tokens, CheckedTokens.CheckedTokens, TokensRead.TokensRead}
 use Rattle.arithmetic.specs.LittleEndian.{le}
 use Rattle.arithmetic.specs.Amount.{value, amountOf, sum, difference, amountAt}
-use Rattle.arithmetic.specs.Units.{inShannons, inTokens, checkedShannons, checkedTokens, tokensRead}
 
 -- the arm by which an answer of `cond` came
 arm : {A : Type 0} (t : Bool) (x y r : A) → r ≡ cond t x y → ((t ≡ true) × (r ≡ x)) ⊎ ((t ≡ false) × (r ≡ y))
@@ -61,35 +59,3 @@ module _ (s : List ℕ) {r : AmountRead} where
 
   pub read-under : r ≡ amountAt s → r ≡ AmountRead.Short → length s < 16
   read-under e f = ⊎-elim (λ w. (let z : _≡_ {A = ℕ} 0 1 = cc in absurd (omega arith))) (λ w. leb-false _ _ (w .0)) (read-arm e)
-
--- ---- from a unit's answer to the amount's
-
-pub shannons-is : (s : CheckedAmount) {r : CheckedShannons} {t : Shannons} → r ≡ checkedShannons s → r ≡ CheckedShannons.Fits t → s ≡ CheckedAmount.Fits (t .0)
-unfolding checkedShannons
-shannons-is (CheckedAmount.Fits a) {r} {t} e f = let k : inShannons a ≡ t = cc in ap (λ (u : Shannons). CheckedAmount.Fits (u .0)) k
-shannons-is CheckedAmount.Overflow e f = cc
-
-pub shannons-isnt : (s : CheckedAmount) {r : CheckedShannons} → r ≡ checkedShannons s → r ≡ CheckedShannons.Overflow → s ≡ CheckedAmount.Overflow
-unfolding checkedShannons
-shannons-isnt (CheckedAmount.Fits a) e f = cc
-shannons-isnt CheckedAmount.Overflow e f = refl
-
-pub tokens-is : (s : CheckedAmount) {r : CheckedTokens} {t : Tokens} → r ≡ checkedTokens s → r ≡ CheckedTokens.Fits t → s ≡ CheckedAmount.Fits (t .0)
-unfolding checkedTokens
-tokens-is (CheckedAmount.Fits a) {r} {t} e f = let k : inTokens a ≡ t = cc in ap (λ (u : Tokens). CheckedAmount.Fits (u .0)) k
-tokens-is CheckedAmount.Overflow e f = cc
-
-pub tokens-isnt : (s : CheckedAmount) {r : CheckedTokens} → r ≡ checkedTokens s → r ≡ CheckedTokens.Overflow → s ≡ CheckedAmount.Overflow
-unfolding checkedTokens
-tokens-isnt (CheckedAmount.Fits a) e f = cc
-tokens-isnt CheckedAmount.Overflow e f = refl
-
-pub tokens-read-is : (s : AmountRead) {r : TokensRead} {t : Tokens} → r ≡ tokensRead s → r ≡ TokensRead.Tokens t → s ≡ AmountRead.Amount (t .0)
-unfolding tokensRead
-tokens-read-is (AmountRead.Amount a) {r} {t} e f = let k : inTokens a ≡ t = cc in ap (λ (u : Tokens). AmountRead.Amount (u .0)) k
-tokens-read-is AmountRead.Short e f = cc
-
-pub tokens-read-isnt : (s : AmountRead) {r : TokensRead} → r ≡ tokensRead s → r ≡ TokensRead.Short → s ≡ AmountRead.Short
-unfolding tokensRead
-tokens-read-isnt (AmountRead.Amount a) e f = cc
-tokens-read-isnt AmountRead.Short e f = refl

@@ -1,7 +1,5 @@
-pub mod LittleEndianLaws
 pub mod AmountLaws
 pub mod Answers
-pub mod UnitsLaws
-pub mod FeeLaws
 pub mod Examples
+pub mod LittleEndianLaws
 pub mod Ways

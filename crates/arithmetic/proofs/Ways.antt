@@ -2,8 +2,6 @@
 use borrow.Author.Needs.{needs}
 use Rattle.arithmetic.proofs.LittleEndianLaws.{byte-past, u32-short, u32-far, u32-is, u64-short, u64-far, u64-is, four-bytes, eight-bytes}
 use Rattle.arithmetic.proofs.AmountLaws.{from-is, add-over, add-over-carry, add-fits, sub-over, sub-over-borrow, sub-fits, less-high, less-low, same-low, other-high, zero-is, capped-low, capped-high, read-short, read-is, sixteen-bytes}
-use Rattle.arithmetic.proofs.UnitsLaws.{shannons-from, tokens-from, shannons-fit, shannons-over, tokens-fit, tokens-over, tokens-read, tokens-short, later-far, later-near, at-least-none, at-least-is}
-use Rattle.arithmetic.proofs.FeeLaws.{product-none, product-below, product-fits, product-wide, fee-is, change-lock, change-type, change-fits}
 
 pub ruleset ways = (
   needs,
@@ -33,24 +31,4 @@ pub ruleset ways = (
   read-short,
   read-is,
   sixteen-bytes,
-  shannons-from,
-  tokens-from,
-  shannons-fit,
-  shannons-over,
-  tokens-fit,
-  tokens-over,
-  tokens-read,
-  tokens-short,
-  later-far,
-  later-near,
-  at-least-none,
-  at-least-is,
-  product-none,
-  product-below,
-  product-fits,
-  product-wide,
-  fee-is,
-  change-lock,
-  change-type,
-  change-fits,
 )

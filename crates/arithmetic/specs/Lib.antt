@@ -1,4 +1,2 @@
 pub mod Amount
-pub mod Fee
 pub mod LittleEndian
-pub mod Units

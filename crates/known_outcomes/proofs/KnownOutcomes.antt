@@ -2,7 +2,7 @@
 use mathlib.Core.Path.{_≡_, refl}
 use mathlib.Core.List.{flatten}
 use Rattle.arithmetic.specs.LittleEndian.{toLe}
-use Rattle.arithmetic.specs.Fee.{requiredFee, changeCapacity}
+use Rattle.units.specs.Fee.{requiredFee, changeCapacity}
 use Rattle.molecule.specs.Partial.{All}
 use Rattle.molecule.specs.Items.{join, unwords, offsets}
 use Rattle.molecule.specs.Molecule.{encode}

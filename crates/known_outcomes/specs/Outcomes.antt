@@ -3,9 +3,9 @@
 use Prim.Native.Nat.{ℕ, _+_, _*_, _^_}
 use mathlib.Core.List.{List, [], _∷_}
 use lib.ListN.{length}
-use Rattle.arithmetic.specs.declared.units.{Shannons.Shannons, CheckedShannons.CheckedShannons}
+use Rattle.units.specs.declared.{Shannons.Shannons, CheckedShannons.CheckedShannons}
 use Rattle.arithmetic.specs.Amount.{value}
-use Rattle.arithmetic.specs.Fee.{requiredFee, changeCapacity}
+use Rattle.units.specs.Fee.{requiredFee, changeCapacity}
 use Rattle.molecule.specs.Molecule.{encode}
 use Rattle.transaction.specs.Ckb.{Script, CellOutput, Transaction}
 use Rattle.known_outcomes.specs.Cases.{emptyTx, peerTx, plainScript, plainOutput}

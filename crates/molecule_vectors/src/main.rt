@@ -2,14 +2,14 @@
 // vectors and the right answers come on standard input, in the form that tools/molecule_vectors.py describes. A good vector is wrong if it is
 // refused, if one of its parts is not as expected, or if it is not written again byte for byte; a damaged copy is wrong if it is read
 // or refused against the answer that comes with it, or, where it is readable, if it is not written again byte for byte.
-mod parts;
+mod rewrite;
 
 use arithmetic::little_endian;
 use libc::STDIN_FILENO;
 use libc::STDOUT_FILENO;
 use molecule::write;
 use transaction_writer::Written;
-use vector_values::types;
+use vector_parts::types;
 
 // Room for the longest vector and more.
 const ROOM: usize = 2048;
@@ -61,7 +61,7 @@ fn is_unwritten(s: &[u8]) -> bool {
 // Whether s is written again byte for byte, and the bytes behind it keep their value.
 fn is_rewritten(kind: u8, s: &[u8]) -> bool {
     let mut out = [MARK; ROOM];
-    let n = vector_values::put_value(&mut out, 0, s, kind);
+    let n = rewrite::put_value(&mut out, 0, s, kind);
     if !check::same(molecule::part(&out, 0, n), s) {
         return false;
     }
@@ -76,33 +76,30 @@ fn is_fitted(kind: u8, s: &[u8]) -> bool {
         return false;
     }
     let room = &mut out[0..n];
-    vector_values::put_value(room, 0, s, kind);
+    rewrite::put_value(room, 0, s, kind);
     check::same(room, s)
 }
 
-// Whether the library's own writer of transactions yields s again, or refuses s with 1 and writes nothing.
-fn is_rewritten_whole(s: &[u8], answer: bool) -> bool {
+// Whether the library's writer of transactions refuses s with 1 and writes nothing.
+fn is_refused(s: &[u8]) -> bool {
     let mut out = [MARK; ROOM];
-    match transaction_writer::rewrite(s, &mut out) {
-        Written::Wrote(n) => {
-            answer
-                && check::same(molecule::part(&out, 0, n), s)
-                && is_unwritten(molecule::part(&out, n, ROOM))
-        }
-        Written::Refused(refusal) => !answer && refusal.number() == 1 && is_unwritten(&out),
+    let Written::Refused(refusal) = transaction_writer::rewrite(s, &mut out) else {
+        return false;
+    };
+    if refusal.number() != 1 {
+        return false;
     }
+    is_unwritten(&out)
 }
 
 fn is_right(kind: u8, s: &[u8], answer: bool) -> bool {
     if types::reads(kind, s) != answer {
         return false;
     }
-    if kind == types::TRANSACTION {
-        if !is_rewritten_whole(s, answer) {
-            return false;
-        }
-    }
     if !answer {
+        if kind == types::TRANSACTION {
+            return is_refused(s);
+        }
         return true;
     }
     if !is_fitted(kind, s) {
@@ -121,7 +118,7 @@ fn good(kind: u8, s: &[u8], parts: &[u8]) -> Count {
     if !is_right(kind, s, true) {
         return c;
     }
-    if !parts::are_as_expected(s, parts) {
+    if !vector_parts::are_as_expected(s, parts) {
         return c;
     }
     c.wrong = 0;
@@ -189,7 +186,7 @@ fn at_places(kind: u8, s: &[u8], answers: &[u8]) -> Count {
 
 fn place(s: &[u8], i: usize) -> usize {
     let low = little_endian::byte(s, i) as usize;
-    let high = little_endian::byte(s, vector_values::plus(i, 1)) as usize;
+    let high = little_endian::byte(s, rewrite::plus(i, 1)) as usize;
     low + 256 * high
 }
 
@@ -216,7 +213,7 @@ fn put_changed(work: &mut [u8], s: &[u8], copy: &[u8]) -> usize {
         let change = molecule::part(copy, at, copy.len());
         end = put_change(work, end, s, from, change);
         from = place(change, 2);
-        at = vector_values::plus(at, change_len(change));
+        at = rewrite::plus(at, change_len(change));
         i += 1;
     }
     write::put(work, end, molecule::part(s, from, s.len()))

@@ -4,9 +4,9 @@ use Prim.Native.Nat.{ℕ, _+_}
 use mathlib.Core.List.{List}
 use lib.ListN.{getD}
 use Rattle.arithmetic.specs.LittleEndian.{u32At, u64At}
-use Rattle.arithmetic.specs.declared.units.Shannons.{Shannons}
+use Rattle.units.specs.declared.Shannons.{Shannons}
 use Rattle.arithmetic.specs.Amount.{amountOf}
-use Rattle.arithmetic.specs.Units.{inShannons}
+use Rattle.units.specs.Units.{inShannons}
 use Rattle.molecule.specs.Layout.{part, inside, word, fieldOf, fieldStart, itemCount, itemOf, itemStart, fixItem, fixStart, content, contentStart, entryOf, entryStart}
 use Rattle.molecule.proofs.LayoutLaws.{inside-twice}
 use Rattle.transaction.specs.Tx.{rawField, rawStart, witnessesOf, argsOf, capacityOf, lockOf, typeOf, previousOutputOf, firstOf, dataOf}

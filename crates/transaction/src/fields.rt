@@ -1,13 +1,13 @@
 // What stands in a transaction and its parts. Each accessor is total: of bytes that are in no form it answers 0 or a part of them. A part that is
 // handed back is a stretch of the lent bytes.
 use arithmetic::little_endian;
-use arithmetic::units::Shannons;
+use units::Shannons;
 ghost use mathlib.Core.Path.{_≡_};
 ghost use Prim.Native.Nat.{_+_};
 ghost use lib.ListN.{getD};
 ghost use Rattle.arithmetic.specs.LittleEndian.{u32At, u64At};
 ghost use Rattle.arithmetic.specs.Amount.{amountOf};
-ghost use Rattle.arithmetic.specs.Units.{inShannons};
+ghost use Rattle.units.specs.Units.{inShannons};
 ghost use Rattle.molecule.specs.Layout.{part, partStart, inside, fieldOf, fieldStart, itemCount, itemOf, itemStart, fixCount, fixItem, fixStart, contentStart, entryOf, entryStart};
 ghost use Rattle.transaction.specs.Tx.{rawField, rawStart, witnessesOf, txAt, argsOf, capacityOf, lockOf, typeOf, previousOutputOf, firstOf, dataOf};
 

@@ -1,0 +1,5 @@
+pub mod Answers
+pub mod Examples
+pub mod FeeLaws
+pub mod UnitsLaws
+pub mod Ways
