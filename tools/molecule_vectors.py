@@ -1,19 +1,20 @@
 #!/usr/bin/env python3
-"""Writes crates/molecule_vectors/stdin: the published vectors of RFC 0008, transactions and lent lists, and damaged copies of each.
+"""Writes the input of two programs and the lines that they have to print: crates/molecule_vectors (the published vectors of RFC 0008,
+transactions and lent lists, and damaged copies of each) and crates/vector_parts (the parts of the good ones).
 
 What is right about a damaged copy is decided here, by `reads`, a strict reader of Molecule that shares nothing with the library. Run it in
-the repository's root after a change; it prints the lines that the program has to write, which are crates/molecule_vectors/stdout.
+the repository's root after a change.
 
-The file is itself written in Molecule, so that the program needs no parser of its own; a group for each type:
+The files are themselves written in Molecule, so that the programs need no parser of their own; a group for each type:
   group   table of: the type's number, its name, its vectors
-  vector  table of: the bytes, a list of parts, the answers, a list of copies
-  part    4 steps of (accessor, index), the accessor of a number or 0, and what has to stand there: 8 bytes of a number, or the bytes
+  vector  table of: the bytes, the answers, a list of copies
   answers of each place a byte: 1 if what stands before it is readable, plus 2 if all is with the byte there one up, plus 4 if with it one down
   copy    the answer (1: readable), how many changes, and each: two places of the vector, of 2 bytes, and the bytes, behind their number in
-          a byte, that stand between these places instead"""
-
-import os
-import sys
+          a byte, that stand between these places instead
+and for the parts
+  group   table of: the name, its vectors
+  vector  table of: the bytes, a list of parts
+  part    4 steps of (accessor, index), the accessor of a number or 0, and what has to stand there: 8 bytes of a number, or the bytes"""
 
 # ---- types: array N | fixvec SIZE | dynvec TYPE | table TYPES | option TYPE
 
@@ -338,8 +339,9 @@ LENGTHS = {'Transaction': [68, 201, None]}  # what the papers say of the vectors
 
 def main():
     groups, lines, sums = [], [], [0, 0, 0]
+    part_groups, part_lines, all_parts = [], [], 0
     for tag, (name, t, values) in enumerate(GROUPS):
-        vectors, copies, valid = [], 0, 0
+        vectors, copies, valid, read, found = [], 0, 0, [], 0
         for i, (v, parts, published) in enumerate(values):
             s = write(t, v)
             assert published is None or s == bytes.fromhex(published), name
@@ -349,18 +351,22 @@ def main():
             cases = {d: reads(t, d) for d in damaged(t, v) if d != s}
             copies += 3 * len(s) + len(cases)
             valid += sum(sum(a) for a in answers) + sum(cases.values())
-            vectors.append(join([s, join([part(p, w) for p, w in parts]), bytes(a + 2 * b + 4 * c for a, b, c in answers),
-                                 join([copy(s, d, a) for d, a in cases.items()])]))
+            vectors.append(join([s, bytes(a + 2 * b + 4 * c for a, b, c in answers), join([copy(s, d, a) for d, a in cases.items()])]))
+            read.append(join([s, join([part(p, w) for p, w in parts])]))
+            found += len(parts)
         groups.append(join([bytes([tag]), name.encode(), join(vectors)]))
+        part_groups.append(join([name.encode(), join(read)]))
+        part_lines.append('%s: %d parts, 0 wrong' % (name, found))
+        all_parts += found
         sums = [a + b for a, b in zip(sums, [len(values), copies, valid])]
         lines.append('%s: %d good, %d damaged, of which %d are readable, 0 wrong' % (name, len(values), copies, valid))
     lines.append('all: %d good, %d damaged, of which %d are readable, 0 wrong' % tuple(sums))
-    data = join(groups)
-    assert len(data) <= 65536  # what the program reads
-    os.makedirs('crates/molecule_vectors', exist_ok=True)
-    open('crates/molecule_vectors/stdin', 'wb').write(data)
-    print('\n'.join(lines))
-    print('%d bytes' % len(data), file=sys.stderr)
+    part_lines.append('all: %d parts, 0 wrong' % all_parts)
+    for crate, data, expected in [('molecule_vectors', join(groups), lines), ('vector_parts', join(part_groups), part_lines)]:
+        assert len(data) <= 65536  # what the programs read
+        open('crates/%s/stdin' % crate, 'wb').write(data)
+        open('crates/%s/stdout' % crate, 'w').write('\n'.join(expected) + '\n')
+        print('\n'.join([crate] + expected))
 
 
 main()

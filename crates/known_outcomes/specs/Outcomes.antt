@@ -18,7 +18,10 @@ infix 20 _gives_
 abbrev pub _gives_ : List ℕ → List ℕ → Outcome
 c gives e = record { computed = c; expected = e }
 
--- how many bytes a string has, and its size in a block
+abbrev bytes : List ℕ → List ℕ
+bytes s = length s ∷ []
+
+-- of a transaction: how many bytes it has, and its size
 abbrev measured : List ℕ → List ℕ
 measured s = length s ∷ (length s + 4) ∷ []
 
@@ -26,9 +29,9 @@ abbrev shannons : Shannons → List ℕ
 shannons s = value (s .0) ∷ []
 
 -- nothing for what does not fit
-abbrev checkedShannons : CheckedShannons → List ℕ
-checkedShannons (CheckedShannons.Fits s) = shannons s
-checkedShannons CheckedShannons.Overflow = []
+abbrev ifFits : CheckedShannons → List ℕ
+ifFits (CheckedShannons.Fits s) = shannons s
+ifFits CheckedShannons.Overflow = []
 
 abbrev pub outcomes : List Outcome
 outcomes =
@@ -36,11 +39,11 @@ outcomes =
     (measured (encode Transaction emptyTx) gives 68 ∷ 72 ∷ [])
     -- one input, one untyped output: 201 bytes; its lock has 53, its output 77
     ∷ (measured (encode Transaction peerTx) gives 201 ∷ 205 ∷ [])
-    ∷ (measured (encode Script (plainScript 0)) gives 53 ∷ 57 ∷ [])
-    ∷ (measured (encode CellOutput (plainOutput 10000000000)) gives 77 ∷ 81 ∷ [])
+    ∷ (bytes (encode Script (plainScript 0)) gives 53 ∷ [])
+    ∷ (bytes (encode CellOutput (plainOutput 10000000000)) gives 77 ∷ [])
     -- the fee at rate 1,000 is 205, and at rate 1,005 it is 206
     ∷ (shannons (requiredFee 1000 205) gives 205 ∷ [])
     ∷ (shannons (requiredFee 1005 205) gives 206 ∷ [])
     -- lock args 20, type args 32: change capacity 14,200,000,000
-    ∷ (checkedShannons (changeCapacity 20 32) gives 14200000000 ∷ [])
+    ∷ (ifFits (changeCapacity 20 32) gives 14200000000 ∷ [])
     ∷ []

@@ -32,11 +32,11 @@ span f i (suc k) = f i ∷ span f (suc i) k
 
 -- ---- a dynvec or table of n items
 
--- s is a header and n items without gaps
 unfoldable pub splitsInto : Option (List (List ℕ)) → ℕ → Bool
 splitsInto none n = false
 splitsInto (some xs) n = eqb (length xs) n
 
+-- s is a header and n items without gaps
 unfoldable pub hasItems : List ℕ → ℕ → Bool
 hasItems s n = splitsInto (split s) n
 

@@ -1,4 +1,5 @@
--- Molecule (RFC 0008): the types that CKB uses, their values, how a value is written, and which strings are read as one.
+-- Molecule (RFC 0008): the types that CKB uses, their values, how a value is written, and which strings are read as one. Unions are left out,
+-- since nothing that is read here has one. Which types may stand where is said in proofs/Valid.antt.
 use mathlib.Core.Path.{_≡_}
 use Prim.Native.Nat.{ℕ, zero, suc, _+_, _*_, _^_, _<_}
 use mathlib.Core.List.{List, [], _∷_, _++_, map, flatten}
@@ -39,7 +40,7 @@ abbrev mutual
   Values end = Unit {0}
   Values (t & ts) = Value t × Values ts
 
--- how many bytes a type of a fixed size has
+-- how many bytes a type of a fixed size has; 0 for the others
 unfoldable mutual
   pub size : Ty → ℕ
   size byte = 1
@@ -83,7 +84,8 @@ oneByte [] = none
 oneByte (b ∷ []) = some b
 oneByte (b ∷ c ∷ s) = none
 
--- The value that a string is read as, if it is one. No string of 2^32 bytes or more is: a header's numbers could not say where its parts are.
+-- The value that a string is read as, if it is one. No vector and no table of 2^32 bytes or more is read: its size would not fit four bytes. A
+-- fixvec, which has only a count, is held to the same limit.
 unfoldable mutual
   pub decode : (t : Ty) → List ℕ → Option (Value t)
   decode byte s = oneByte s

@@ -1,15 +1,15 @@
 // Runs the vectors of RFC 0008, transactions and lent lists through the library's readers and writers, and damaged copies of each. The
 // vectors and the right answers come on standard input, in the form that tools/molecule_vectors.py describes. A good vector is wrong if it is
-// refused, if one of its parts is not as expected, or if it is not written again byte for byte; a damaged copy is wrong if it is read
+// refused or if it is not written again byte for byte; a damaged copy is wrong if it is read
 // or refused against the answer that comes with it, or, where it is readable, if it is not written again byte for byte.
 mod rewrite;
+mod types;
 
 use arithmetic::little_endian;
 use libc::STDIN_FILENO;
 use libc::STDOUT_FILENO;
 use molecule::write;
 use transaction_writer::Written;
-use vector_parts::types;
 
 // Room for the longest vector and more.
 const ROOM: usize = 2048;
@@ -32,16 +32,17 @@ fn sum(a: Count, b: Count) -> Count {
     }
 }
 
+fn print_count(label: &[u8], n: u64) {
+    io::write_all(STDOUT_FILENO, label);
+    io::print_decimal(STDOUT_FILENO, n);
+}
+
 fn print(name: &[u8], c: Count) {
     io::write_all(STDOUT_FILENO, name);
-    io::write_all(STDOUT_FILENO, b": ");
-    io::print_decimal(STDOUT_FILENO, c.good);
-    io::write_all(STDOUT_FILENO, b" good, ");
-    io::print_decimal(STDOUT_FILENO, c.damaged);
-    io::write_all(STDOUT_FILENO, b" damaged, of which ");
-    io::print_decimal(STDOUT_FILENO, c.readable);
-    io::write_all(STDOUT_FILENO, b" are readable, ");
-    io::print_decimal(STDOUT_FILENO, c.wrong);
+    print_count(b": ", c.good);
+    print_count(b" good, ", c.damaged);
+    print_count(b" damaged, of which ", c.readable);
+    print_count(b" are readable, ", c.wrong);
     io::write_all(STDOUT_FILENO, b" wrong\n");
 }
 
@@ -68,7 +69,15 @@ fn is_rewritten(kind: u8, s: &[u8]) -> bool {
     is_unwritten(molecule::part(&out, n, ROOM))
 }
 
-// Whether s is written again where there is room for it and no more.
+// Whether s is written again where there is room for more, and where there is room for it and no more.
+fn is_written(kind: u8, s: &[u8]) -> bool {
+    if !is_fitted(kind, s) {
+        return false;
+    }
+    is_rewritten(kind, s)
+}
+
+// Whether s is written again into a buffer of its length.
 fn is_fitted(kind: u8, s: &[u8]) -> bool {
     let mut out = [MARK; ROOM];
     let n = s.len();
@@ -80,13 +89,19 @@ fn is_fitted(kind: u8, s: &[u8]) -> bool {
     check::same(room, s)
 }
 
+// The number of a refusal, and 0 for none.
+fn number(answer: Written) -> u8 {
+    match answer {
+        Written::Wrote(_) => 0,
+        Written::Refused(refusal) => refusal.number(),
+    }
+}
+
 // Whether the library's writer of transactions refuses s with 1 and writes nothing.
 fn is_refused(s: &[u8]) -> bool {
     let mut out = [MARK; ROOM];
-    let Written::Refused(refusal) = transaction_writer::rewrite(s, &mut out) else {
-        return false;
-    };
-    if refusal.number() != 1 {
+    let answer = transaction_writer::rewrite(s, &mut out);
+    if number(answer) != 1 {
         return false;
     }
     is_unwritten(&out)
@@ -96,33 +111,23 @@ fn is_right(kind: u8, s: &[u8], answer: bool) -> bool {
     if types::reads(kind, s) != answer {
         return false;
     }
-    if !answer {
-        if kind == types::TRANSACTION {
-            return is_refused(s);
-        }
-        return true;
+    if answer {
+        return is_written(kind, s);
     }
-    if !is_fitted(kind, s) {
-        return false;
+    if kind == types::TRANSACTION {
+        return is_refused(s);
     }
-    is_rewritten(kind, s)
+    true
 }
 
-fn good(kind: u8, s: &[u8], parts: &[u8]) -> Count {
-    let mut c = Count {
+fn good(kind: u8, s: &[u8]) -> Count {
+    let right = is_right(kind, s, true);
+    Count {
         good: 1,
         damaged: 0,
         readable: 0,
-        wrong: 1,
-    };
-    if !is_right(kind, s, true) {
-        return c;
+        wrong: !right as u64,
     }
-    if !vector_parts::are_as_expected(s, parts) {
-        return c;
-    }
-    c.wrong = 0;
-    c
 }
 
 // A damaged copy, the first n bytes of `work`.
@@ -244,10 +249,10 @@ fn copies(kind: u8, s: &[u8], list: &[u8]) -> Count {
 // ---- the file
 
 fn vector(kind: u8, v: &[u8]) -> Count {
-    let s = molecule::field(v, 4, 0);
-    let a = good(kind, s, molecule::field(v, 4, 1));
-    let b = at_places(kind, s, molecule::field(v, 4, 2));
-    let c = copies(kind, s, molecule::field(v, 4, 3));
+    let s = molecule::field(v, 3, 0);
+    let a = good(kind, s);
+    let b = at_places(kind, s, molecule::field(v, 3, 1));
+    let c = copies(kind, s, molecule::field(v, 3, 2));
     sum(a, sum(b, c))
 }
 

@@ -1,8 +1,8 @@
 // A value that was read, written again: what the library's readers answer goes through the library's writers. Each function puts at `at` and answers
 // the place after what it put. A string that `plus` or `narrow` would cap is longer than any buffer here, and would come out other than it went in.
+use crate::types;
 use molecule::write;
 use transaction_writer::Written;
-use vector_parts::types;
 
 pub fn plus(a: usize, b: usize) -> usize {
     if usize::MAX - a < b {
@@ -53,13 +53,6 @@ fn put_items(out: &mut [u8], at: usize, s: &[u8], n: u32) -> usize {
     end
 }
 
-fn put_optional_items(out: &mut [u8], at: usize, s: &[u8]) -> usize {
-    if s.len() == 0 {
-        return at;
-    }
-    put_items(out, at, s, molecule::item_count(s))
-}
-
 fn put_fixvec(out: &mut [u8], at: usize, s: &[u8], size: u32) -> usize {
     let n = molecule::fix_count(s);
     let mut end = write::put_u32(out, at, n);
@@ -73,25 +66,58 @@ fn put_fixvec(out: &mut [u8], at: usize, s: &[u8], size: u32) -> usize {
 
 // By the library's own writer, to the start of out.
 fn put_transaction(out: &mut [u8], at: usize, s: &[u8]) -> usize {
-    match transaction_writer::rewrite(s, out) {
+    let answer = transaction_writer::rewrite(s, out);
+    length(answer, at)
+}
+
+fn length(answer: Written, other: usize) -> usize {
+    match answer {
         Written::Wrote(n) => n,
-        Written::Refused(_) => at,
+        Written::Refused(_) => other,
     }
+}
+
+// How many bytes each item of a list of sized items has, and 0 for other types.
+fn item_size(kind: u8) -> u32 {
+    match kind {
+        types::UINT32_VEC => 4,
+        types::OUT_POINTS => 36,
+        types::CELL_DEPS => 37,
+        _ => 0,
+    }
+}
+
+fn item_number(kind: u8, s: &[u8]) -> u32 {
+    match kind {
+        types::MIXED_TYPE => 5,
+        types::SCRIPT => 3,
+        types::CELL_OUTPUT => 3,
+        _ => molecule::item_count(s),
+    }
+}
+
+// Puts a list or a table, or nothing.
+fn put_list(out: &mut [u8], at: usize, s: &[u8], kind: u8) -> usize {
+    let size = item_size(kind);
+    if size != 0 {
+        return put_fixvec(out, at, s, size);
+    }
+    if s.len() == 0 {
+        return at;
+    }
+    put_items(out, at, s, item_number(kind, s))
 }
 
 // Puts the value that s is read as.
 pub fn put_value(out: &mut [u8], at: usize, s: &[u8], kind: u8) -> usize {
-    match kind {
-        types::UINT32 => write::put_u32(out, at, molecule::word(s, 0)),
-        types::BYTES => put_bytes(out, at, molecule::content(s)),
-        types::UINT32_VEC => put_fixvec(out, at, s, 4),
-        types::OUT_POINTS => put_fixvec(out, at, s, 36),
-        types::CELL_DEPS => put_fixvec(out, at, s, 37),
-        types::MIXED_TYPE => put_items(out, at, s, 5),
-        types::SCRIPT => put_items(out, at, s, 3),
-        types::CELL_OUTPUT => put_items(out, at, s, 3),
-        types::TRANSACTION => put_transaction(out, at, s),
-        types::BYTES_VEC_OPT => put_optional_items(out, at, s),
-        _ => put_items(out, at, s, molecule::item_count(s)),
+    if kind == types::UINT32 {
+        return write::put_u32(out, at, molecule::word(s, 0));
     }
+    if kind == types::BYTES {
+        return put_bytes(out, at, molecule::content(s));
+    }
+    if kind == types::TRANSACTION {
+        return put_transaction(out, at, s);
+    }
+    put_list(out, at, s, kind)
 }

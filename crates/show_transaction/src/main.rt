@@ -138,5 +138,10 @@ fn show(s: &[u8]) {
 fn main() {
     let mut buf = io::large_buffer();
     let n = io::read_full(STDIN_FILENO, &mut buf);
+    let mut more = [0u8; 1];
+    if io::read_full(STDIN_FILENO, &mut more) != 0 {
+        text(b"refused: more than 65,536 bytes\n");
+        return;
+    }
     show(&buf[..n]);
 }

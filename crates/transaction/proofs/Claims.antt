@@ -96,8 +96,19 @@ valueTx ((version, (cellDeps, (headerDeps, (inputs, (outputs, (outputsData, _)))
   witnesses = witnesses;
 }
 
+-- each part that is handed back is the encoding of its field
+pub record TransactionParts (s : List ℕ) (v : Value Transaction) : Type 0 where
+  pub raw : Encoding RawTransaction (fieldOf s 2 0) (v .0)
+  pub cellDeps : Encoding CellDeps (rawField s 1) (v .0 .1 .0)
+  pub headerDeps : Encoding (fixvec Byte32) (rawField s 2) (v .0 .1 .1 .0)
+  pub inputs : Encoding (fixvec CellInput) (rawField s 3) (v .0 .1 .1 .1 .0)
+  pub outputs : Encoding (dynvec CellOutput) (rawField s 4) (v .0 .1 .1 .1 .1 .0)
+  pub outputsData : Encoding (dynvec Bytes) (rawField s 5) (v .0 .1 .1 .1 .1 .1 .0)
+  pub witnesses : Encoding (dynvec Bytes) (witnessesOf s) (v .1 .0)
+
 pub record TransactionFields (s : List ℕ) (v : Value Transaction) : Type 0 where
   pub fields : txAt s ≡ valueTx v
+  pub parts : TransactionParts s v
   pub cellDeps : Items CellDep (fixCount (rawField s 1)) (fixItem (rawField s 1) 37) (v .0 .1 .0)
   pub headerDeps : Listed [] (fixCount (rawField s 2)) (fixItem (rawField s 2) 32) (v .0 .1 .1 .0)
   pub inputs : Items CellInput (fixCount (rawField s 3)) (fixItem (rawField s 3) 44) (v .0 .1 .1 .1 .0)

@@ -4,10 +4,12 @@ use mathlib.Core.List.{[], _∷_, flatten}
 use mathlib.Core.Option.{some, none, bind}
 use mathlib.Core.Bool.{true, false}
 use lib.ListN.{length, replicate, set}
-use Rattle.arithmetic.specs.LittleEndian.{le, toLe}
+use Rattle.arithmetic.specs.LittleEndian.{le, toLe, numAt}
 use Rattle.molecule.specs.Partial.{only, pick, there, both, each}
 use Rattle.molecule.specs.Items.{unwords, words, offsets, join, cuts, items, split}
 use Rattle.molecule.specs.Molecule.{byte, fixvec, table, end, _&_, Value, size, encode, chunks, oneByte, decode, readable}
+use Rattle.molecule.specs.Layout.{fieldOf, part, start, word, span, itemCount}
+use Rattle.transaction.specs.Tx.{rawField, witnessesOf, txAt}
 use Rattle.transaction.specs.Ckb.{Byte32, Bytes, CellInput, Script, Transaction, Records}
 
 -- a transaction of version 0 with empty lists
@@ -70,3 +72,8 @@ no-script = refl
 pub no-inputs : readable (fixvec CellInput) (0 ∷ 0 ∷ 0 ∷ 64 ∷ []) ≡ false
 unfolding le only there size decode readable
 no-inputs = refl
+
+-- no bytes are read as version 0 and empty lists, which is what no transaction of ours means
+pub none-of-ours : txAt [] ≡ record { version = 0; cellDeps = []; headerDeps = []; inputs = []; outputs = []; outputsData = []; witnesses = [] }
+unfolding rawField witnessesOf fieldOf part start word numAt span itemCount
+none-of-ours = refl

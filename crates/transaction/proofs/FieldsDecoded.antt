@@ -1,4 +1,4 @@
--- What the accessors give are the fields of the decoded value: one theorem for each kind of string (specs/Claims.antt).
+-- What the accessors give are the fields of the decoded value: one theorem for each kind of string (proofs/Claims.antt).
 use mathlib.Core.Path.{_≡_, refl, sym, ap, ap₂, _∙_}
 use Prim.Native.Nat.{ℕ, zero, suc, _<_}
 use mathlib.Core.List.{List, [], _∷_, map}
@@ -20,7 +20,7 @@ use Rattle.molecule.proofs.HeaderLaws.{count}
 use Rattle.molecule.proofs.DecodedLaws.{content-decoded, entries-decoded, bytes-decoded, fixvec-decoded, dynvec-decoded}
 use Rattle.transaction.specs.Ckb.{Uint32, Uint64, Byte32, Bytes, OutPoint, OutPoints, CellDep, CellDeps, CellInput, Script, CellOutput, RawTransaction, Transaction, TokenCell, TokenCells, Record, Records}
 use Rattle.transaction.specs.Tx.{rawField, witnessesOf, txAt, readTx, argsOf, capacityOf, lockOf, typeOf, previousOutputOf, firstOf, dataOf}
-use Rattle.transaction.proofs.Claims.{Decoded, Encoding, OutPointFields, InputFields, CellDepFields, ScriptFields, OutputFields, CellFields, Optional, Listed, Items, recordAt, valueRecord, valueTx, TransactionFields}
+use Rattle.transaction.proofs.Claims.{Decoded, Encoding, OutPointFields, InputFields, CellDepFields, ScriptFields, OutputFields, CellFields, Optional, Listed, Items, recordAt, valueRecord, valueTx, TransactionFields, TransactionParts}
 use Rattle.transaction.proofs.DecodedParts.{Parts, table-parts, struct-parts, struct-length, number, one-number, fixvec-items, dynvec-items, entries, encode-arrays, bytes-field, bytes-item, item-past}
 
 -- ---- structs
@@ -204,11 +204,25 @@ module _ (s : List ℕ) (b : AllBytes s) (v : Value Transaction) (e : decode Tra
         witnesses = witnesses i;
       }
 
+pub transaction-parts : Decoded Transaction TransactionParts
+transaction-parts s b v e =
+    let f = raw s b v e in
+    record {
+      raw = outer s b v e .0;
+      cellDeps = f .1 .0;
+      headerDeps = f .1 .1 .0;
+      inputs = f .1 .1 .1 .0;
+      outputs = f .1 .1 .1 .1 .0;
+      outputsData = f .1 .1 .1 .1 .1 .0;
+      witnesses = outer s b v e .1;
+    }
+
 pub transaction-fields : Decoded Transaction TransactionFields
 transaction-fields s b v e =
     let f = raw s b v e in
     record {
       fields = all-fields s b v e;
+      parts = transaction-parts s b v e;
       cellDeps = cell-deps-items (rawField s 1) (raw-bytes s b v e 1) _ (f .1 .0 .value);
       headerDeps = header-deps-items (rawField s 2) (raw-bytes s b v e 2) _ (f .1 .1 .0 .value);
       inputs = inputs-items (rawField s 3) (raw-bytes s b v e 3) _ (f .1 .1 .1 .0 .value);

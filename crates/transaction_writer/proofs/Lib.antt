@@ -2,3 +2,4 @@ pub mod AnswerLaws
 pub mod PutLaws
 pub mod RewriteLaws
 pub mod Ways
+pub mod WrittenReads

@@ -80,7 +80,7 @@ module _ (s : List ℕ) (h : readable Transaction s ≡ true) where
   raw-readable : readable RawTransaction (fieldOf s 2 0) ≡ true
   raw-readable = and-eq-true-iff (readable RawTransaction (fieldOf s 2 0)) _ .0 both-readable .0
 
-  -- THE LAW
+  -- the fields of a readable transaction, written, are that transaction
   pub written-again : AllBytes s
       → txBytes (txAt s .version) (rawField s 1) (rawField s 2) (rawField s 3) (rawField s 4) (rawField s 5) (witnessesOf s) ≡ s
   unfolding txBytes rawField witnessesOf count span

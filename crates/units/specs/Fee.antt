@@ -10,6 +10,7 @@ use Rattle.units.specs.Units.{inShannons}
 unfoldable pub requiredFee : ℕ → ℕ → Shannons
 requiredFee rate size = inShannons (amountOf (min (rate * size) (2 ^ 64 - 1) / 1000))
 
+-- 100,000,000 for each byte: capacity 8, lock 33 and args, type 33 and args, amount 16
 abbrev pub changeShannons : ℕ → ℕ → ℕ
 changeShannons lockArgs typeArgs = 100000000 * (8 + 33 + lockArgs + 33 + typeArgs + 16)
 

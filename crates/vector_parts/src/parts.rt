@@ -1,7 +1,5 @@
 // What the library answers of a vector's parts. A part is reached by four steps, each an accessor and an index, by the numbers that
 // tools/molecule_vectors.py gives the accessors.
-pub mod types;
-
 use arithmetic::little_endian;
 use transaction::fields;
 
@@ -39,8 +37,8 @@ fn step(s: &[u8], accessor: u8, i: u8) -> &[u8] {
         24 => fields::previous_output(s),
         25 => fields::tx_hash(s),
         26 => fields::out_point(s),
-        27 => fields::first(s),
-        28 => fields::data(s),
+        27 => fields::record_output(s),
+        28 => fields::record_data(s),
         _ => transaction_step(s, accessor, i as usize),
     }
 }
@@ -95,25 +93,11 @@ fn follow<'a, 'b>(s: &'a [u8], path: &'b [u8]) -> &'a [u8] {
     )
 }
 
-fn is_as_expected(s: &[u8], expected: &[u8]) -> bool {
+pub fn is_as_expected(s: &[u8], expected: &[u8]) -> bool {
     let part = follow(s, expected);
     let accessor = little_endian::byte(expected, 8);
     if accessor == 0 {
         return check::same(part, molecule::part(expected, 9, expected.len()));
     }
     number(part, accessor) == little_endian::u64_at(expected, 9)
-}
-
-// Whether each of the listed parts of s is as expected.
-pub fn are_as_expected(s: &[u8], parts: &[u8]) -> bool {
-    let n = molecule::item_count(parts) as usize;
-    let mut i = 0;
-    while i < n {
-        let x = molecule::item(parts, i);
-        if !is_as_expected(s, x) {
-            return false;
-        }
-        i += 1;
-    }
-    true
 }
