@@ -6,6 +6,7 @@ ghost use Prim.Native.Nat.{_+_, _-_, _*_, _/_, _^_, min};
 ghost use Rattle.arithmetic.specs.LittleEndian.{toLe};
 ghost use Rattle.arithmetic.specs.Amount.{value, halves, amountOf, sum, difference, isLess, isSame, isZero, amountAt};
 
+// The number low + 2^64 * high.
 pub struct Amount {
     pub low: u64,
     pub high: u64,
@@ -51,30 +52,35 @@ impl Amount {
         high: u64::MAX,
     };
 
+    // The amount of two halves.
     pub fn new(low: u64, high: u64) -> Amount
         ensures { λ r. ⌜ r ≡ halves low high ⌝ }
     {
         Amount { low, high }
     }
 
+    // The least amount, as a function, so that the constant is proved.
     pub fn zero() -> Amount
         ensures { λ r. ⌜ r ≡ amountOf 0 ⌝ }
     {
         Amount::ZERO
     }
 
+    // The greatest amount, likewise.
     pub fn max() -> Amount
         ensures { λ r. ⌜ r ≡ amountOf (2 ^ 128 - 1) ⌝ }
     {
         Amount::MAX
     }
 
+    // The amount of a number of 64 bits.
     pub fn from_u64(x: u64) -> Amount
         ensures { λ r. ⌜ r ≡ amountOf x ⌝ }
     {
         Amount { low: x, high: 0 }
     }
 
+    // The sum; `Overflow` from 2^128 on.
     pub fn checked_add(self, other: Amount) -> CheckedAmount
         ensures { λ r. ⌜ r ≡ sum self other ⌝ }
     {
@@ -93,6 +99,7 @@ impl Amount {
         })
     }
 
+    // The difference; `Overflow` below 0.
     pub fn checked_sub(self, other: Amount) -> CheckedAmount
         ensures { λ r. ⌜ r ≡ difference self other ⌝ }
     {
@@ -120,6 +127,7 @@ impl Amount {
         self.low < other.low
     }
 
+    // Whether the two are equal.
     pub fn same(self, other: Amount) -> bool
         ensures { λ r. ⌜ r ≡ isSame self other ⌝ }
     {
@@ -129,6 +137,7 @@ impl Amount {
         false
     }
 
+    // Whether this is 0.
     pub fn is_zero(self) -> bool
         ensures { λ r. ⌜ r ≡ isZero self ⌝ }
     {
@@ -157,6 +166,7 @@ impl Amount {
         AmountRead::Amount(Amount { low, high })
     }
 
+    // The 16 bytes, the lowest first.
     pub fn to_le_bytes(self) -> [u8; 16]
         ensures { λ r. ⌜ r ≡ toLe 16 (value self) ⌝ }
     {

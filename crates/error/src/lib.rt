@@ -3,6 +3,7 @@ ghost use mathlib.Core.Path.{_≡_};
 ghost use lib.ListN.{length, getD};
 ghost use Rattle.error.specs.Refusal.{number, values};
 
+// A refusal. The comment on each case is its sentence for people.
 pub enum Refusal {
     /// Our own transaction's bytes are no transaction.
     OurTransactionUnreadable,
@@ -44,6 +45,7 @@ pub enum Refusal {
 }
 
 impl Refusal {
+    // Its number for programs.
     pub fn number(self) -> u8
         ensures { λ r. ⌜ r ≡ number self ⌝ }
     {

@@ -16,6 +16,7 @@ ghost use Rattle.transaction_writer.specs.Written.{rawBytes, txBytes, in
 // The longest transaction that is written: 133,120 bytes with the 4 of its size.
 const MAX_BYTES: usize = 133_116;
 
+// The answer of a call that writes: how many bytes it wrote, or why it wrote none.
 pub enum Written {
     Wrote(usize),
     Refused(Refusal),

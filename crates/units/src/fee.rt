@@ -23,14 +23,14 @@ fn saturating_mul(a: u64, b: u64) -> u64
     a * b
 }
 
-// The rate is in shannons for 1,000 bytes.
+// The fee that a transaction of this size must pay. The rate is in shannons for 1,000 bytes.
 pub fn required_fee(rate: u64, size: u64) -> Shannons
     ensures { λ r. ⌜ r ≡ requiredFee rate size ⌝ }
 {
     Shannons::from_u64(saturating_mul(rate, size) / 1000)
 }
 
-// The capacity of a token change cell, by the lengths of its scripts' args.
+// The capacity of a token change cell, by the lengths of its scripts' args; `Overflow` where it does not fit 64 bits.
 pub fn change_capacity(lock_args: u64, type_args: u64) -> CheckedShannons
     ensures { λ r. ⌜ r ≡ changeCapacity «lock_args» «type_args» ⌝ }
 {

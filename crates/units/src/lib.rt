@@ -8,14 +8,16 @@ ghost use mathlib.Core.Path.{_≡_};
 ghost use Rattle.arithmetic.specs.Amount.{amountOf, sum, difference, isLess, isSame, isZero, amountAt};
 ghost use Rattle.units.specs.Units.{inShannons, inTokens, checkedShannons, checkedTokens, tokensRead, later, isBefore, isAtLeast};
 
+// CKB's unit of capacity: 100,000,000 are one CKByte.
 pub struct Shannons(pub Amount);
 
-// The answer of a sum or a difference of shannons.
+// The answer of a sum or a difference of shannons, or of a figure that CKB holds in 64 bits.
 pub enum CheckedShannons {
     Fits(Shannons),
     Overflow,
 }
 
+// An amount of a token (RFC 0025).
 pub struct Tokens(pub Amount);
 
 // The answer of a sum or a difference of tokens.
@@ -30,8 +32,10 @@ pub enum TokensRead {
     Short,
 }
 
+// A time, or a span of time, in milliseconds.
 pub struct Millis(pub u64);
 
+// The number of a block.
 pub struct BlockNumber(pub u64);
 
 impl Shannons {
@@ -159,6 +163,7 @@ impl Millis {
         Millis(self.0 + wait.0)
     }
 
+    // Whether this is earlier than another.
     pub fn before(self, other: Millis) -> bool
         ensures { λ r. ⌜ r ≡ isBefore self other ⌝ }
     {
