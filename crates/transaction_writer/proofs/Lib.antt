@@ -2,4 +2,3 @@ pub mod AnswerLaws
 pub mod PutLaws
 pub mod RewriteLaws
 pub mod Ways
-pub mod WrittenReads

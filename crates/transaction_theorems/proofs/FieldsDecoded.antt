@@ -18,10 +18,10 @@ use Rattle.molecule.proofs.Valid.{fixed, hasBytes, valid}
 use Rattle.molecule.specs.Layout.{part, span, fieldOf, itemCount, itemOf, fixCount, fixItem, entryOf}
 use Rattle.molecule.proofs.HeaderLaws.{count}
 use Rattle.molecule.proofs.DecodedLaws.{content-decoded, entries-decoded, bytes-decoded, fixvec-decoded, dynvec-decoded}
 use Rattle.transaction.specs.Ckb.{Uint32, Uint64, Byte32, Bytes, OutPoint, OutPoints, CellDep, CellDeps, CellInput, Script, CellOutput, RawTransaction, Transaction, TokenCell, TokenCells, Record, Records}
 use Rattle.transaction.specs.Tx.{rawField, witnessesOf, txAt, readTx, argsOf, capacityOf, lockOf, typeOf, previousOutputOf, firstOf, dataOf}
-use Rattle.transaction.proofs.Claims.{Decoded, Encoding, OutPointFields, InputFields, CellDepFields, ScriptFields, OutputFields, CellFields, Optional, Listed, Items, recordAt, valueRecord, valueTx, TransactionFields, TransactionParts}
-use Rattle.transaction.proofs.DecodedParts.{Parts, table-parts, struct-parts, struct-length, number, one-number, fixvec-items, dynvec-items, entries, encode-arrays, bytes-field, bytes-item, item-past}
+use Rattle.transaction_theorems.proofs.Claims.{Decoded, Encoding, OutPointFields, InputFields, CellDepFields, ScriptFields, OutputFields, CellFields, Optional, Listed, Items, recordAt, valueRecord, valueTx, TransactionFields, TransactionParts}
+use Rattle.transaction_theorems.proofs.DecodedParts.{Parts, table-parts, struct-parts, struct-length, number, one-number, fixvec-items, dynvec-items, entries, encode-arrays, bytes-field, bytes-item, item-past}
 
 -- ---- structs
 

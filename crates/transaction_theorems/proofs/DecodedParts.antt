@@ -25,7 +25,7 @@ use Rattle.molecule.proofs.Offsets.{span-length, start-out}
 use Rattle.molecule.proofs.HeaderLaws.{count}
 use Rattle.molecule.proofs.LayoutLaws.{part-none}
 use Rattle.molecule.proofs.DecodedLaws.{split-items, table-decodes, first-field, later-fields, fix-chunks, fixvec-decoded, dynvec-decoded, entries-decoded, bytes-decoded, encode-array-byte}
-use Rattle.transaction.proofs.Claims.{Encoding, Listed, Items}
+use Rattle.transaction_theorems.proofs.Claims.{Encoding, Listed, Items}
 
 -- ---- the parts of a value
 

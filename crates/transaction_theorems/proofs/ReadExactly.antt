@@ -10,7 +10,7 @@ use Rattle.molecule.specs.Molecule.{Ty, size}
 use Rattle.molecule.proofs.Valid.{fixed, hasBytes, valid}
 use Rattle.molecule.proofs.ReadableLaws as molecule
 use Rattle.molecule.proofs.ReadableLaws.{dynamic}
-use Rattle.transaction.proofs.Claims.{tested, ReadExactly, Decoded, Encoding}
+use Rattle.transaction_theorems.proofs.Claims.{tested, ReadExactly, Decoded, Encoding}
 
 -- p holds of each type
 unfoldable passes : (Ty → Bool) → List Ty → Bool
