@@ -1,0 +1,5 @@
+pub mod EqualLaws
+pub mod LoopLaws
+pub mod RunLaws
+pub mod SpanLaws
+pub mod Ways

@@ -1,0 +1,127 @@
+// Lists compared item by item: the peer's list goes on from ours, or holds all of ours.
+ghost use mathlib.Core.Path.{_≡_};
+ghost use lib.ListN.{drop};
+ghost use Rattle.molecule.specs.Layout.{fixItems, itemOf, itemsOf, entryOf, entriesOf};
+ghost use Rattle.lists.specs.Lists.{eqBytes, extends, contains, containsAll};
+
+// Whether a and b hold the same bytes. The loop has no early exit, so that it is compiled to wide comparisons.
+pub fn same(a: &[u8], b: &[u8]) -> bool
+    ensures { λ r. ⌜ r ≡ eqBytes (now (a .entry)) (now (b .entry)) ⌝ }
+{
+    if a.len() != b.len() {
+        return false;
+    }
+    let mut ok = true;
+    let mut i = 0;
+    while i < a.len() {
+        if a[i] != b[i] {
+            ok = false;
+        }
+        i += 1;
+    }
+    ok
+}
+
+// Fixvecs of items of k bytes: each item of a stands in b at its place. The items lie next to each other, so their bytes are compared as one run.
+pub fn fix_extends(a: &[u8], b: &[u8], k: u32) -> bool
+    ensures { λ r. ⌜ r ≡ extends (fixItems k (now (a .entry))) (fixItems k (now (b .entry))) ⌝ }
+{
+    let m = molecule::word(a, 0) as usize;
+    let n = molecule::word(b, 0) as usize;
+    if n < m {
+        return false;
+    }
+    let w = k as usize;
+    let e = 4 + w * m;
+    let x = molecule::part(a, 4, e);
+    let y = molecule::part(b, 4, e);
+    same(x, y)
+}
+
+// The item x is in the fixvec b.
+pub fn fix_has(b: &[u8], k: u32, x: &[u8]) -> bool
+    ensures { λ r. ⌜ r ≡ contains (now (x .entry)) (fixItems k (now (b .entry))) ⌝ }
+{
+    let n = molecule::fix_count(b) as usize;
+    let mut i = 0;
+    while i < n {
+        let y = molecule::fix_item(b, k, i);
+        if same(x, y) {
+            return true;
+        }
+        i += 1;
+    }
+    false
+}
+
+// Each item of a is in b.
+pub fn fix_has_all(a: &[u8], b: &[u8], k: u32) -> bool
+    ensures { λ r. ⌜ r ≡ containsAll (fixItems k (now (a .entry))) (fixItems k (now (b .entry))) ⌝ }
+{
+    let m = molecule::fix_count(a) as usize;
+    let mut i = 0;
+    while i < m {
+        let x = molecule::fix_item(a, k, i);
+        if !fix_has(b, k, x) {
+            return false;
+        }
+        i += 1;
+    }
+    true
+}
+
+// Item i of two dynvecs.
+fn same_item(a: &[u8], b: &[u8], i: usize) -> bool
+    ensures { λ r. ⌜ r ≡ eqBytes (itemOf (now (a .entry)) i) (itemOf (now (b .entry)) i) ⌝ }
+{
+    let x = molecule::item(a, i);
+    let y = molecule::item(b, i);
+    same(x, y)
+}
+
+// Item i of two dynvecs of bytes.
+fn same_entry(a: &[u8], b: &[u8], i: usize) -> bool
+    ensures { λ r. ⌜ r ≡ eqBytes (entryOf (now (a .entry)) i) (entryOf (now (b .entry)) i) ⌝ }
+{
+    let x = molecule::entry(a, i);
+    let y = molecule::entry(b, i);
+    same(x, y)
+}
+
+// Dynvecs: each item of a after the first stands in b at its place.
+pub fn items_extend(a: &[u8], b: &[u8]) -> bool
+    ensures { λ r. ⌜ r ≡ extends (drop 1 (itemsOf (now (a .entry)))) (drop 1 (itemsOf (now (b .entry)))) ⌝ }
+{
+    let m = molecule::item_count(a) as usize;
+    let n = molecule::item_count(b) as usize;
+    let mut i = 1;
+    while i < m {
+        if n <= i {
+            return false;
+        }
+        if !same_item(a, b, i) {
+            return false;
+        }
+        i += 1;
+    }
+    true
+}
+
+// The same for dynvecs of bytes.
+pub fn entries_extend(a: &[u8], b: &[u8]) -> bool
+    ensures { λ r. ⌜ r ≡ extends (drop 1 (entriesOf (now (a .entry)))) (drop 1 (entriesOf (now (b .entry)))) ⌝ }
+{
+    let m = molecule::item_count(a) as usize;
+    let n = molecule::item_count(b) as usize;
+    let mut i = 1;
+    while i < m {
+        if n <= i {
+            return false;
+        }
+        if !same_entry(a, b, i) {
+            return false;
+        }
+        i += 1;
+    }
+    true
+}
