@@ -1,11 +1,12 @@
 -- The transactions of the known outcomes (01-scope.md, "Case file and known outcomes"), as values of the schema.
 use Prim.Native.Nat.{ℕ}
 use mathlib.Core.List.{List, [], _∷_}
-use mathlib.Core.Option.{none}
+use mathlib.Core.Option.{none, some}
 use lib.ListN.{replicate}
 use Rattle.arithmetic.specs.LittleEndian.{toLe}
-use Rattle.molecule.specs.Molecule.{Value}
-use Rattle.transaction.specs.Ckb.{Script, CellInput, CellOutput, Transaction}
+use Rattle.molecule.specs.Molecule.{Value, encode}
+use Rattle.transaction.specs.Ckb.{Script, CellInput, CellOutput, Transaction, Records}
+use Rattle.rules.specs.Judge.{Call}
 
 -- version 0 and empty lists
 abbrev pub emptyTx : Value Transaction
@@ -26,3 +27,14 @@ plainInput = (toLe 8 0, ((replicate 32 0, (toLe 4 0, tt)), tt))
 -- one input, one untyped output of 10,000,000,000 with empty lock args and empty data, no deps and no witnesses
 abbrev pub peerTx : Value Transaction
 peerTx = ((toLe 4 0, ([], ([], (plainInput ∷ [], (plainOutput 10000000000 ∷ [], ([] ∷ [], tt)))))), ([], tt))
+
+-- one record, of an untyped output of so many shannons
+abbrev pub oneRecord : ℕ → List ℕ
+oneRecord shannons = encode Records (some (plainOutput shannons, ([], tt)) ∷ [])
+
+-- that transaction proposed at a fee rate with the records lent; the expected lock and our source lock have other code hashes
+abbrev pub proposal : ℕ → List ℕ → Call
+proposal rate records = record { peer = encode Transaction peerTx; records = records; source = encode Script (plainScript 1); rate = rate }
+
+abbrev pub expectedLock : List ℕ
+expectedLock = encode Script (plainScript 0)

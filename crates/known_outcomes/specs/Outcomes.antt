@@ -7,8 +7,10 @@ use Rattle.units.specs.declared.{Shannons.Shannons, CheckedShannons.CheckedShan
 use Rattle.arithmetic.specs.Amount.{value}
 use Rattle.units.specs.Fee.{requiredFee, changeCapacity}
 use Rattle.molecule.specs.Molecule.{encode}
-use Rattle.transaction.specs.Ckb.{Script, CellOutput, Transaction}
-use Rattle.known_outcomes.specs.Cases.{emptyTx, peerTx, plainScript, plainOutput}
+use Rattle.transaction.specs.Ckb.{Script, CellOutput, Transaction, Records}
+use Rattle.rules.specs.Outcome as verdict
+use Rattle.rules.specs.Judge.{Surpluses, judge}
+use Rattle.known_outcomes.specs.Cases.{emptyTx, peerTx, plainScript, plainOutput, oneRecord, proposal, expectedLock}
 
 pub record Outcome : Type 0 where
   pub computed : List ℕ
@@ -33,6 +35,11 @@ abbrev ifFits : CheckedShannons → List ℕ
 ifFits (CheckedShannons.Fits s) = shannons s
 ifFits CheckedShannons.Overflow = []
 
+-- 0 and the surpluses in capacity and token, or the refusal's number and its values
+abbrev told : verdict.Outcome Surpluses → List ℕ
+told (verdict.fine s) = 0 ∷ s .capacity ∷ s .token ∷ []
+told (verdict.refused n l) = n ∷ l
+
 abbrev pub outcomes : List Outcome
 outcomes =
     -- version 0 and empty lists: 68 bytes, size 72
@@ -44,6 +51,12 @@ outcomes =
     -- the fee at rate 1,000 is 205, and at rate 1,005 it is 206
     ∷ (shannons (requiredFee 1000 205) gives 205 ∷ [])
     ∷ (shannons (requiredFee 1005 205) gives 206 ∷ [])
+    -- ours none, rate 1,000, a record of 10,000,000,205: accepted, surplus 205; one less: 8 204 205 1000 205; at rate 1,005, 206 is required
+    ∷ (told (judge expectedLock [] [] (proposal 1000 (oneRecord 10000000205))) gives 0 ∷ 205 ∷ 0 ∷ [])
+    ∷ (told (judge expectedLock [] [] (proposal 1000 (oneRecord 10000000204))) gives 8 ∷ 204 ∷ 205 ∷ 1000 ∷ 205 ∷ [])
+    ∷ (told (judge expectedLock [] [] (proposal 1005 (oneRecord 10000000205))) gives 8 ∷ 205 ∷ 206 ∷ 1005 ∷ 205 ∷ [])
+    -- that transaction against itself, no record: accepted, surplus 0
+    ∷ (told (judge expectedLock [] (encode Transaction peerTx) (proposal 1000 (encode Records []))) gives 0 ∷ 0 ∷ 0 ∷ [])
     -- lock args 20, type args 32: change capacity 14,200,000,000
     ∷ (ifFits (changeCapacity 20 32) gives 14200000000 ∷ [])
     ∷ []

@@ -7,8 +7,11 @@ use Rattle.arithmetic.specs.Amount.{amountOf}
 use Rattle.units.specs.Units.{inShannons}
 
 -- rate times size, capped at 2^64 - 1, divided by 1,000, rounded down
+abbrev pub feeShannons : ℕ → ℕ → ℕ
+feeShannons rate size = min (rate * size) (2 ^ 64 - 1) / 1000
+
 unfoldable pub requiredFee : ℕ → ℕ → Shannons
-requiredFee rate size = inShannons (amountOf (min (rate * size) (2 ^ 64 - 1) / 1000))
+requiredFee rate size = inShannons (amountOf (feeShannons rate size))
 
 -- 100,000,000 for each byte: capacity 8, lock 33 and args, type 33 and args, amount 16
 abbrev pub changeShannons : ℕ → ℕ → ℕ

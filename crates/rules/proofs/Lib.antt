@@ -1,0 +1,5 @@
+pub mod Accept
+pub mod Law
+pub mod Telescope
+pub mod Tests
+pub mod Whole
