@@ -1,6 +1,6 @@
 -- The known outcomes (01-scope.md, "Case file and known outcomes", the starred ones), as one table: what the definitions compute, and what the
 -- paper says. proofs/KnownOutcomes.antt proves all rows at once.
-use Prim.Native.Nat.{ℕ, _+_, _*_, _^_}
+use Prim.Native.Nat.{ℕ, _+_, _-_, _^_}
 use mathlib.Core.List.{List, [], _∷_}
 use lib.ListN.{length}
 use Rattle.units.specs.declared.{Shannons.Shannons, CheckedShannons.CheckedShannons}
@@ -10,7 +10,7 @@ use Rattle.molecule.specs.Molecule.{encode}
 use Rattle.transaction.specs.Ckb.{Script, CellOutput, Transaction, Records}
 use Rattle.rules.specs.Outcome as verdict
 use Rattle.rules.specs.Judge.{Surpluses, judge}
-use Rattle.known_outcomes.specs.Cases.{emptyTx, peerTx, plainScript, plainOutput, oneRecord, proposal, expectedLock}
+use Rattle.known_outcomes.specs.Cases.{emptyTx, peerTx, plainScript, plainOutput, oneRecord, proposal, expectedLock, plainInput, tokenType, tokenRecord, tokenProposal, inputsTx, ourLockProposal}
 
 pub record Outcome : Type 0 where
   pub computed : List ℕ
@@ -57,6 +57,14 @@ outcomes =
     ∷ (told (judge expectedLock [] [] (proposal 1005 (oneRecord 10000000205))) gives 8 ∷ 205 ∷ 206 ∷ 1005 ∷ 205 ∷ [])
     -- that transaction against itself, no record: accepted, surplus 0
     ∷ (told (judge expectedLock [] (encode Transaction peerTx) (proposal 1000 (encode Records []))) gives 0 ∷ 0 ∷ 0 ∷ [])
+    -- ours 2 inputs, added record 0 under our lock, record 1 not live: 6 2
+    ∷ (told (judge expectedLock [] (encode Transaction (inputsTx (plainInput ∷ plainInput ∷ []))) ourLockProposal) gives 6 ∷ 2 ∷ [])
+    -- typed, from none: 7 brought in and 5 at output 0, accepted with 2 left; token records 2^128 - 1 and 1: 7
+    ∷ (told (judge expectedLock (encode Script tokenType) [] (tokenProposal (plainInput ∷ []) 5 (tokenRecord 7 ∷ []))) gives 0 ∷ 10000000000 ∷ 2 ∷ [])
+    ∷ (told
+    (judge expectedLock (encode Script tokenType) []
+    (tokenProposal (plainInput ∷ plainInput ∷ []) 5 (tokenRecord (2 ^ 128 - 1) ∷ tokenRecord 1 ∷ [])))
+    gives 7 ∷ [])
     -- lock args 20, type args 32: change capacity 14,200,000,000
     ∷ (ifFits (changeCapacity 20 32) gives 14200000000 ∷ [])
     ∷ []

@@ -69,7 +69,7 @@ module _ {C S : Type 0} (E : Entry C S) where
       one-each = chain-sum (chain calls start) .inputs;
     }
 
-  -- from a readable transaction, or none, a readable one is in force
+  -- from a readable transaction, or none, a readable one, or none, is in force
   module _ (reads : (ours : List ℕ) (c : C) (s : S) → E .judged ours c ≡ fine s → readOurs (E .peerOf c) ≡ some (txOf (E .peerOf c))) where
     read-turn : (start : List ℕ) (c : C) (v : Outcome S) → E .judged start c ≡ v → readOurs start ≡ some (txOf start)
         → readOurs (handedBack v start (E .peerOf c)) ≡ some (txOf (handedBack v start (E .peerOf c)))
@@ -82,7 +82,7 @@ module _ {C S : Type 0} (E : Entry C S) where
     stays-readable (c ∷ cs) start h = stays-readable cs (next E start c) (read-turn start c (E .judged start c) refl h)
 
 module _ (lock type : List ℕ) where
-  -- Demand 3, for update_for_peer: from any start, for any calls
+  -- the sums of demand 3, of the rules: from any start, for any calls. Nothing here is about code
   pub record Law (start : List ℕ) (calls : List Call) : Type 0 where
     pub capacity : Exact (updateForPeer lock type) capacities (λ s. s .capacity) start calls
     pub token : Exact (updateForPeer lock type) (expected type) (λ s. s .token) start calls

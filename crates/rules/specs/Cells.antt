@@ -28,10 +28,11 @@ cells t = pair (t .outputs) (t .outputsData)
 unfoldable pub readOurs : List ℕ → Option Tx
 readOurs s = only (readable (option Transaction) s) (some (txAt s))
 
--- a cell, or none where it is not live
+-- the cell of a record's bytes
 abbrev pub recordCell : List ℕ → Cell
 recordCell r = record { output = firstOf r; cellData = dataOf r }
 
+-- a cell, or none where it is not live
 unfoldable pub recordAt : List ℕ → ℕ → Option Cell
 recordAt s i = cond (eqb (length (itemOf s i)) 0) none (some (recordCell (itemOf s i)))
 

@@ -1,9 +1,9 @@
 -- update_for_peer: all its checks, in table order.
-use Prim.Native.Nat.{ℕ, zero, suc, _+_, _-_, _*_, _^_, _/_, min}
+use Prim.Native.Nat.{ℕ, suc, _+_, _-_, _^_, min}
 use mathlib.Core.Bool.{Bool, true, false, cond, not, _&&_, _||_}
 use mathlib.Core.List.{List, [], _∷_}
 use mathlib.Core.Option.{Option, none, some, Option·getD}
-use lib.ListN.{length, getD, take, drop}
+use lib.ListN.{length, drop}
 use lib.Dec.{leb, ltb, eqb}
 use Rattle.lists.specs.Lists.{eqBytes, extends, containsAll}
 use Rattle.molecule.specs.Molecule.{option, readable}
@@ -12,7 +12,7 @@ use Rattle.units.specs.Fee.{feeShannons}
 use Rattle.transaction.specs.Tx.{Tx, txAt, lockOf, typeOf, readTx}
 use Rattle.rules.specs.Cells.{Cell, cells, readOurs, readRecords}
 use Rattle.rules.specs.Outcome.{Outcome, fine, refused, check, checkWith, given, _>>=_, _>>_}
-use Rattle.rules.specs.Surplus.{total, first, added, Measure, capacityOf, amountOf, tokenOf, isOf, hasAmount, isEmpty}
+use Rattle.rules.specs.Surplus.{total, first, added, capacityOf, amountOf, isOf, hasAmount, isEmpty}
 
 -- what a call brings
 pub record Call : Type 0 where
@@ -26,14 +26,14 @@ pub record Surpluses : Type 0 where
   pub capacity : ℕ
   pub token : ℕ
 
--- the transaction of our bytes; where they can't be read, none
+-- the transaction of our size; where they can't be read, none
 unfoldable pub txOf : List ℕ → Tx
 txOf bs = Option·getD (readOurs bs) (txAt [])
 
 -- ---- limits: size; added inputs, outputs, cell deps
 unfoldable pub limits : ℕ → Tx → Tx → Outcome (Unit {0})
-limits bytes ours peer = do
-  check 4 (leb bytes 133120)
+limits size ours peer = do
+  check 4 (leb size 133120)
   check 4 (leb (length (peer .inputs) - length (ours .inputs)) 64)
   check 4 (leb (length (peer .outputs) - length (ours .outputs)) 3)
   check 4 (leb (length (peer .cellDeps) - length (ours .cellDeps)) 8)
@@ -92,7 +92,7 @@ unfoldable pub firstAmount : List Cell → Bool
 firstAmount [] = true
 firstAmount (c ∷ cs) = hasAmount (c .cellData)
 
--- output 0: it and its data are there, and neither figure falls
+-- output 0: it and its data are there; typed, both amounts can be read; and neither figure falls
 unfoldable pub firstOutput : List ℕ → Tx → Tx → Outcome (Unit {0})
 firstOutput type ours peer = do
   check 5 (not (isEmpty (peer .outputs)))
@@ -108,16 +108,16 @@ unfunded ours = isEmpty (ours .inputs) && isEmpty (ours .outputs)
 
 -- what is left of `gained` over what it has to cover, which pays the fee of a first update
 unfoldable pub covered : Bool → ℕ → ℕ → ℕ → ℕ → Outcome ℕ
-covered first gained needed rate bytes = do
+covered opening gained needed rate size = do
   check 5 (leb needed gained)
-  checkWith 8 (min (gained - needed) (2 ^ 64 - 1) ∷ feeShannons rate bytes ∷ rate ∷ bytes ∷ []) (not first || leb (feeShannons rate bytes) (gained - needed))
+  checkWith 8 (min (gained - needed) (2 ^ 64 - 1) ∷ feeShannons rate size ∷ rate ∷ size ∷ []) (not opening || leb (feeShannons rate size) (gained - needed))
   fine (gained - needed)
 
 unfoldable pub capacityAccount : Tx → Tx → List Cell → ℕ → ℕ → Outcome ℕ
-capacityAccount ours peer records rate bytes =
-    covered (unfunded ours) (total capacityOf records) (growth capacityOf ours peer + total capacityOf (added ours peer)) rate bytes
+capacityAccount ours peer records rate size =
+    covered (unfunded ours) (total capacityOf records) (growth capacityOf ours peer + total capacityOf (added ours peer)) rate size
 
--- a sum of tokens with those of one more cell: an amount under 16 bytes is 5, a total of 2^128 or more is 7; a cell of another type may hold any data
+-- a sum of tokens with those of one more cell: an amount under 16 size is 5, a total of 2^128 or more is 7; a cell of another type may hold any data
 unfoldable pub counted : List ℕ → ℕ → Cell → Outcome ℕ
 counted type sum c = cond (isOf type c) summed (fine sum)
   where
@@ -151,9 +151,9 @@ unfoldable pub tokenAccount : List ℕ → Tx → Tx → List Cell → Outcome �
 tokenAccount type ours peer records = cond (isEmpty type) (fine 0) (account type (growth amountOf ours peer) records (added ours peer))
 
 unfoldable pub contribution : List ℕ → Tx → Tx → List Cell → ℕ → ℕ → Outcome Surpluses
-contribution type ours peer records rate bytes = do
+contribution type ours peer records rate size = do
   firstOutput type ours peer
-  capacity ← capacityAccount ours peer records rate bytes
+  capacity ← capacityAccount ours peer records rate size
   token ← tokenAccount type ours peer records
   fine (record { capacity = capacity; token = token })
 

@@ -64,7 +64,7 @@ abbrev pub allCells : Option (List (Option Cell)) → List Cell
 allCells none = []
 allCells (some rs) = liveCells rs
 
--- the cells that a call's records name
+-- the live cells of a call's records; none where they can't be read
 abbrev pub recordsIn : Call → List Cell
 recordsIn call = allCells (readRecords (call .records))
 

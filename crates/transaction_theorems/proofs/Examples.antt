@@ -51,7 +51,7 @@ pub extra-field : readable Script (encode (table (Byte32 & byte & Bytes & Bytes 
 unfolding encode join unwords offsets toLe flatten le only pick there both each words cuts items split size chunks oneByte decode readable bind
 extra-field = refl
 
--- a dynvec of one empty item, here a record that is nothing; and no table without fields, which is 4 bytes long
+-- a dynvec of one empty item, here a record that is nothing; the same bytes are not a table of no fields, which has 4 bytes
 pub one-item : decode Records (8 ∷ 0 ∷ 0 ∷ 0 ∷ 8 ∷ 0 ∷ 0 ∷ 0 ∷ []) ≡ some (none ∷ [])
 unfolding le only pick both each words cuts items split decode bind
 one-item = refl
