@@ -9,7 +9,7 @@ use Rattle.units.specs.Fee.{requiredFee, changeCapacity}
 use Rattle.molecule.specs.Molecule.{encode}
 use Rattle.transaction.specs.Ckb.{Script, CellOutput, Transaction, Records}
 use Rattle.rules.specs.Outcome as verdict
-use Rattle.rules.specs.Judge.{Surpluses, judge}
+use Rattle.rules.specs.Judge.{Figures, judge}
 use Rattle.known_outcomes.specs.Cases.{emptyTx, peerTx, plainScript, plainOutput, oneRecord, proposal, expectedLock, plainInput, tokenType, tokenRecord, tokenProposal, inputsTx, ourLockProposal}
 
 pub record Outcome : Type 0 where
@@ -36,7 +36,7 @@ ifFits (CheckedShannons.Fits s) = shannons s
 ifFits CheckedShannons.Overflow = []
 
 -- 0 and the surpluses in capacity and token, or the refusal's number and its values
-abbrev told : verdict.Outcome Surpluses → List ℕ
+abbrev told : verdict.Outcome Figures → List ℕ
 told (verdict.fine s) = 0 ∷ s .capacity ∷ s .token ∷ []
 told (verdict.refused n l) = n ∷ l
 

@@ -17,6 +17,12 @@ extends [] ys = true
 extends (x ∷ xs) [] = false
 extends (x ∷ xs) (y ∷ ys) = eqBytes x y && extends xs ys
 
+-- "a shared place differs": not so
+unfoldable pub agree : List (List ℕ) → List (List ℕ) → Bool
+agree [] ys = true
+agree (x ∷ xs) [] = true
+agree (x ∷ xs) (y ∷ ys) = eqBytes x y && agree xs ys
+
 unfoldable pub contains : List ℕ → List (List ℕ) → Bool
 contains x [] = false
 contains x (y ∷ ys) = cond (eqBytes x y) true (contains x ys)

@@ -9,7 +9,6 @@ use mathlib.Core.Option.{Option, none, some, Option·none-ne-some}
 use lib.ListN.{length, getD, drop}
 use lib.Dec.{T, leb, ltb, eqb, eqb→eq, leb→le}
 use Rattle.rules.specs.Outcome.{Outcome, fine, refused, check, checkWith, given, _>>=_, _>>_}
-use Rattle.lists.specs.Lists.{extends, containsAll}
 use Rattle.transaction.specs.Tx.{Tx, txAt, readTx}
 use Rattle.rules.specs.Cells.{Cell, readOurs, readRecords, cells}
 use Rattle.molecule.specs.Partial.{only}
@@ -17,35 +16,33 @@ use Rattle.molecule.specs.Molecule.{option, readable}
 use Rattle.molecule.proofs.ReadableLaws.{readable-option}
 use Rattle.transaction.specs.Ckb.{Transaction}
 use Rattle.rules.specs.Surplus.{total, first, added, Measure, capacities, capacityOf, amount, amountOf, tokenOf, isOf, hasAmount, tokens, nothing, expected, isEmpty}
-use Rattle.rules.specs.Judge.{Call, Surpluses, txOf, judge, spent, comparison, live, liveCells, counted, tally, settled, account, growth, firstOutput, covered, capacityAccount, tokenAccount, contribution}
-use Rattle.rules.specs.Run.{allCells, recordsIn}
-use Rattle.rules.proofs.Telescope.{Prefix, prefix-length, All, Settled, with-data, Extends, Step}
-use Rattle.rules.proofs.Tests.{both, extends-prefix, fine-inj, bind-fine, check-fine, checkWith-fine, check-last, then-fine, given-fine, never}
+use Rattle.rules.specs.Judge.{Call, Figures, txOf, judge, spent, comparison, live, liveCells, counted, tally, settled, account, growth, fundingOutputDelta, covered, tokenAccount, contribution}
+use Rattle.rules.specs.Run.{All, allCells}
+use Rattle.rules.proofs.Telescope.{Prefix, prefix-length, Settled, with-data, Extends, Step}
+use Rattle.rules.proofs.Tests.{both, agree-prefix, drop-more, fine-inj, bind-fine, check-fine, checkWith-fine, check-last, then-fine, given-fine, never}
 
 -- ---- comparison
 
-record Compared (ours peer : Tx) : Type 0 where
-  pub extended : Extends ours peer
-  pub more-inputs : length (ours .inputs) ≤ length (peer .inputs)
-
-compared : (lock type : List ℕ) (ours peer : Tx) (u : Unit {0}) → comparison lock type ours peer ≡ fine u → Compared ours peer
+compared : (lock type : List ℕ) (ours peer : Tx) (u : Unit {0}) → comparison lock type ours peer ≡ fine u → Extends ours peer
 unfolding comparison
 compared lock type ours peer u e =
     let (version, e₁) = check-fine _ _ _ _ e in
     let (depsMore, e₂) = check-fine _ _ _ _ e₁ in
     let (depsThere, e₃) = check-fine _ _ _ _ e₂ in
-    let (headers, e₄) = check-fine _ _ _ _ e₃ in
-    let (ins, e₅) = check-fine _ _ _ _ e₄ in
-    let (outsMore, e₆) = check-fine _ _ _ _ e₅ in
-    let (funding, e₇) = check-fine _ _ _ _ e₆ in
-    let (outs, e₈) = check-fine _ _ _ _ e₇ in
-    let (dataMore, e₉) = check-fine _ _ _ _ e₈ in
+    let (headersMore, e₄) = check-fine _ _ _ _ e₃ in
+    let (headers, e₅) = check-fine _ _ _ _ e₄ in
+    let (insMore, e₆) = check-fine _ _ _ _ e₅ in
+    let (ins, e₇) = check-fine _ _ _ _ e₆ in
+    let (outsMore, e₈) = check-fine _ _ _ _ e₇ in
+    let (lockThere, e₉) = check-fine _ _ _ _ e₈ in
+    let (typeThere, e₁₀) = check-fine _ _ _ _ e₉ in
+    let (noData, e₁₁) = check-fine _ _ _ _ e₁₀ in
+    let (outs, e₁₂) = check-fine _ _ _ _ e₁₁ in
+    let (dataMore, e₁₃) = check-fine _ _ _ _ e₁₂ in
     record {
-      extended = record {
-        rest = extends-prefix (drop 1 (ours .outputs)) (drop 1 (peer .outputs)) outs;
-        entries = extends-prefix (drop 1 (ours .outputsData)) (drop 1 (peer .outputsData)) (check-last _ _ _ e₉);
-      };
-      more-inputs = prefix-length (extends-prefix (ours .inputs) (peer .inputs) ins);
+      inputs = agree-prefix (ours .inputs) (peer .inputs) (leb→le _ _ insMore) ins;
+      rest = agree-prefix (drop 1 (ours .outputs)) (drop 1 (peer .outputs)) (drop-more (ours .outputs) (peer .outputs) (leb→le _ _ outsMore)) outs;
+      entries = agree-prefix (drop 1 (ours .outputsData)) (drop 1 (peer .outputsData)) (drop-more (ours .outputsData) (peer .outputsData) (leb→le _ _ dataMore)) (check-last _ _ _ e₁₃);
     }
 
 -- ---- records
@@ -151,7 +148,8 @@ account-balanced t f ours peer records paid e h =
 abbrev Grows : List ℕ → Tx → Tx → Type 0
 Grows type ours peer = T (isEmpty type || leb (first amountOf (cells ours)) (first amountOf (cells peer)))
 
-token-balanced : (type : List ℕ) (ours peer : Tx) (records : List Cell) (paid : ℕ) → tokenAccount type ours peer records ≡ fine paid
+token-balanced : (type : List ℕ) (ours peer : Tx) (records : List Cell) (paid : ℕ)
+    → tokenAccount type (cond (isEmpty type) 0 (growth amountOf ours peer)) records (added ours peer) ≡ fine paid
     → Grows type ours peer → Balanced (expected type) ours peer records paid
 unfolding tokenAccount isEmpty
 token-balanced [] ours peer records paid e t =
@@ -163,19 +161,21 @@ token-balanced [] ours peer records paid e t =
 token-balanced (b ∷ bs) ours peer records paid e t =
     account-balanced (b ∷ bs) amountOf ours peer records paid e (leb→le (first amountOf (cells ours)) (first amountOf (cells peer)) t)
 
-record Firsts (type : List ℕ) (ours peer : Tx) : Type 0 where
+record Grown (type : List ℕ) (ours peer : Tx) (delta : Figures) : Type 0 where
   pub capacity : first capacityOf (cells ours) ≤ first capacityOf (cells peer)
   pub amount : Grows type ours peer
+  pub is : record { capacity = growth capacityOf ours peer; token = cond (isEmpty type) 0 (growth amountOf ours peer) } ≡ delta
 
-firsts : (type : List ℕ) (ours peer : Tx) (u : Unit {0}) → firstOutput type ours peer ≡ fine u → Firsts type ours peer
-unfolding firstOutput
-firsts type ours peer u e =
+grown : (type : List ℕ) (ours peer : Tx) (delta : Figures) → fundingOutputDelta type ours peer ≡ fine delta → Grown type ours peer delta
+unfolding fundingOutputDelta
+grown type ours peer delta e =
     let (there, e₁) = check-fine _ _ _ _ e in
     let (dataThere, e₂) = check-fine _ _ _ _ e₁ in
     let (capacityGrows, e₃) = check-fine _ _ _ _ e₂ in
     let (oursRead, e₄) = check-fine _ _ _ _ e₃ in
     let (peerRead, e₅) = check-fine _ _ _ _ e₄ in
-    record { capacity = leb→le _ _ capacityGrows; amount = check-last _ _ _ e₅ }
+    let (amountGrows, e₆) = check-fine _ _ _ _ e₅ in
+    record { capacity = leb→le _ _ capacityGrows; amount = amountGrows; is = fine-inj e₆ }
 
 left-over : (first : Bool) (gained needed rate bytes paid : ℕ) → covered first gained needed rate bytes ≡ fine paid → gained ≡ paid + needed
 unfolding covered
@@ -186,22 +186,24 @@ left-over first gained needed rate bytes paid e =
     let p : gained - needed ≡ paid = fine-inj e₂ in
     omega arith
 
-contributed : (type : List ℕ) (ours peer : Tx) (records : List Cell) (rate bytes : ℕ) (s : Surpluses)
+contributed : (type : List ℕ) (ours peer : Tx) (records : List Cell) (rate bytes : ℕ) (s : Figures)
     → contribution type ours peer records rate bytes ≡ fine s
     → Balanced capacities ours peer records (s .capacity) × Balanced (expected type) ours peer records (s .token)
-unfolding contribution capacityAccount
+unfolding contribution
 contributed type ours peer records rate bytes s e =
-    let (f, e₁) = then-fine _ _ _ e in
+    let (delta, d, e₁) = bind-fine _ _ _ e in
     let (capacity, c, e₂) = bind-fine _ _ _ e₁ in
     let (token, t, e₃) = bind-fine _ _ _ e₂ in
-    let paid : capacity ≡ s .capacity = ap (λ (r : Surpluses). r .capacity) (fine-inj e₃) in
-    let tokenPaid : token ≡ s .token = ap (λ (r : Surpluses). r .token) (fine-inj e₃) in
-    let grows : Firsts type ours peer = firsts type ours peer tt f in (
+    let paid : capacity ≡ s .capacity = ap (λ (r : Figures). r .capacity) (fine-inj e₃) in
+    let tokenPaid : token ≡ s .token = ap (λ (r : Figures). r .token) (fine-inj e₃) in
+    let g : Grown type ours peer delta = grown type ours peer delta d in
+    let by : growth capacityOf ours peer ≡ delta .capacity = ap (λ (r : Figures). r .capacity) (g .is) in
+    let tokenBy : delta .token ≡ cond (isEmpty type) 0 (growth amountOf ours peer) = ap (λ (r : Figures). r .token) (sym (g .is)) in (
       record {
         settled = data-free capacityOf (λ _ _. refl) (added ours peer);
-        balance = omega (arith, left-over _ _ _ _ _ _ c, grows .capacity);
+        balance = omega (arith, left-over _ _ _ _ _ _ c, g .capacity);
       },
-      subst (Balanced (expected type) ours peer records) tokenPaid (token-balanced type ours peer records token t (grows .amount)),
+      subst (Balanced (expected type) ours peer records) tokenPaid (token-balanced type ours peer records token (ap (λ (n : ℕ). tokenAccount type n records (added ours peer)) (sym tokenBy) ∙ t) (g .amount)),
     )
 
 -- ---- the whole verdict
@@ -240,7 +242,7 @@ examined ours peer lent source cs more e =
 -- an account that is balanced over what was read is a step of the bytes
 as-step : (oursBytes : List ℕ) (call : Call) {ours peer : Tx} {cs : List Cell} {m : Measure} {paid : ℕ}
     → readOurs oursBytes ≡ some ours → readOurs (call .peer) ≡ some peer → Extends ours peer → Examined ours peer (readRecords (call .records)) cs
-    → Balanced m ours peer cs paid → Step m (txOf oursBytes) (txOf (call .peer)) (recordsIn call) paid
+    → Balanced m ours peer cs paid → Step m (txOf oursBytes) (txOf (call .peer)) (allCells (readRecords (call .records))) paid
 as-step oursBytes call {ours} {peer} {cs} o p w x b =
     rw (ours-tx oursBytes ours o, ours-tx (call .peer) peer p, x .cells-are)
     (record { extends = w; settled = b .settled; balance = b .balance; inputs = x .inputs })
@@ -249,12 +251,12 @@ read-again : (bs : List ℕ) (t : Tx) → readOurs bs ≡ some t → readOurs bs
 read-again bs t e = e ∙ ap some (sym (ours-tx bs t e))
 
 -- What an acceptance of update_for_peer says of the bytes it was given.
-pub record Accepted (type oursBytes : List ℕ) (call : Call) (s : Surpluses) : Type 0 where
+pub record Accepted (type oursBytes : List ℕ) (call : Call) (s : Figures) : Type 0 where
   pub peerReadable : readOurs (call .peer) ≡ some (txOf (call .peer))
-  pub capacity : Step capacities (txOf oursBytes) (txOf (call .peer)) (recordsIn call) (s .capacity)
-  pub token : Step (expected type) (txOf oursBytes) (txOf (call .peer)) (recordsIn call) (s .token)
+  pub capacity : Step capacities (txOf oursBytes) (txOf (call .peer)) (allCells (readRecords (call .records))) (s .capacity)
+  pub token : Step (expected type) (txOf oursBytes) (txOf (call .peer)) (allCells (readRecords (call .records))) (s .token)
 
-pub accepted : (lock type oursBytes : List ℕ) (call : Call) (s : Surpluses) → judge lock type oursBytes call ≡ fine s
+pub accepted : (lock type oursBytes : List ℕ) (call : Call) (s : Figures) → judge lock type oursBytes call ≡ fine s
     → Accepted type oursBytes call s
 unfolding judge
 accepted lock type oursBytes call s e =
@@ -267,10 +269,10 @@ accepted lock type oursBytes call s e =
     let (capacityPaid, tokenPaid) = contributed type ours peer cs (call .rate) _ s e₆ in
     let readO : readOurs oursBytes ≡ some ours = given-fine 1 _ _ o in
     let readP : readOurs (call .peer) ≡ some peer = peer-read (call .peer) peer (given-fine 2 _ _ p) in
-    let c : Compared ours peer = compared lock type ours peer tt compares in
-    let seen : Examined ours peer (readRecords (call .records)) cs = examined ours peer _ _ cs (c .more-inputs) x in
+    let c : Extends ours peer = compared lock type ours peer tt compares in
+    let seen : Examined ours peer (readRecords (call .records)) cs = examined ours peer _ _ cs (prefix-length (c .inputs)) x in
     record {
       peerReadable = read-again (call .peer) peer readP;
-      capacity = as-step oursBytes call readO readP (c .extended) seen capacityPaid;
-      token = as-step oursBytes call readO readP (c .extended) seen tokenPaid;
+      capacity = as-step oursBytes call readO readP c seen capacityPaid;
+      token = as-step oursBytes call readO readP c seen tokenPaid;
     }

@@ -1,48 +1,37 @@
--- The surplus law over a whole list of updates.
+-- The surplus law over a whole list of updates, for any entry that owes a step: several tokens, other limits or arrivals in another order need no new
+-- induction.
 use mathlib.Core.Path.{_≡_, refl, sym, ap, _∙_, subst}
 use Prim.Native.Nat.{ℕ, zero, suc, _+_, _-_, _≤_, _<_}
 use mathlib.Core.List.{List, [], _∷_, _++_, map}
 use mathlib.Core.Option.{Option, none, some}
-use lib.ListN.{length, getD}
+use lib.ListN.{length, getD, drop}
 use lib.IntN.{ℤ, pos}
 use Rattle.rules.specs.Outcome.{Outcome, fine, refused}
 use Rattle.transaction.specs.Tx.{Tx}
 use Rattle.rules.specs.Cells.{Cell, readOurs, cells}
-use Rattle.rules.specs.Surplus.{total, first, added, Measure, surplus, capacities, expected}
-use Rattle.rules.specs.Judge.{Call, Surpluses, txOf}
-use Rattle.rules.specs.Run.{Entry, handedBack, keep, carried, sum, next, verdicts, inForce, kept, steps, updateForPeer}
+use Rattle.rules.specs.Surplus.{total, first, added, Measure, surplus}
+use Rattle.rules.specs.Judge.{txOf}
+use Rattle.rules.specs.Run.{Entry, handedBack, keep, carried, sum, next, verdicts, inForce, All, spentBy, kept, inputsOf, recordsOf, steps, Exact, Ran, call}
+use Rattle.rules.specs.Run as run
 use Rattle.rules.proofs.Telescope.{Step, Chain, stop, step, Sum, chain-sum}
 use Rattle.rules.proofs.Whole.{whole}
-use Rattle.rules.proofs.Accept.{accepted}
 
 -- a balance in whole numbers
-balance-surplus : {m : Measure} {a c : Tx} {records : List Cell} {paid : ℕ} → Sum m a c records paid → pos paid ≡ surplus m a c records
+step-surplus : {m : Measure} {a c : Tx} {records : List Cell} {paid : ℕ} → Step m a c records paid → pos paid ≡ surplus m a c records
 unfolding surplus
-balance-surplus {m} {a} {c} {records} {paid} s =
+step-surplus {m} {a} {c} {records} {paid} s =
     whole (total (m .of) records) (first (m .atZero) (cells a)) paid (first (m .atZero) (cells c)) (total (m .of) (added a c)) (s .balance)
 
-step-surplus : {m : Measure} {a c : Tx} {records : List Cell} {paid : ℕ} → Step m a c records paid → pos paid ≡ surplus m a c records
-step-surplus s = balance-surplus (record { extends = s .extends; balance = s .balance; inputs = s .inputs })
-
 module _ {C S : Type 0} (E : Entry C S) where
-  -- The law for one measure: `pick` takes its surplus from what an acceptance carries.
-  pub record Exact (m : Measure) (pick : S → ℕ) (start : List ℕ) (calls : List C) : Type 0 where
-    -- each accepted update carries its own surplus, which so is not negative
-    pub each : map pos (carried pick (verdicts E start calls)) ≡ steps E m start calls
-    -- they sum to the surplus of the transaction then in force against the one at the start, over the records kept
-    pub sums : pos (sum (carried pick (verdicts E start calls))) ≡ surplus m (txOf start) (txOf (inForce E start calls)) (kept E start calls)
-    -- one record is kept for each input added since
-    pub one-each : length (txOf (inForce E start calls) .inputs) ≡ length (txOf start .inputs) + length (kept E start calls)
-
   module _ (m : Measure) (pick : S → ℕ)
       (step-by : (ours : List ℕ) (c : C) (s : S) → E .judged ours c ≡ fine s
-      → Step m (txOf ours) (txOf (E .peerOf c)) (E .recordsOf c) (pick s)) where
+      → Step m (txOf ours) (txOf (E .peerOf c)) (E .lent c) (pick s)) where
     abbrev ChainOf : List ℕ → List C → Type 0
     ChainOf start calls = Chain m (txOf start) (txOf (inForce E start calls)) (kept E start calls) (sum (carried pick (verdicts E start calls)))
 
     turn : (start : List ℕ) (c : C) (cs : List C) (v : Outcome S) → E .judged start c ≡ v → ((b : List ℕ) → ChainOf b cs)
         → Chain m (txOf start) (txOf (inForce E (handedBack v start (E .peerOf c)) cs))
-        (keep v (E .recordsOf c) ++ kept E (handedBack v start (E .peerOf c)) cs)
+        (keep v (spentBy E start c) ++ kept E (handedBack v start (E .peerOf c)) cs)
         (sum (carried pick (v ∷ verdicts E (handedBack v start (E .peerOf c)) cs)))
     turn start c cs (fine s) e ih = step (step-by start c s e) (ih (E .peerOf c))
     turn start c cs (refused n l) e ih = ih start
@@ -54,7 +43,7 @@ module _ {C S : Type 0} (E : Entry C S) where
     each-turn : (start : List ℕ) (c : C) (cs : List C) (v : Outcome S) → E .judged start c ≡ v
         → ((b : List ℕ) → map pos (carried pick (verdicts E b cs)) ≡ steps E m b cs)
         → map pos (carried pick (v ∷ verdicts E (handedBack v start (E .peerOf c)) cs))
-        ≡ keep v (surplus m (txOf start) (txOf (E .peerOf c)) (E .recordsOf c) ∷ []) ++ steps E m (handedBack v start (E .peerOf c)) cs
+        ≡ keep v (surplus m (txOf start) (txOf (E .peerOf c)) (E .lent c) ∷ []) ++ steps E m (handedBack v start (E .peerOf c)) cs
     each-turn start c cs (fine s) e ih = λ i. step-surplus (step-by start c s e) i ∷ ih (E .peerOf c) i
     each-turn start c cs (refused n l) e ih = ih start
 
@@ -62,12 +51,25 @@ module _ {C S : Type 0} (E : Entry C S) where
     each-step [] start = refl
     each-step (c ∷ cs) start = each-turn start c cs (E .judged start c) refl (each-step cs)
 
-    pub exact : (start : List ℕ) (calls : List C) → Exact m pick start calls
+    all-natural : (ns : List ℕ) → All (λ (z : ℤ). (n : ℕ) × (z ≡ pos n)) (map pos ns)
+    all-natural [] = tt
+    all-natural (n ∷ ns) = ((n, refl), all-natural ns)
+
+    total-surplus : {a c : Tx} {ss : List run.Spent} {paid : ℕ} → Sum m a c ss paid → pos paid ≡ surplus m a c (recordsOf ss)
+    unfolding surplus
+    total-surplus {a} {c} {ss} {paid} s =
+        whole (total (m .of) (recordsOf ss)) (first (m .atZero) (cells a)) paid (first (m .atZero) (cells c)) (total (m .of) (added a c)) (s .balance)
+
+    pub exact : (start : List ℕ) (calls : List C) → Exact E m pick start calls
     exact start calls = record {
       each = each-step calls start;
-      sums = balance-surplus (chain-sum (chain calls start));
-      one-each = chain-sum (chain calls start) .inputs;
+      natural = subst (All (λ (z : ℤ). (n : ℕ) × (z ≡ pos n))) (each-step calls start) (all-natural (carried pick (verdicts E start calls)));
+      sums = total-surplus (chain-sum (chain calls start));
     }
+
+    -- the inputs of the transaction in force are those at the start, and then the kept ones
+    pub kept-inputs : (start : List ℕ) (calls : List C) → txOf (inForce E start calls) .inputs ≡ txOf start .inputs ++ inputsOf (kept E start calls)
+    kept-inputs start calls = chain-sum (chain calls start) .inputs
 
   -- from a readable transaction, or none, a readable one, or none, is in force
   module _ (reads : (ours : List ℕ) (c : C) (s : S) → E .judged ours c ≡ fine s → readOurs (E .peerOf c) ≡ some (txOf (E .peerOf c))) where
@@ -81,17 +83,14 @@ module _ {C S : Type 0} (E : Entry C S) where
     stays-readable [] start h = h
     stays-readable (c ∷ cs) start h = stays-readable cs (next E start c) (read-turn start c (E .judged start c) refl h)
 
-module _ (lock type : List ℕ) where
-  -- the sums of demand 3, of the rules: from any start, for any calls. Nothing here is about code
-  pub record Law (start : List ℕ) (calls : List Call) : Type 0 where
-    pub capacity : Exact (updateForPeer lock type) capacities (λ s. s .capacity) start calls
-    pub token : Exact (updateForPeer lock type) (expected type) (λ s. s .token) start calls
-    pub readable : readOurs start ≡ some (txOf start)
-        → readOurs (inForce (updateForPeer lock type) start calls) ≡ some (txOf (inForce (updateForPeer lock type) start calls))
+  -- calls of which each answers and hands back what the rules say are a run of the rules
+  module _ {U : Type 0} {Called : List ℕ → C → U → List ℕ → Type 0} (told : U → Outcome S)
+      (answers : (ours handed : List ℕ) (c : C) (u : U) → Called ours c u handed → told u ≡ E .judged ours c)
+      (hands : (ours handed : List ℕ) (c : C) (u : U) → Called ours c u handed → handed ≡ next E ours c) where
+    pub ran-answers : {start end : List ℕ} {calls : List C} {us : List U} → Ran Called start calls us end → map told us ≡ verdicts E start calls
+    ran-answers run.stop = refl
+    ran-answers (call {c = c} {cs = cs} {us = us} k r) = λ i. answers _ _ _ _ k i ∷ (ran-answers r ∙ ap (λ (b : List ℕ). verdicts E b cs) (hands _ _ _ _ k)) i
 
-  pub law : (start : List ℕ) (calls : List Call) → Law start calls
-  law start calls = record {
-    capacity = exact (updateForPeer lock type) capacities (λ s. s .capacity) (λ ours c s e. accepted lock type ours c s e .capacity) start calls;
-    token = exact (updateForPeer lock type) (expected type) (λ s. s .token) (λ ours c s e. accepted lock type ours c s e .token) start calls;
-    readable = stays-readable (updateForPeer lock type) (λ ours c s e. accepted lock type ours c s e .peerReadable) calls start;
-  }
+    pub ran-bytes : {start end : List ℕ} {calls : List C} {us : List U} → Ran Called start calls us end → end ≡ inForce E start calls
+    ran-bytes run.stop = refl
+    ran-bytes (call {c = c} {cs = cs} {us = us} k r) = ran-bytes r ∙ ap (λ (b : List ℕ). inForce E b cs) (hands _ _ _ _ k)

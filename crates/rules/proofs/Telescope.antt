@@ -4,12 +4,13 @@ use mathlib.Core.Path.{_≡_, refl, sym, ap, _∙_}
 use Prim.Native.Nat.{ℕ, zero, suc, _+_, _-_, _≤_, _<_, zero-le, suc-le-suc, max}
 use native.Mathlib.Nat.{le-of-suc-le-suc, not-suc-le-zero, le-refl}
 use native.Mathlib.Omega.{arith}
-use mathlib.Core.List.{List, [], _∷_, _++_}
+use mathlib.Core.List.{List, [], _∷_, _++_, append-assoc, append-nil}
 use lib.ListN.{length, getD, drop, length-append, length-drop, drop-of-length-le}
 use lib.Seq.{drop-drop}
 use Rattle.transaction.specs.Tx.{Tx}
 use Rattle.rules.specs.Cells.{Cell, pair, cells}
 use Rattle.rules.specs.Surplus.{total, first, added, Measure}
+use Rattle.rules.specs.Run.{All, Spent, spends, inputsOf, recordsOf}
 
 -- ---- prefixes
 
@@ -30,15 +31,16 @@ module _ {A : Type 0} where
   prefix-length start = zero-le
   prefix-length (more p) = suc-le-suc (prefix-length p)
 
+  -- what comes after a beginning
+  pub prefix-rest : {xs ys : List A} → Prefix xs ys → ys ≡ xs ++ drop (length xs) ys
+  prefix-rest start = refl
+  prefix-rest (more {x = x} p) = ap (λ (l : List A). x ∷ l) (prefix-rest p)
+
   prefix-tail : {xs ys : List A} → Prefix xs ys → Prefix (drop 1 xs) (drop 1 ys)
   prefix-tail start = start
   prefix-tail (more p) = p
 
--- ---- what holds of every cell of a list
-
-abbrev pub All : (Cell → Type 0) → List Cell → Type 0
-All P [] = Unit {0}
-All P (c ∷ cs) = P c × All P cs
+-- ---- cells
 
 abbrev pub with-data : List ℕ → List ℕ → Cell
 with-data o d = record { output = o; cellData = d }
@@ -71,14 +73,15 @@ module _ (f : Cell → ℕ) where
 -- ---- added outputs of transactions
 
 pub record Extends (a b : Tx) : Type 0 where
+  pub inputs : Prefix (a .inputs) (b .inputs)
   pub rest : Prefix (drop 1 (a .outputs)) (drop 1 (b .outputs))
   pub entries : Prefix (drop 1 (a .outputsData)) (drop 1 (b .outputsData))
 
 extends-refl : (a : Tx) → Extends a a
-extends-refl a = record { rest = prefix-refl (drop 1 (a .outputs)); entries = prefix-refl (drop 1 (a .outputsData)) }
+extends-refl a = record { inputs = prefix-refl (a .inputs); rest = prefix-refl (drop 1 (a .outputs)); entries = prefix-refl (drop 1 (a .outputsData)) }
 
 extends-trans : {a b c : Tx} → Extends a b → Extends b c → Extends a c
-extends-trans p q = record { rest = prefix-trans (p .rest) (q .rest); entries = prefix-trans (p .entries) (q .entries) }
+extends-trans p q = record { inputs = prefix-trans (p .inputs) (q .inputs); rest = prefix-trans (p .rest) (q .rest); entries = prefix-trans (p .entries) (q .entries) }
 
 pair-tail : (os : List (List ℕ)) (ds : List (List ℕ)) → drop 1 (pair os ds) ≡ pair (drop 1 os) (drop 1 ds)
 pair-tail [] ds = refl
@@ -112,36 +115,77 @@ module _ (f : Cell → ℕ) where
       rw (added-is a c, added-is a b, added-is b c)
       (split f (length (drop 1 (a .outputs))) (q .rest) (q .entries) (prefix-length (p .rest)) (rw (added-is a b) at s))
 
+-- ---- inputs with their records
+
+spends-inputs : (is : List (List ℕ)) (cs : List Cell) → length is ≡ length cs → inputsOf (spends is cs) ≡ is
+spends-inputs [] cs e = refl
+spends-inputs (i ∷ is) [] e = absurd (omega (arith, e))
+spends-inputs (i ∷ is) (c ∷ cs) e = ap (λ (l : List (List ℕ)). i ∷ l) (spends-inputs is cs (omega (arith, e)))
+
+spends-records : (is : List (List ℕ)) (cs : List Cell) → length is ≡ length cs → recordsOf (spends is cs) ≡ cs
+spends-records [] [] e = refl
+spends-records [] (c ∷ cs) e = absurd (omega (arith, e))
+spends-records (i ∷ is) [] e = absurd (omega (arith, e))
+spends-records (i ∷ is) (c ∷ cs) e = ap (λ (l : List Cell). c ∷ l) (spends-records is cs (omega (arith, e)))
+
+inputs-append : (ss ts : List Spent) → inputsOf (ss ++ ts) ≡ inputsOf ss ++ inputsOf ts
+inputs-append [] ts = refl
+inputs-append (s ∷ ss) ts = ap (λ (l : List (List ℕ)). s .input ∷ l) (inputs-append ss ts)
+
+records-append : (ss ts : List Spent) → recordsOf (ss ++ ts) ≡ recordsOf ss ++ recordsOf ts
+records-append [] ts = refl
+records-append (s ∷ ss) ts = ap (λ (l : List Cell). s .cell ∷ l) (records-append ss ts)
+
 -- ---- steps and chains
 
--- What an accepted update from a to b brings: `paid` is the surplus it carries.
+-- What an accepted update from a to b over its records brings: `paid` is the surplus it carries.
 pub record Step (m : Measure) (a b : Tx) (records : List Cell) (paid : ℕ) : Type 0 where
   pub extends : Extends a b
   pub settled : All (Settled (m .of)) (added a b)
   pub balance : total (m .of) records + first (m .atZero) (cells a) ≡ paid + first (m .atZero) (cells b) + total (m .of) (added a b)
   pub inputs : length (b .inputs) ≡ length (a .inputs) + length records
 
-pub data Chain (m : Measure) : Tx → Tx → List Cell → ℕ → Type 0 where
+-- the inputs that a step adds, with their records
+abbrev pub spentIn : Tx → Tx → List Cell → List Spent
+spentIn a b records = spends (drop (length (a .inputs)) (b .inputs)) records
+
+pub data Chain (m : Measure) : Tx → Tx → List Spent → ℕ → Type 0 where
   stop : {a : Tx} → Chain m a a [] 0
-  step : {a b c : Tx} {records kept : List Cell} {paid sum : ℕ} → Step m a b records paid → Chain m b c kept sum → Chain m a c (records ++ kept) (paid + sum)
+  step : {a b c : Tx} {records : List Cell} {kept : List Spent} {paid sum : ℕ} → Step m a b records paid → Chain m b c kept sum
+      → Chain m a c (spentIn a b records ++ kept) (paid + sum)
 
 -- What a chain comes to.
-pub record Sum (m : Measure) (a c : Tx) (kept : List Cell) (sum : ℕ) : Type 0 where
+pub record Sum (m : Measure) (a c : Tx) (kept : List Spent) (sum : ℕ) : Type 0 where
   pub extends : Extends a c
-  pub balance : total (m .of) kept + first (m .atZero) (cells a) ≡ sum + first (m .atZero) (cells c) + total (m .of) (added a c)
-  pub inputs : length (c .inputs) ≡ length (a .inputs) + length kept
+  pub balance : total (m .of) (recordsOf kept) + first (m .atZero) (cells a) ≡ sum + first (m .atZero) (cells c) + total (m .of) (added a c)
+  pub inputs : c .inputs ≡ a .inputs ++ inputsOf kept
 
-pub chain-sum : {m : Measure} {a c : Tx} {kept : List Cell} {sum : ℕ} → Chain m a c kept sum → Sum m a c kept sum
+module _ {m : Measure} {a b : Tx} {records : List Cell} {paid : ℕ} (s : Step m a b records paid) where
+  as-many : length (drop (length (a .inputs)) (b .inputs)) ≡ length records
+  as-many = omega (arith, length-drop (length (a .inputs)) (b .inputs), s .inputs)
+
+  step-records : recordsOf (spentIn a b records) ≡ records
+  step-records = spends-records (drop (length (a .inputs)) (b .inputs)) records as-many
+
+  step-inputs : b .inputs ≡ a .inputs ++ inputsOf (spentIn a b records)
+  step-inputs = prefix-rest (s .extends .inputs) ∙ ap (λ (l : List (List ℕ)). a .inputs ++ l) (sym (spends-inputs (drop (length (a .inputs)) (b .inputs)) records as-many))
+
+pub chain-sum : {m : Measure} {a c : Tx} {kept : List Spent} {sum : ℕ} → Chain m a c kept sum → Sum m a c kept sum
 unfolding total
 chain-sum {m} (stop {a}) = record {
   extends = extends-refl a;
   balance = rw (added-self a) (omega arith);
-  inputs = omega arith;
+  inputs = sym (append-nil (a .inputs));
 }
 chain-sum {m} (step {a} {b} {c} {records} {kept} {paid} {sum} s ch) =
     let r : Sum m b c kept sum = chain-sum ch in
+    let t : total (m .of) (recordsOf (spentIn a b records ++ kept)) ≡ total (m .of) records + total (m .of) (recordsOf kept) =
+        ap (total (m .of)) (records-append (spentIn a b records) kept) ∙ total-append (m .of) (recordsOf (spentIn a b records)) (recordsOf kept)
+        ∙ ap (λ (l : List Cell). total (m .of) l + total (m .of) (recordsOf kept)) (step-records s) in
     record {
       extends = extends-trans (s .extends) (r .extends);
-      balance = omega (arith, s .balance, r .balance, added-split (m .of) (s .extends) (r .extends) (s .settled), total-append (m .of) records kept);
-      inputs = omega (arith, s .inputs, r .inputs, length-append records kept);
+      balance = omega (arith, s .balance, r .balance, added-split (m .of) (s .extends) (r .extends) (s .settled), t);
+      inputs = r .inputs ∙ ap (λ (l : List (List ℕ)). l ++ inputsOf kept) (step-inputs s)
+          ∙ append-assoc (a .inputs) (inputsOf (spentIn a b records)) (inputsOf kept)
+          ∙ ap (λ (l : List (List ℕ)). a .inputs ++ l) (sym (inputs-append (spentIn a b records) kept));
     }

@@ -5,10 +5,11 @@ use native.Mathlib.Omega.{arith}
 use mathlib.Core.Bool.{Bool, true, false, not, _&&_, _||_}
 use mathlib.Core.List.{List, [], _∷_}
 use mathlib.Core.Option.{Option, none, some}
-use lib.ListN.{length}
+use native.Mathlib.Nat.{le-of-suc-le-suc, not-suc-le-zero}
+use lib.ListN.{length, drop, length-drop}
 use lib.Dec.{T, eqb, eqb→eq}
 use Rattle.rules.specs.Outcome.{Outcome, fine, refused, check, checkWith, given, _>>=_, _>>_}
-use Rattle.lists.specs.Lists.{eqBytes, extends}
+use Rattle.lists.specs.Lists.{eqBytes, agree}
 use Rattle.lists.proofs.EqualLaws.{eq-true}
 use Rattle.rules.proofs.Telescope.{Prefix, start, more}
 
@@ -22,13 +23,17 @@ is-true : (b : Bool) → T b → b ≡ true
 is-true true t = refl
 is-true false t = absurd t
 
-pub extends-prefix : (xs ys : List (List ℕ)) → T (extends xs ys) → Prefix xs ys
-unfolding extends
-extends-prefix [] ys t = start
-extends-prefix (x ∷ xs) [] t = absurd t
-extends-prefix (x ∷ xs) (y ∷ ys) t =
-    let (p, q) = both (eqBytes x y) (extends xs ys) t in
-    subst (λ (z : List ℕ). Prefix (x ∷ xs) (z ∷ ys)) (eq-true x y (is-true (eqBytes x y) p)) (more (extends-prefix xs ys q))
+-- a list that is no longer, and has the same at each shared place, is a beginning
+pub agree-prefix : (xs ys : List (List ℕ)) → length xs ≤ length ys → T (agree xs ys) → Prefix xs ys
+unfolding agree
+agree-prefix [] ys h t = start
+agree-prefix (x ∷ xs) [] h t = absurd (not-suc-le-zero h)
+agree-prefix (x ∷ xs) (y ∷ ys) h t =
+    let (p, q) = both (eqBytes x y) (agree xs ys) t in
+    subst (λ (z : List ℕ). Prefix (x ∷ xs) (z ∷ ys)) (eq-true x y (is-true (eqBytes x y) p)) (more (agree-prefix xs ys (le-of-suc-le-suc h) q))
+
+pub drop-more : (xs ys : List (List ℕ)) → length xs ≤ length ys → length (drop 1 xs) ≤ length (drop 1 ys)
+drop-more xs ys h = omega (arith, h, length-drop 1 xs, length-drop 1 ys)
 
 -- ---- checks
 

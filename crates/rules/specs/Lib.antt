@@ -3,3 +3,4 @@ pub mod Judge
 pub mod Outcome
 pub mod Run
 pub mod Surplus
+pub mod Told

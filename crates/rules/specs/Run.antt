@@ -1,24 +1,32 @@
 -- A list of calls: each is judged against the transaction in force that the one before left.
 use Prim.Native.Nat.{ℕ, zero, suc, _+_}
-use mathlib.Core.List.{List, [], _∷_, _++_}
+use mathlib.Core.Path.{_≡_}
+use mathlib.Core.List.{List, [], _∷_, _++_, map}
+use lib.ListN.{length, drop}
 use mathlib.Core.Option.{Option, none, some}
-use lib.IntN.{ℤ}
+use lib.IntN.{ℤ, pos}
 use Rattle.rules.specs.Outcome.{Outcome, fine, refused}
 use Rattle.transaction.specs.Tx.{Tx}
 use Rattle.rules.specs.Cells.{Cell, readRecords}
 use Rattle.rules.specs.Surplus.{Measure, surplus}
-use Rattle.rules.specs.Judge.{Call, Surpluses, judge, txOf, liveCells}
+use Rattle.rules.specs.Judge.{Call, Figures, judge, txOf, liveCells}
 
 -- An entry judges calls C against our bytes, and its acceptances carry S.
 pub record Entry (C S : Type 0) : Type 0 where
   pub judged : List ℕ → C → Outcome S
   pub peerOf : C → List ℕ
-  pub recordsOf : C → List Cell
+  -- the live cells of the records that a call lends; none where they can't be read
+  pub lent : C → List Cell
 
 -- the bytes in force after a verdict: the peer's after an acceptance, ours after a refusal
 abbrev pub handedBack : {S : Type 0} → Outcome S → List ℕ → List ℕ → List ℕ
 handedBack (fine s) ours peer = peer
 handedBack (refused n l) ours peer = ours
+
+-- P holds of each
+abbrev pub All : {A : Type 0} → (A → Type 0) → List A → Type 0
+All P [] = Unit {0}
+All P (x ∷ xs) = P x × All P xs
 
 -- what an acceptance adds, and a refusal does not
 abbrev pub keep : {S A : Type 0} → Outcome S → List A → List A
@@ -35,6 +43,25 @@ abbrev pub sum : List ℕ → ℕ
 sum [] = 0
 sum (n ∷ ns) = n + sum ns
 
+-- an added input, and the cell of the record that was lent for it
+pub record Spent : Type 0 where
+  pub input : List ℕ
+  pub cell : Cell
+
+-- the k-th record belongs to the k-th added input
+abbrev pub spends : List (List ℕ) → List Cell → List Spent
+spends [] cs = []
+spends (i ∷ is) [] = []
+spends (i ∷ is) (c ∷ cs) = record { input = i; cell = c } ∷ spends is cs
+
+abbrev pub inputsOf : List Spent → List (List ℕ)
+inputsOf [] = []
+inputsOf (s ∷ ss) = s .input ∷ inputsOf ss
+
+abbrev pub recordsOf : List Spent → List Cell
+recordsOf [] = []
+recordsOf (s ∷ ss) = s .cell ∷ recordsOf ss
+
 module _ {C S : Type 0} (E : Entry C S) where
   abbrev pub next : List ℕ → C → List ℕ
   next ours c = handedBack (E .judged ours c) ours (E .peerOf c)
@@ -47,16 +74,35 @@ module _ {C S : Type 0} (E : Entry C S) where
   inForce ours [] = ours
   inForce ours (c ∷ cs) = inForce (next ours c) cs
 
-  -- the records of the accepted updates, in order
-  abbrev pub kept : List ℕ → List C → List Cell
+  -- what a call would add to ours
+  abbrev pub spentBy : List ℕ → C → List Spent
+  spentBy ours c = spends (drop (length (txOf ours .inputs)) (txOf (E .peerOf c) .inputs)) (E .lent c)
+
+  -- the inputs that the accepted updates added, with their records, in order
+  abbrev pub kept : List ℕ → List C → List Spent
   kept ours [] = []
-  kept ours (c ∷ cs) = keep (E .judged ours c) (E .recordsOf c) ++ kept (next ours c) cs
+  kept ours (c ∷ cs) = keep (E .judged ours c) (spentBy ours c) ++ kept (next ours c) cs
 
   -- the surplus of each accepted update against the transaction in force before it, over its own records
   abbrev pub steps : Measure → List ℕ → List C → List ℤ
   steps m ours [] = []
   steps m ours (c ∷ cs) =
-      keep (E .judged ours c) (surplus m (txOf ours) (txOf (E .peerOf c)) (E .recordsOf c) ∷ []) ++ steps m (next ours c) cs
+      keep (E .judged ours c) (surplus m (txOf ours) (txOf (E .peerOf c)) (E .lent c) ∷ []) ++ steps m (next ours c) cs
+
+  -- The law for one measure: `pick` takes its surplus from what an acceptance carries.
+  pub record Exact (m : Measure) (pick : S → ℕ) (start : List ℕ) (calls : List C) : Type 0 where
+    -- each accepted update carries the surplus of its own step
+    pub each : map pos (carried pick (verdicts start calls)) ≡ steps m start calls
+    -- which is never negative
+    pub natural : All (λ z. (n : ℕ) × (z ≡ pos n)) (steps m start calls)
+    -- and they sum to the surplus of the transaction then in force against the one at the start, over the records kept, in order
+    pub sums : pos (sum (carried pick (verdicts start calls))) ≡ surplus m (txOf start) (txOf (inForce start calls)) (recordsOf (kept start calls))
+
+-- A list of calls of a program, each given the bytes that the one before handed back. `Called ours c u handed` is what is known of one call: given ours
+-- and c it answered u and handed back those bytes.
+pub data Ran {C U : Type 0} (Called : List ℕ → C → U → List ℕ → Type 0) : List ℕ → List C → List U → List ℕ → Type 0 where
+  stop : {ours : List ℕ} → Ran Called ours [] [] ours
+  call : {ours handed end : List ℕ} {c : C} {cs : List C} {u : U} {us : List U} → Called ours c u handed → Ran Called handed cs us end → Ran Called ours (c ∷ cs) (u ∷ us) end
 
 -- ---- update_for_peer
 
@@ -64,13 +110,9 @@ abbrev pub allCells : Option (List (Option Cell)) → List Cell
 allCells none = []
 allCells (some rs) = liveCells rs
 
--- the live cells of a call's records; none where they can't be read
-abbrev pub recordsIn : Call → List Cell
-recordsIn call = allCells (readRecords (call .records))
-
-abbrev pub updateForPeer : List ℕ → List ℕ → Entry Call Surpluses
+abbrev pub updateForPeer : List ℕ → List ℕ → Entry Call Figures
 updateForPeer lock type = record {
   judged = judge lock type;
   peerOf = λ c. c .peer;
-  recordsOf = recordsIn;
+  lent = λ c. allCells (readRecords (c .records));
 }

@@ -1,4 +1,5 @@
 pub mod Answers
+pub mod CountLaws
 pub mod Examples
 pub mod FeeLaws
 pub mod UnitsLaws

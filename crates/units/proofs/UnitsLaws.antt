@@ -6,8 +6,10 @@ use native.Mathlib.Omega.{arith}
 use lib.Dec.{leb}
 use borrow.Author.Tests.{le-leb, lt-leb, leb-true, leb-false}
 use Rattle.arithmetic.specs.declared.amount.{Amount.Amount, CheckedAmount.CheckedAmount, AmountRead.AmountRead}
-use Rattle.units.specs.declared.{CheckedShannons.CheckedShannons, CheckedTokens.CheckedTokens, TokensRead.TokensRead, Millis.Millis, BlockNumber.BlockNumber}
-use Rattle.units.specs.Units.{inShannons, inTokens, checkedShannons, checkedTokens, tokensRead, later, isAtLeast}
+use Rattle.units.specs.declared.{Shannons.Shannons, CheckedShannons.CheckedShannons, CheckedTokens.CheckedTokens, TokensRead.TokensRead, Millis.Millis, BlockNumber.BlockNumber}
+use Rattle.units.specs.Units.{inShannons, inTokens, checkedShannons, checkedTokens, tokensRead, cappedSum, later, isAtLeast}
+use Rattle.arithmetic.specs.Amount.{value, halves, amountOf, sum}
+use Rattle.arithmetic.proofs.Answers.{sum-is, sum-below, sum-over}
 
 pub shannons-from : {a b : Amount} → a ≡ b → inShannons a ≡ inShannons b
 shannons-from e = ap inShannons e
@@ -39,6 +41,23 @@ tokens-read e f = rw (← e, f)
 pub tokens-short : {r s : AmountRead} → r ≡ s → r ≡ AmountRead.Short → TokensRead.Short ≡ tokensRead s
 unfolding tokensRead
 tokens-short e f = rw (← e, f)
+
+-- ---- a capped sum
+
+pub capped-fits : (a b : Shannons) {r : CheckedAmount} {t : Amount} → r ≡ sum (a .0) (b .0) → r ≡ CheckedAmount.Fits t → inShannons t ≡ cappedSum a b
+unfolding cappedSum
+capped-fits a b {r} {t} e f = ap inShannons (sum-is (a .0) (b .0) e f ∙ ap amountOf (by (2 ^ 128) (value (a .0) + value (b .0)) (sum-below (a .0) (b .0) e f)))
+  where
+    by : (c n : ℕ) → n < c → n ≡ min n (c - 1)
+    by c n h = omega arith
+
+pub capped-over : (a b : Shannons) {r : CheckedAmount} → r ≡ sum (a .0) (b .0) → r ≡ CheckedAmount.Overflow
+    → inShannons (halves 18446744073709551615 18446744073709551615) ≡ cappedSum a b
+unfolding cappedSum
+capped-over a b {r} e f = ap inShannons (ap amountOf (by (2 ^ 128) (value (a .0) + value (b .0)) (sum-over (a .0) (b .0) e f)))
+  where
+    by : (c n : ℕ) → c ≤ n → c - 1 ≡ min n (c - 1)
+    by c n h = omega arith
 
 -- ---- times and block numbers
 

@@ -6,7 +6,7 @@ use arithmetic::AmountRead;
 use arithmetic::CheckedAmount;
 ghost use mathlib.Core.Path.{_≡_};
 ghost use Rattle.arithmetic.specs.Amount.{amountOf, sum, difference, isLess, isSame, isZero, amountAt};
-ghost use Rattle.units.specs.Units.{inShannons, inTokens, checkedShannons, checkedTokens, tokensRead, later, isBefore, isAtLeast};
+ghost use Rattle.units.specs.Units.{inShannons, inTokens, checkedShannons, checkedTokens, tokensRead, cappedSum, later, isBefore, isAtLeast};
 
 // CKB's unit of capacity: 100,000,000 are one CKByte.
 pub struct Shannons(pub Amount);
@@ -59,6 +59,16 @@ impl Shannons {
         match self.0.checked_add(other.0) {
             CheckedAmount::Fits(total) => CheckedShannons::Fits(Shannons(total)),
             CheckedAmount::Overflow => CheckedShannons::Overflow,
+        }
+    }
+
+    // The sum, and the greatest amount where that is wider: a sum of capacities of 64 bits never is.
+    pub fn saturating_add(self, other: Shannons) -> Shannons
+        ensures { λ r. ⌜ r ≡ cappedSum self other ⌝ }
+    {
+        match self.0.checked_add(other.0) {
+            CheckedAmount::Fits(total) => Shannons(total),
+            CheckedAmount::Overflow => Shannons(Amount::MAX),
         }
     }
 
