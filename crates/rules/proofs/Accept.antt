@@ -15,7 +15,7 @@ use Rattle.molecule.specs.Partial.{only}
 use Rattle.molecule.specs.Molecule.{option, readable}
 use Rattle.molecule.proofs.ReadableLaws.{readable-option}
 use Rattle.transaction.specs.Ckb.{Transaction}
-use Rattle.rules.specs.Surplus.{total, first, added, Measure, capacities, capacityOf, amount, amountOf, tokenOf, isOf, hasAmount, tokens, nothing, expected, isEmpty}
+use Rattle.rules.specs.Surplus.{total, first, added, Measure, capacities, capacityOf, amountOf, tokenOf, isOf, hasAmount, tokens, nothing, expected, isEmpty}
 use Rattle.rules.specs.Judge.{Call, Figures, txOf, judge, spent, comparison, live, liveCells, counted, tally, settled, account, growth, fundingOutputDelta, covered, tokenAccount, contribution}
 use Rattle.rules.specs.Run.{All, allCells}
 use Rattle.rules.proofs.Telescope.{Prefix, prefix-length, Settled, with-data, Extends, Step}
@@ -59,14 +59,14 @@ live-all source i (some c ∷ rs) u e =
 
 -- a cell of the type has an amount
 abbrev Read : List ℕ → Cell → Type 0
-Read type c = T (not (isOf type c) || hasAmount (c .cellData))
+Read type c = T (not (isOf type c) || hasAmount c)
 
 counted-is : (type : List ℕ) (sum : ℕ) (c : Cell) (t : ℕ) → counted type sum c ≡ fine t → (t ≡ sum + tokenOf type c) × Read type c
 unfolding counted
 counted-is type sum c t e = by (isOf type c) e
   where
-    by : (b : Bool) → cond b (check 5 (hasAmount (c .cellData)) >> (check 7 (ltb (sum + amountOf c) (2 ^ 128)) >> fine (sum + amountOf c))) (fine sum) ≡ fine t
-        → (t ≡ sum + cond b (amountOf c) 0) × T (not b || hasAmount (c .cellData))
+    by : (b : Bool) → cond b (check 5 (hasAmount c) >> (check 7 (ltb (sum + amountOf c) (2 ^ 128)) >> fine (sum + amountOf c))) (fine sum) ≡ fine t
+        → (t ≡ sum + cond b (amountOf c) 0) × T (not b || hasAmount c)
     by true e =
         let (read, e₁) = check-fine _ _ _ _ e in
         let (small, e₂) = check-fine _ _ _ _ e₁ in
@@ -85,11 +85,15 @@ tally-total type sum (c ∷ cs) t e =
 
 -- an output of the type that is added has its amount when it is added, and no data entry can come to it later
 read-settled : (type : List ℕ) (c : Cell) → Read type c → Settled (tokenOf type) c
-read-settled type c h gone d = by-type (isOf type c) (c .cellData) h gone
+unfolding isOf hasAmount
+read-settled type c h gone d = by-type (isOf type c) h
   where
-    by-type : (b : Bool) (old : List ℕ) → T (not b || hasAmount old) → old ≡ [] → cond b (amount d) 0 ≡ cond b (amount old) 0
-    by-type true old h e = absurd (subst (λ (l : List ℕ). T (hasAmount l)) e h)
-    by-type false old h e = refl
+    none-there : T (hasAmount c) → ⊥
+    none-there t = subst (λ (l : List ℕ). T (leb 16 (length l))) gone t
+
+    by-type : (b : Bool) → T (not b || hasAmount c) → cond b (amountOf (with-data (c .output) d)) 0 ≡ cond b (amountOf c) 0
+    by-type true h = absurd (none-there h)
+    by-type false h = refl
 
 all-settled : (type : List ℕ) (cs : List Cell) → All (Read type) cs → All (Settled (tokenOf type)) cs
 all-settled type [] a = tt
@@ -186,6 +190,10 @@ left-over first gained needed rate bytes paid e =
     let p : gained - needed ≡ paid = fine-inj e₂ in
     omega arith
 
+capacity-free : (cs : List Cell) → All (Settled capacityOf) cs
+unfolding capacityOf
+capacity-free cs = data-free capacityOf (λ _ _. refl) cs
+
 contributed : (type : List ℕ) (ours peer : Tx) (records : List Cell) (rate bytes : ℕ) (s : Figures)
     → contribution type ours peer records rate bytes ≡ fine s
     → Balanced capacities ours peer records (s .capacity) × Balanced (expected type) ours peer records (s .token)
@@ -200,7 +208,7 @@ contributed type ours peer records rate bytes s e =
     let by : growth capacityOf ours peer ≡ delta .capacity = ap (λ (r : Figures). r .capacity) (g .is) in
     let tokenBy : delta .token ≡ cond (isEmpty type) 0 (growth amountOf ours peer) = ap (λ (r : Figures). r .token) (sym (g .is)) in (
       record {
-        settled = data-free capacityOf (λ _ _. refl) (added ours peer);
+        settled = capacity-free (added ours peer);
         balance = omega (arith, left-over _ _ _ _ _ _ c, g .capacity);
       },
       subst (Balanced (expected type) ours peer records) tokenPaid (token-balanced type ours peer records token (ap (λ (n : ℕ). tokenAccount type n records (added ours peer)) (sym tokenBy) ∙ t) (g .amount)),
