@@ -36,7 +36,8 @@ fn added(x: u32, y: u32) -> u32
     y - x
 }
 
-fn added_inputs(ours: &[u8], peer: &[u8]) -> u32
+// How many inputs the peer added.
+pub fn added_inputs(ours: &[u8], peer: &[u8]) -> u32
     ensures { λ r. ⌜ r ≡ length (txAt (now (peer .entry)) .inputs) - length (txAt (now (ours .entry)) .inputs) ⌝ }
 {
     let before = fields::input_count(ours);

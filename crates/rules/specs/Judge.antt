@@ -91,7 +91,7 @@ live source i [] = fine tt
 live source i (none ∷ rs) = refused 5 []
 live source i (some c ∷ rs) = do
   -- lock is our source lock
-  checkWith 6 (i ∷ []) (not (eqBytes source (lockOf (c .output))))
+  checkWith 6 (i ∷ []) (not (hasLock source c))
   live source (suc i) rs
 
 unfoldable pub liveCells : List (Option Cell) → List Cell
