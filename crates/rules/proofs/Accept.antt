@@ -16,7 +16,7 @@ use Rattle.molecule.specs.Molecule.{option, readable}
 use Rattle.molecule.proofs.ReadableLaws.{readable-option}
 use Rattle.transaction.specs.Ckb.{Transaction}
 use Rattle.rules.specs.Surplus.{total, first, added, Measure, capacities, capacityOf, amountOf, tokenOf, isOf, hasAmount, tokens, nothing, expected, isEmpty}
-use Rattle.rules.specs.Judge.{Call, Figures, txOf, judge, spent, comparison, live, liveCells, counted, tally, settled, account, growth, fundingOutputDelta, covered, tokenAccount, contribution}
+use Rattle.rules.specs.Judge.{Call, Figures, txOf, judge, spent, comparison, live, liveCells, counted, tally, settled, account, growth, tokenDelta, fundingOutputDelta, covered, tokenAccount, accounts, contribution}
 use Rattle.rules.specs.Run.{All, allCells}
 use Rattle.rules.proofs.Telescope.{Prefix, prefix-length, Settled, with-data, Extends, Step}
 use Rattle.rules.proofs.Tests.{both, agree-prefix, drop-more, fine-inj, bind-fine, check-fine, checkWith-fine, check-last, then-fine, given-fine, never}
@@ -170,16 +170,34 @@ record Grown (type : List ℕ) (ours peer : Tx) (delta : Figures) : Type 0 where
   pub amount : Grows type ours peer
   pub is : record { capacity = growth capacityOf ours peer; token = cond (isEmpty type) 0 (growth amountOf ours peer) } ≡ delta
 
+-- of a typed update
+token-grown : (ours peer : Tx) (t : ℕ) → tokenDelta ours peer ≡ fine t → T (leb (first amountOf (cells ours)) (first amountOf (cells peer))) × (growth amountOf ours peer ≡ t)
+unfolding tokenDelta
+token-grown ours peer t e =
+    let (oursRead, e₁) = check-fine _ _ _ _ e in
+    let (peerRead, e₂) = check-fine _ _ _ _ e₁ in
+    let (amountGrows, e₃) = check-fine _ _ _ _ e₂ in
+    (amountGrows, fine-inj e₃)
+
+expected-grown : (type : List ℕ) (ours peer : Tx) (t : ℕ) → cond (isEmpty type) (fine 0) (tokenDelta ours peer) ≡ fine t
+    → Grows type ours peer × (cond (isEmpty type) 0 (growth amountOf ours peer) ≡ t)
+unfolding isEmpty
+expected-grown [] ours peer t e = (tt, fine-inj e)
+expected-grown (b ∷ bs) ours peer t e = token-grown ours peer t e
+
 grown : (type : List ℕ) (ours peer : Tx) (delta : Figures) → fundingOutputDelta type ours peer ≡ fine delta → Grown type ours peer delta
 unfolding fundingOutputDelta
 grown type ours peer delta e =
     let (there, e₁) = check-fine _ _ _ _ e in
     let (dataThere, e₂) = check-fine _ _ _ _ e₁ in
     let (capacityGrows, e₃) = check-fine _ _ _ _ e₂ in
-    let (oursRead, e₄) = check-fine _ _ _ _ e₃ in
-    let (peerRead, e₅) = check-fine _ _ _ _ e₄ in
-    let (amountGrows, e₆) = check-fine _ _ _ _ e₅ in
-    record { capacity = leb→le _ _ capacityGrows; amount = amountGrows; is = fine-inj e₆ }
+    let (token, t, e₄) = bind-fine _ _ _ e₃ in
+    let (amountGrows, is) = expected-grown type ours peer token t in
+    record {
+      capacity = leb→le _ _ capacityGrows;
+      amount = amountGrows;
+      is = ap (λ (n : ℕ). record { capacity = growth capacityOf ours peer; token = n }) is ∙ fine-inj e₄;
+    }
 
 left-over : (first : Bool) (gained needed rate bytes paid : ℕ) → covered first gained needed rate bytes ≡ fine paid → gained ≡ paid + needed
 unfolding covered
@@ -197,7 +215,7 @@ capacity-free cs = data-free capacityOf (λ _ _. refl) cs
 contributed : (type : List ℕ) (ours peer : Tx) (records : List Cell) (rate bytes : ℕ) (s : Figures)
     → contribution type ours peer records rate bytes ≡ fine s
     → Balanced capacities ours peer records (s .capacity) × Balanced (expected type) ours peer records (s .token)
-unfolding contribution
+unfolding contribution accounts
 contributed type ours peer records rate bytes s e =
     let (delta, d, e₁) = bind-fine _ _ _ e in
     let (capacity, c, e₂) = bind-fine _ _ _ e₁ in

@@ -113,6 +113,16 @@ spent source ours peer lent = do
 abbrev pub growth : (Cell → ℕ) → Tx → Tx → ℕ
 growth f ours peer = first f (cells peer) - first f (cells ours)
 
+-- the growth of output 0 in tokens
+unfoldable pub tokenDelta : Tx → Tx → Outcome ℕ
+tokenDelta ours peer = do
+  -- our amount, then the peer's, under 16 bytes
+  check 5 (atFirst hasAmount (cells ours))
+  check 5 (atFirst hasAmount (cells peer))
+  -- amount falls
+  check 5 (leb (first amountOf (cells ours)) (first amountOf (cells peer)))
+  fine (growth amountOf ours peer)
+
 -- the growth of output 0, in tokens only where a type is expected
 unfoldable pub fundingOutputDelta : List ℕ → Tx → Tx → Outcome Figures
 fundingOutputDelta type ours peer = do
@@ -121,12 +131,8 @@ fundingOutputDelta type ours peer = do
   check 5 (not (isEmpty (peer .outputsData)))
   -- its capacity falls
   check 5 (leb (first capacityOf (cells ours)) (first capacityOf (cells peer)))
-  -- typed: our amount, then the peer's, under 16 bytes
-  check 5 (isEmpty type || atFirst hasAmount (cells ours))
-  check 5 (isEmpty type || atFirst hasAmount (cells peer))
-  -- amount falls
-  check 5 (isEmpty type || leb (first amountOf (cells ours)) (first amountOf (cells peer)))
-  fine (record { capacity = growth capacityOf ours peer; token = cond (isEmpty type) 0 (growth amountOf ours peer) })
+  token ← cond (isEmpty type) (fine 0) (tokenDelta ours peer)
+  fine (record { capacity = growth capacityOf ours peer; token = token })
 
 -- ours has no inputs and no outputs
 abbrev pub unfunded : Tx → Bool
@@ -178,12 +184,17 @@ account type growth records outs = do
 unfoldable pub tokenAccount : List ℕ → ℕ → List Cell → List Cell → Outcome ℕ
 tokenAccount type growth records outs = cond (isEmpty type) (fine 0) (account type growth records outs)
 
+-- both accounts, with output 0 grown by so much
+unfoldable pub accounts : List ℕ → Tx → Tx → List Cell → ℕ → ℕ → ℕ → ℕ → Outcome Figures
+accounts type ours peer records rate size grown minted = do
+  capacity ← covered (unfunded ours) (total capacityOf records) (grown + total capacityOf (added ours peer)) rate size
+  token ← tokenAccount type minted records (added ours peer)
+  fine (record { capacity = capacity; token = token })
+
 unfoldable pub contribution : List ℕ → Tx → Tx → List Cell → ℕ → ℕ → Outcome Figures
 contribution type ours peer records rate size = do
   delta ← fundingOutputDelta type ours peer
-  capacity ← covered (unfunded ours) (total capacityOf records) (delta .capacity + total capacityOf (added ours peer)) rate size
-  token ← tokenAccount type (delta .token) records (added ours peer)
-  fine (record { capacity = capacity; token = token })
+  accounts type ours peer records rate size (delta .capacity) (delta .token)
 
 -- ---- all
 
