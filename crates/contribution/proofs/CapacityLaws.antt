@@ -86,7 +86,7 @@ module _ {f : ℕ → Cell} {n i : ℕ} {sum : Shannons} {R : ℕ} (h : Sums f n
   unfolding total
   sums-more x {t} l w e s g =
       let c : shannonCount t ≡ shannonCount sum + shannonCount x =
-          capped-near sum x g (room (2 ^ 128) (2 ^ 64) (shannonCount sum) (shannonCount x) i n (below n w) (h .far) s l) in
+      capped-near sum x g (room (2 ^ 128) (2 ^ 64) (shannonCount sum) (shannonCount x) i n (below n w) (h .far) s l) in
       let z : total capacityOf (span f i (n - i)) ≡ capacityOf (f i) + total capacityOf (span f (i + 1) (n - (i + 1))) = ap (total capacityOf) (span-on f i n l) in
       record { rest = by (shannonCount t) (shannonCount sum) (shannonCount x) _ _ _ c e z ∙ h .rest; far = up (2 ^ 64) (shannonCount t) (shannonCount sum) (shannonCount x) i c (h .far) s }
     where

@@ -75,7 +75,14 @@ fn is_unfunded(ours: &[u8]) -> bool
 }
 
 // What is left of what the records brought in over growth and added outputs, which pays the fee of a first update.
-fn cover(opening: bool, gained: Shannons, grown: Shannons, put: Shannons, rate: u64, size: u64) -> CapacitySurplus
+fn cover(
+    opening: bool,
+    gained: Shannons,
+    grown: Shannons,
+    put: Shannons,
+    rate: u64,
+    size: u64,
+) -> CapacitySurplus
     ensures { λ r. ⌜ inCapacity r ≡ covered opening (shannonCount gained) (shannonCount grown + shannonCount put) rate size ⌝ }
 {
     let rest = match gained.checked_sub(grown) {
@@ -102,7 +109,14 @@ fn cover(opening: bool, gained: Shannons, grown: Shannons, put: Shannons, rate: 
 }
 
 // The surplus in capacity, with output 0 grown by so much.
-pub fn surplus(ours: &[u8], peer: &[u8], records: &[u8], grown: Shannons, rate: u64, size: u64) -> CapacitySurplus
+pub fn surplus(
+    ours: &[u8],
+    peer: &[u8],
+    records: &[u8],
+    grown: Shannons,
+    rate: u64,
+    size: u64,
+) -> CapacitySurplus
     ensures { λ r. ⌜ inCapacity r ≡ covered (unfunded (txAt (now (ours .entry)))) (total capacityOf (recordCells (now (records .entry)))) (shannonCount grown + total capacityOf (added (txAt (now (ours .entry))) (txAt (now (peer .entry))))) rate size ⌝ }
 {
     let opening = is_unfunded(ours);

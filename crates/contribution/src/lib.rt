@@ -27,10 +27,7 @@ ghost use Rattle.contribution.specs.Answers.{rise, delta};
 
 // By how much output 0 grows, in tokens only where a type is expected. `Invalid` is the refusal 5.
 pub enum OutputDelta {
-    Grows {
-        capacity: Shannons,
-        token: Tokens,
-    },
+    Grows { capacity: Shannons, token: Tokens },
     Invalid,
 }
 
@@ -160,11 +157,25 @@ fn surpluses(
 }
 
 // Whether the cells that the peer's added inputs spend cover the growth of output 0 and the outputs that it added, and the fee of a first update.
-pub fn verify_peer_funding_contribution(udt: &[u8], ours: &[u8], peer: &[u8], records: &[u8], rate: u64) -> Update
+pub fn verify_peer_funding_contribution(
+    udt: &[u8],
+    ours: &[u8],
+    peer: &[u8],
+    records: &[u8],
+    rate: u64,
+) -> Update
     ensures { λ r. ⌜ told r ≡ contribution (now (udt .entry)) (txAt (now (ours .entry))) (txAt (now (peer .entry))) (recordCells (now (records .entry))) rate (length (now (peer .entry)) + 4) ⌝ }
 {
     match funding_output_delta(udt, ours, peer) {
-        OutputDelta::Grows { capacity, token } => surpluses(udt, ours, peer, records, rate, capacity, token),
+        OutputDelta::Grows { capacity, token } => surpluses(
+            udt,
+            ours,
+            peer,
+            records,
+            rate,
+            capacity,
+            token,
+        ),
         OutputDelta::Invalid => Update::Refused(Refusal::InvalidPeerFundingTx),
     }
 }

@@ -49,7 +49,13 @@ pub fn update_for_peer(
         return Update::Refused(Refusal::InvalidPeerFundingTx);
     }
     match records::resolve(source, ours, peer, records) {
-        Resolved::Live => contribution::verify_peer_funding_contribution(udt, ours, peer, records, rate),
+        Resolved::Live => contribution::verify_peer_funding_contribution(
+            udt,
+            ours,
+            peer,
+            records,
+            rate,
+        ),
         Resolved::Refused(e) => Update::Refused(e),
     }
 }

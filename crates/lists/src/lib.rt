@@ -4,6 +4,9 @@ ghost use lib.ListN.{drop};
 ghost use Rattle.molecule.specs.Layout.{fixItem, fixItems, itemOf, itemsOf, entryOf, entriesOf};
 ghost use Rattle.lists.specs.Lists.{eqBytes, extends, contains, containsAll};
 
+// Item 0 is the funding cell's, which a peer may change.
+const FIRST_COMPARED: usize = 1;
+
 // Whether a and b hold the same bytes. The loop has no early exit, so that it is compiled to wide comparisons.
 pub fn same(a: &[u8], b: &[u8]) -> bool
     ensures { λ r. ⌜ r ≡ eqBytes (now (a .entry)) (now (b .entry)) ⌝ }
@@ -108,7 +111,7 @@ pub fn items_extend(a: &[u8], b: &[u8]) -> bool
 {
     let m = molecule::item_count(a) as usize;
     let n = molecule::item_count(b) as usize;
-    let mut i = 1;
+    let mut i = FIRST_COMPARED;
     while i < m {
         if n <= i {
             return false;
@@ -127,7 +130,7 @@ pub fn entries_extend(a: &[u8], b: &[u8]) -> bool
 {
     let m = molecule::item_count(a) as usize;
     let n = molecule::item_count(b) as usize;
-    let mut i = 1;
+    let mut i = FIRST_COMPARED;
     while i < m {
         if n <= i {
             return false;
