@@ -11,8 +11,8 @@ use Rattle.molecule.specs.Partial.{only, pick}
 use Rattle.molecule.specs.Items.{join}
 use Rattle.molecule.specs.Layout.{part}
 use Rattle.rules.specs.Cells.{Cell}
-use Rattle.rules.specs.Outcome.{refused}
-use Rattle.rules.specs.Judge.{Call, judge}
+use Rattle.rules.specs.Outcome.{Outcome, refused}
+use Rattle.rules.specs.Judge.{Call, Figures, judge}
 use Rattle.verdict_line.specs.VerdictLine.{lineOf}
 
 -- what is read at a place, and the place after it; a step that finds no such thing ends the reading
@@ -115,10 +115,9 @@ unfoldable pub caseOf : List ℕ → Option Case
 caseOf s = only (leb (length s) 65536) (readCase s)
 
 -- any other shape is 3, before all else
-unfoldable pub verdictLine : Option Case → List ℕ
-verdictLine none = lineOf (refused 3 [])
-verdictLine (some c) =
-    lineOf (judge (c .lock) (c .type) (c .ours) (record { peer = c .peer; records = recordList (c .records); source = c .source; rate = c .rate }))
+unfoldable pub verdictOf : Option Case → Outcome Figures
+verdictOf none = refused 3 []
+verdictOf (some c) = judge (c .lock) (c .type) (c .ours) (record { peer = c .peer; records = recordList (c .records); source = c .source; rate = c .rate })
 
 unfoldable pub caseLine : List ℕ → List ℕ
-caseLine s = verdictLine (caseOf s)
+caseLine s = lineOf (verdictOf (caseOf s))
