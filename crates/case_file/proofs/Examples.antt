@@ -13,7 +13,7 @@ use Rattle.rules.specs.Cells.{readOurs}
 use Rattle.rules.specs.Outcome.{given}
 use Rattle.rules.specs.Outcome as verdict
 use Rattle.rules.specs.Judge.{judge}
-use Rattle.verdict_line.specs.VerdictLine.{digit, digits, decimal, spaced, lineOf}
+use Rattle.verdict_line.specs.VerdictLine.{digit, digits, decimal, spaced, refusedWith, lineOf}
 use Rattle.case_file.specs.CaseFile.{_>>=_, kindAt, lengthAt, allZero, itemAt, optionalAt, deadAt, cellAt, recordAt, recordsFrom, recordBytes, recordList, readCase, caseOf, verdictOf, caseLine}
 
 -- items 2, 3 and 5 of length 0, and a rate of 7
@@ -30,12 +30,12 @@ shortest-case = refl
 
 -- its line is "2": the peer's bytes are no transaction
 shortest-line : caseLine (scripts ++ rate) ≡ 50 ∷ 10 ∷ []
-unfolding caseLine verdictOf caseOf readCase only pick optionalAt itemAt _>>=_ kindAt lengthAt numAt le part allZero recordsFrom judge readOurs readTx given verdict._>>=_ readable there decode bind split lineOf decimal digits digit spaced
+unfolding caseLine verdictOf caseOf readCase only pick optionalAt itemAt _>>=_ kindAt lengthAt numAt le part allZero recordsFrom judge readOurs readTx given verdict._>>=_ readable there decode bind split lineOf refusedWith decimal digits digit spaced
 shortest-line = refl
 
 -- the empty file is no case: "3"
 no-bytes : caseLine [] ≡ 51 ∷ 10 ∷ []
-unfolding caseLine verdictOf caseOf readCase only pick optionalAt itemAt _>>=_ kindAt numAt lineOf decimal digits digit spaced
+unfolding caseLine verdictOf caseOf readCase only pick optionalAt itemAt _>>=_ kindAt numAt lineOf refusedWith decimal digits digit spaced
 no-bytes = refl
 
 -- a body of one byte and its padding, with our transaction and the type in their places; a cell, and one that is not live

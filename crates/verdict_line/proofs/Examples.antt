@@ -4,7 +4,7 @@ use mathlib.Core.List.{List, [], _∷_}
 use Prim.Native.Nat.{ℕ, _-_, _^_}
 use Rattle.molecule.specs.Partial.{pick}
 use Rattle.rules.specs.Outcome.{fine, refused}
-use Rattle.verdict_line.specs.VerdictLine.{digit, hex, digits, decimal, spaced, lineOf}
+use Rattle.verdict_line.specs.VerdictLine.{digit, hex, digits, decimal, spaced, accepted, refusedWith, lineOf}
 
 -- 0, 10, and the greatest number of 64 bits
 zero : decimal 0 ≡ 48 ∷ []
@@ -26,17 +26,17 @@ hex-four = refl
 
 -- "6 2": an input's index follows the number
 our-lock : lineOf (refused 6 (2 ∷ [])) ≡ 54 ∷ 32 ∷ 50 ∷ 10 ∷ []
-unfolding lineOf spaced decimal digits digit pick
+unfolding lineOf refusedWith spaced decimal digits digit pick
 our-lock = refl
 
 -- "8 204 205 1000 205"
 low-fee : lineOf (refused 8 (204 ∷ 205 ∷ 1000 ∷ 205 ∷ []))
     ≡ 56 ∷ 32 ∷ 50 ∷ 48 ∷ 52 ∷ 32 ∷ 50 ∷ 48 ∷ 53 ∷ 32 ∷ 49 ∷ 48 ∷ 48 ∷ 48 ∷ 32 ∷ 50 ∷ 48 ∷ 53 ∷ 10 ∷ []
-unfolding lineOf spaced decimal digits digit pick
+unfolding lineOf refusedWith spaced decimal digits digit pick
 low-fee = refl
 
 -- "0 000000000000000000000000000000cd"
-accepted : lineOf (fine (record { capacity = 205; token = 7 }))
+surplus : lineOf (fine (record { capacity = 205; token = 7 }))
     ≡ 48 ∷ 32 ∷ 48 ∷ 48 ∷ 48 ∷ 48 ∷ 48 ∷ 48 ∷ 48 ∷ 48 ∷ 48 ∷ 48 ∷ 48 ∷ 48 ∷ 48 ∷ 48 ∷ 48 ∷ 48 ∷ 48 ∷ 48 ∷ 48 ∷ 48 ∷ 48 ∷ 48 ∷ 48 ∷ 48 ∷ 48 ∷ 48 ∷ 48 ∷ 48 ∷ 48 ∷ 48 ∷ 99 ∷ 100 ∷ 10 ∷ []
-unfolding lineOf hex digit
-accepted = refl
+unfolding lineOf accepted hex digit
+surplus = refl

@@ -31,6 +31,14 @@ unfoldable pub spaced : List ℕ → List ℕ
 spaced [] = []
 spaced (v ∷ vs) = 32 ∷ decimal v ++ spaced vs
 
+-- 0 and the surplus
+unfoldable pub accepted : ℕ → List ℕ
+accepted surplus = 48 ∷ 32 ∷ hex 32 surplus ++ 10 ∷ []
+
+-- the number and the values
+unfoldable pub refusedWith : ℕ → List ℕ → List ℕ
+refusedWith number values = decimal number ++ spaced values ++ 10 ∷ []
+
 unfoldable pub lineOf : Outcome Figures → List ℕ
-lineOf (fine surplus) = 48 ∷ 32 ∷ hex 32 (surplus .capacity) ++ 10 ∷ []
-lineOf (refused number values) = decimal number ++ spaced values ++ 10 ∷ []
+lineOf (fine surplus) = accepted (surplus .capacity)
+lineOf (refused number values) = refusedWith number values
