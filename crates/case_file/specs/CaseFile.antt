@@ -40,6 +40,9 @@ bodyEnd s at = at + 4 + lengthAt s at
 abbrev pub itemEnd : List ℕ → ℕ → ℕ
 itemEnd s at = at + 4 + (lengthAt s at + 3) / 4 * 4
 
+abbrev pub bodyAt : List ℕ → ℕ → List ℕ
+bodyAt s at = part s (at + 4) (bodyEnd s at)
+
 unfoldable pub allZero : List ℕ → Bool
 allZero [] = true
 allZero (b ∷ s) = pick (eqb b 0) (allZero s) false
@@ -51,11 +54,15 @@ itemAt s kind at =
     (only (eqb (kindAt s at) kind)
     (only (leb (itemEnd s at) (length s))
     (only (allZero (part s (bodyEnd s at) (itemEnd s at)))
-    (some (record { got = part s (at + 4) (bodyEnd s at); next = itemEnd s at })))))
+    (some (record { got = bodyAt s at; next = itemEnd s at })))))
 
 -- one that may be missing: then it is empty
 unfoldable pub optionalAt : List ℕ → ℕ → ℕ → Option (Read (List ℕ))
 optionalAt s kind at = pick (eqb (kindAt s at) kind) (itemAt s kind at) (some (record { got = []; next = at }))
+
+-- a fee rate: 8 bytes
+unfoldable pub rateAt : List ℕ → ℕ → Option (Read (List ℕ))
+rateAt s at = only (eqb (lengthAt s at) 8) (itemAt s 6 at)
 
 -- ---- records
 
@@ -103,10 +110,10 @@ readCase s = do
   ours ← optionalAt s 1 0
   peer ← itemAt s 2 (ours .next)
   lock ← itemAt s 3 (peer .next)
-  -- 4 type (may be missing), 5 source lock, 6 fee rate (8 bytes)
+  -- 4 type (may be missing), 5 source lock, 6 fee rate
   type ← optionalAt s 4 (lock .next)
   source ← itemAt s 5 (type .next)
-  rate ← only (eqb (lengthAt s (source .next)) 8) (itemAt s 6 (source .next))
+  rate ← rateAt s (source .next)
   -- then per record 7 output and 8 data, or 9 not live
   records ← recordsFrom (length s) s (rate .next)
   some (record { ours = ours .got; peer = peer .got; lock = lock .got; type = type .got; source = source .got; rate = u64At (rate .got) 0; records = records })

@@ -1,1 +1,3 @@
 // Case files.
+mod items;
+mod records;
