@@ -1,21 +1,16 @@
 -- Every known outcome is what the definitions compute.
 use mathlib.Core.Path.{_≡_, refl}
-use mathlib.Core.List.{flatten}
-use mathlib.Core.Option.{bind}
-use Rattle.arithmetic.specs.LittleEndian.{le, toLe, numAt}
-use Rattle.units.specs.Fee.{requiredFee, changeCapacity}
-use Rattle.molecule.specs.Partial.{only, pick, there, both, each, All}
-use Rattle.molecule.specs.Items.{join, unwords, offsets, words, cuts, items, split}
-use Rattle.molecule.specs.Molecule.{encode, size, chunks, pieces, oneByte, decode, readable}
-use Rattle.molecule.specs.Layout.{part, word, start, span, fieldOf, itemCount, itemOf, fixItem, content, entryOf}
-use Rattle.lists.specs.Lists.{eqBytes, agree, contains, containsAll}
-use Rattle.transaction.specs.Tx.{rawField, witnessesOf, readTx, capacityOf, lockOf, typeOf, firstOf, dataOf}
-use Rattle.rules.specs.Cells.{readOurs, recordAt, readRecords}
-use Rattle.rules.specs.Outcome.{check, checkWith, given, _>>=_, _>>_}
-use Rattle.rules.specs.Surplus.{isEmpty, total, first, amount}
-use Rattle.rules.specs.Judge.{judge, scripts, limits, atFirst, comparison, live, liveCells, spent, fundingOutputDelta, covered, counted, tally, settled, account, tokenAccount, contribution}
-use Rattle.known_outcomes.specs.Outcomes.{Outcome, outcomes}
+use mathlib.Core.List.{List}
+use Prim.Native.Nat.{ℕ}
+use Rattle.molecule.specs.Partial.{All}
+use Rattle.known_outcomes.specs.Outcomes.{Outcome, outcomes, smaller, largest}
+use Rattle.known_outcomes.proofs.Computing.{computing}
+use Rattle.known_outcomes.proofs.Largest.{bytes-pass, bytes-over}
+use Rattle.known_outcomes.proofs.Rows.{each-row, and-rows}
 
-pub known-outcomes : All (λ (o : Outcome). o .computed ≡ o .expected) outcomes
-unfolding encode join unwords offsets flatten toLe requiredFee changeCapacity le numAt only pick there both each words cuts items split size chunks pieces oneByte decode readable bind part word start span fieldOf itemCount itemOf fixItem content entryOf eqBytes agree contains containsAll rawField witnessesOf readTx capacityOf lockOf typeOf firstOf dataOf readOurs recordAt readRecords check checkWith given _>>=_ _>>_ isEmpty total first amount judge scripts limits atFirst comparison live liveCells spent fundingOutputDelta covered counted tally settled account tokenAccount contribution
-known-outcomes = (refl, (refl, (refl, (refl, (refl, (refl, (refl, (refl, (refl, (refl, (refl, (refl, (refl, (refl, tt))))))))))))))
+abbrev Holds : Outcome → Type 0
+Holds o = o .computed ≡ o .expected
+
+pub known-outcomes : All Holds outcomes
+unfolding computing
+known-outcomes = and-rows Holds smaller largest (each-row (λ o. o .computed) (λ o. o .expected) smaller refl) (bytes-pass, (bytes-over, tt))

@@ -1,1 +1,6 @@
+pub mod Computing
+pub mod KnownLines
 pub mod KnownOutcomes
+pub mod Largest
+pub mod LinesLaw
+pub mod Rows

@@ -1,2 +1,4 @@
+pub mod Alone
 pub mod Cases
+pub mod Lines
 pub mod Outcomes

@@ -1,0 +1,20 @@
+-- All that the cases compute with: a proof that unfolds `computing` unfolds every definition on its line.
+use mathlib.Core.List.{flatten}
+use mathlib.Core.Option.{bind}
+use Rattle.arithmetic.specs.LittleEndian.{le, toLe, numAt}
+use Rattle.units.specs.Fee.{requiredFee, changeCapacity}
+use Rattle.molecule.specs.Partial.{only, pick, there, both, each}
+use Rattle.molecule.specs.Items.{join, unwords, offsets, words, cuts, items, split}
+use Rattle.molecule.specs.Molecule.{encode, size, chunks, pieces, oneByte, decode, readable}
+use Rattle.molecule.specs.Layout.{part, word, start, span, fieldOf, itemCount, itemOf, fixItem, content, entryOf}
+use Rattle.lists.specs.Lists.{eqBytes, agree, contains, containsAll}
+use Rattle.transaction.specs.Tx.{rawField, witnessesOf, readTx, capacityOf, lockOf, typeOf, firstOf, dataOf}
+use Rattle.rules.specs.Cells.{readOurs, recordAt, readRecords}
+use Rattle.rules.specs.Outcome.{check, checkWith, given, _>>=_, _>>_}
+use Rattle.rules.specs.Surplus.{isEmpty, total, first, amount}
+use Rattle.rules.specs.Judge.{judge, scripts, limits, atFirst, comparison, live, liveCells, spent, fundingOutputDelta, covered, counted, tally, settled, account, tokenAccount, contribution}
+use Rattle.known_outcomes.specs.Lines.{ruled, scriptLines, limitLines, comparisonLines, recordLines, deltaLines, coveredLines, cellLines, tallyLines, settledLines, tokenLines, contributionLines, spentLines, allLines, lines}
+
+unfoldable pub computing : Unit {0}
+unfolding encode join unwords offsets flatten toLe requiredFee changeCapacity le numAt only pick there both each words cuts items split size chunks pieces oneByte decode readable bind part word start span fieldOf itemCount itemOf fixItem content entryOf eqBytes agree contains containsAll rawField witnessesOf readTx capacityOf lockOf typeOf firstOf dataOf readOurs recordAt readRecords check checkWith given _>>=_ _>>_ isEmpty total first amount judge scripts limits atFirst comparison live liveCells spent fundingOutputDelta covered counted tally settled account tokenAccount contribution ruled scriptLines limitLines comparisonLines recordLines deltaLines coveredLines cellLines tallyLines settledLines tokenLines contributionLines spentLines allLines lines
+computing = tt
