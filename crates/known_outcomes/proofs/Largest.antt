@@ -3,7 +3,6 @@ use mathlib.Core.Path.{_≡_, refl}
 use mathlib.Core.List.{[], _∷_}
 use Rattle.known_outcomes.specs.Cases.{untyped, crowd}
 use Rattle.known_outcomes.specs.Outcomes.{answer}
-use Rattle.known_outcomes.specs.Alone.{failingIn}
 use Rattle.known_outcomes.proofs.Computing.{computing}
 
 pub bytes-pass : answer (untyped [] (crowd 1 1 0 132907)) ≡ 0 ∷ 199900 ∷ 0 ∷ []
@@ -13,8 +12,3 @@ bytes-pass = refl
 pub bytes-over : answer (untyped [] (crowd 1 1 0 132908)) ≡ 4 ∷ []
 unfolding computing
 bytes-over = refl
-
--- and no other line fails there
-pub bytes-fail : failingIn (untyped [] (crowd 1 1 0 132908)) ≡ "size over 133,120" ∷ []
-unfolding computing
-bytes-fail = refl

@@ -1,4 +1,2 @@
-pub mod Alone
 pub mod Cases
-pub mod Lines
 pub mod Outcomes

@@ -17,7 +17,7 @@ use Rattle.rules.specs.Cells.{Cell, readOurs, readRecords}
 use Rattle.rules.specs.Outcome.{Outcome, fine, refused, check, checkWith, given, _>>=_, _>>_}
 use Rattle.rules.specs.Surplus.{total, added, capacityOf, amountOf, tokenOf, isOf, hasAmount, isEmpty}
 use Rattle.rules.specs.Judge.{Call, Figures, judge, scripts, limits, comparison, live, liveCells, spent, growth, unfunded, fundingOutputDelta, covered, counted, tally, settled, account, tokenAccount, contribution}
-use Rattle.known_outcomes.specs.Lines.{Line, line, ruled, scriptLines, limitLines, comparisonLines, recordLines, deltaLines, coveredLines, cellLines, tallyLines, settledLines, tokenLines, contributionLines, spentLines, allLines, lines, surpluses, recordsAt}
+use Rattle.known_lines.specs.Lines.{Line, line, ruled, scriptLines, limitLines, comparisonLines, recordLines, deltaLines, coveredLines, cellLines, tallyLines, settledLines, tokenLines, contributionLines, spentLines, allLines, lines, surpluses, recordsAt}
 
 -- ---- lines one after another
 
