@@ -11,9 +11,9 @@ use Rattle.lists.specs.Lists.{eqBytes, agree, contains, containsAll}
 use Rattle.transaction.specs.Tx.{rawField, witnessesOf, readTx, capacityOf, lockOf, typeOf, firstOf, dataOf}
 use Rattle.rules.specs.Cells.{readOurs, recordAt, readRecords}
 use Rattle.rules.specs.Outcome.{check, checkWith, given, _>>=_, _>>_}
-use Rattle.rules.specs.Surplus.{isEmpty, total, first, amount}
-use Rattle.rules.specs.Judge.{judge, scripts, limits, atFirst, comparison, live, liveCells, spent, fundingOutputDelta, covered, counted, tally, settled, account, tokenAccount, contribution}
+use Rattle.rules.specs.Surplus.{isEmpty, total, first, amount, surplus}
+use Rattle.rules.specs.Judge.{judge, txOf, scripts, limits, atFirst, comparison, live, liveCells, spent, fundingOutputDelta, covered, counted, tally, settled, account, tokenAccount, contribution}
 
 unfoldable pub computing : Unit {0}
-unfolding encode join unwords offsets flatten toLe requiredFee changeCapacity le numAt only pick there both each words cuts items split size chunks pieces oneByte decode readable bind part word start span fieldOf itemCount itemOf fixItem content entryOf eqBytes agree contains containsAll rawField witnessesOf readTx capacityOf lockOf typeOf firstOf dataOf readOurs recordAt readRecords check checkWith given _>>=_ _>>_ isEmpty total first amount judge scripts limits atFirst comparison live liveCells spent fundingOutputDelta covered counted tally settled account tokenAccount contribution
+unfolding encode join unwords offsets flatten toLe requiredFee changeCapacity le numAt only pick there both each words cuts items split size chunks pieces oneByte decode readable bind part word start span fieldOf itemCount itemOf fixItem content entryOf eqBytes agree contains containsAll rawField witnessesOf readTx capacityOf lockOf typeOf firstOf dataOf readOurs recordAt readRecords check checkWith given _>>=_ _>>_ isEmpty total first amount surplus judge txOf scripts limits atFirst comparison live liveCells spent fundingOutputDelta covered counted tally settled account tokenAccount contribution
 computing = tt

@@ -1,2 +1,4 @@
 pub mod Cases
+pub mod Decided
 pub mod Outcomes
+pub mod Runs
