@@ -1,0 +1,10 @@
+use Rattle.case_file.proofs.Ways.{ways}
+use Rattle.case_file.proofs.items.kind_at.Statement.{statement}
+use Rattle.case_file.proofs.items.kind_at.Tie as tie
+
+pub kind-at-spec : {M : Type 1} → statement M
+kind-at-spec =
+    tie.close
+    (tie.spec
+    (λ c κs. search ways)  -- u32-at-requires
+    (λ c. search ways))  -- returns

@@ -1,0 +1,2 @@
+pub mod CaseFile
+pub mod Walk

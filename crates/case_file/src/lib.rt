@@ -1,0 +1,3 @@
+// Case files.
+mod items;
+mod records;

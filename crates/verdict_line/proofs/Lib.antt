@@ -1,0 +1,4 @@
+pub mod DigitLaws
+pub mod Examples
+pub mod LineLaws
+pub mod Ways
