@@ -2,7 +2,7 @@
 -- paper says. proofs/KnownOutcomes.antt proves all rows at once.
 use Prim.Native.Nat.{ℕ, _+_, _-_, _^_}
 use mathlib.Core.List.{List, [], _∷_, _++_}
-use lib.ListN.{length}
+use lib.ListN.{length, replicate}
 use Rattle.units.specs.declared.{Shannons.Shannons, CheckedShannons.CheckedShannons}
 use Rattle.arithmetic.specs.Amount.{value}
 use Rattle.units.specs.Fee.{requiredFee, changeCapacity}
@@ -11,7 +11,9 @@ use Rattle.transaction.specs.Ckb.{CellOutput}
 use Rattle.rules.specs.Outcome as verdict
 use Rattle.rules.specs.Judge.{Figures}
 use mathlib.Core.Option.{none}
-use Rattle.known_outcomes.specs.Cases.{expectedLock, inputs, output, plain, token, amount, spending, crowd, cell, notLive, atRate, offer, Case, untyped, typed, judged}
+use Rattle.case_file.specs.CaseFile.{caseLine}
+use Rattle.known_outcomes.specs.CaseFiles.{ascii, file, fileAt, firstFile}
+use Rattle.known_outcomes.specs.Cases.{expectedLock, tokenType, inputs, output, plain, token, amount, spending, crowd, cell, notLive, atRate, offer, Case, untyped, typed, judged}
 
 pub record Outcome : Type 0 where
   pub computed : List ℕ
@@ -53,11 +55,39 @@ emptyTx = spending [] [] []
 abbrev pub peerTx : List ℕ
 peerTx = spending (inputs 1) (plain 10000000000 ∷ []) ([] ∷ [])
 
+-- so many outputs of 100 shannons
+abbrev pub outputsTx : ℕ → List ℕ
+outputsTx n = spending (inputs 1) (replicate n (plain 100)) (replicate n [])
+
+-- so many inputs
+abbrev pub inputsTx : ℕ → List ℕ
+inputsTx n = spending (inputs n) (plain 100 ∷ []) ([] ∷ [])
+
+-- two inputs, and 5 tokens at output 0
+abbrev pub tokensTx : List ℕ
+tokensTx = spending (inputs 2) (token 100 ∷ []) (amount 5 ∷ [])
+
 -- bytes 133,116 and 133,117: the limits pass and refuse
 abbrev pub largest : List Outcome
 largest =
     (answer (untyped [] (crowd 1 1 0 132907)) gives 0 ∷ 199900 ∷ 0 ∷ [])
     ∷ (answer (untyped [] (crowd 1 1 0 132908)) gives 4 ∷ [])
+    ∷ []
+
+abbrev pub files : List Outcome
+files =
+    -- the first cases as case files, with the line that the check program prints: the words of the file's items are the paper's
+    (file [] [] peerTx (cell (plain 10000000205) [] ∷ []) gives firstFile peerTx)
+    ∷ (caseLine (firstFile peerTx) gives ascii "0 000000000000000000000000000000cd\n")
+    ∷ (caseLine (file [] [] peerTx (cell (plain 10000000204) [] ∷ [])) gives ascii "8 204 205 1000 205\n")
+    ∷ (caseLine (fileAt 1005 [] [] peerTx (cell (plain 10000000205) [] ∷ [])) gives ascii "8 205 206 1005 205\n")
+    ∷ (caseLine (file peerTx [] peerTx []) gives ascii "0 00000000000000000000000000000000\n")
+    -- 3 and 4 outputs
+    ∷ (caseLine (file [] [] (outputsTx 3) (cell (plain 200000) [] ∷ [])) gives ascii "0 00000000000000000000000000030c14\n")
+    ∷ (caseLine (file [] [] (outputsTx 4) (cell (plain 200000) [] ∷ [])) gives ascii "4\n")
+    -- a record under our lock, and two that sum to 2^128
+    ∷ (caseLine (file (inputsTx 2) [] (inputsTx 4) (cell (output 1 none 5) [] ∷ notLive ∷ [])) gives ascii "6 2\n")
+    ∷ (caseLine (file [] tokenType tokensTx (cell (token 1000) (amount (2 ^ 128 - 1)) ∷ cell (token 1000) (amount 1) ∷ [])) gives ascii "7\n")
     ∷ []
 
 abbrev pub smaller : List Outcome
@@ -87,12 +117,12 @@ smaller =
     ∷ (answer (untyped [] (crowd 1 1 8 0)) gives 0 ∷ 199900 ∷ 0 ∷ [])
     ∷ (answer (untyped [] (crowd 1 1 9 0)) gives 4 ∷ [])
     -- ours 2 inputs, added record 0 under our lock, record 1 not live: 6 2
-    ∷ (answer (untyped (spending (inputs 2) (plain 100 ∷ []) ([] ∷ [])) (offer (spending (inputs 4) (plain 100 ∷ []) ([] ∷ [])) (cell (output 1 none 5) [] ∷ notLive ∷ []))) gives 6 ∷ 2 ∷ [])
+    ∷ (answer (untyped (inputsTx 2) (offer (inputsTx 4) (cell (output 1 none 5) [] ∷ notLive ∷ []))) gives 6 ∷ 2 ∷ [])
     -- token records 2^128 - 1 and 1: 7
-    ∷ (answer (typed [] (offer (spending (inputs 2) (token 100 ∷ []) (amount 5 ∷ [])) (cell (token 1000) (amount (2 ^ 128 - 1)) ∷ cell (token 1000) (amount 1) ∷ []))) gives 7 ∷ [])
+    ∷ (answer (typed [] (offer tokensTx (cell (token 1000) (amount (2 ^ 128 - 1)) ∷ cell (token 1000) (amount 1) ∷ []))) gives 7 ∷ [])
     -- lock args 20, type args 32: change capacity 14,200,000,000
     ∷ (ifFits (changeCapacity 20 32) gives 14200000000 ∷ [])
     ∷ []
 
 abbrev pub outcomes : List Outcome
-outcomes = smaller ++ largest
+outcomes = smaller ++ files ++ largest
