@@ -7,7 +7,7 @@ use Rattle.molecule.specs.Molecule.{Value, encode}
 use Rattle.transaction.specs.Ckb.{Byte32, CellDep, CellInput, CellOutput, Records}
 use Rattle.rules.specs.Judge.{Call}
 use Rattle.known_lines.specs.Lines.{lines, failing}
-use Rattle.known_outcomes.specs.Cases.{expectedLock, ourLock, tokenType, input, dep, header, inputs, output, plain, token, amount, transaction, spending, crowd, cell, notLive, offer, Case, untyped, typed}
+use Rattle.known_outcomes.specs.Cases.{expectedLock, ourLock, tokenType, input, dep, header, inputs, output, plain, token, amount, transaction, spending, usual, holding, crowd, cell, notLive, offer, Case, untyped, typed}
 
 -- a case, the lines that fail in it, and the answer
 pub record Row : Type 0 where
@@ -22,7 +22,7 @@ alone line answer c = record { fails = line ∷ []; answer = answer; case = c }
 abbrev together : List String → List ℕ → Case → Row
 together lines answer c = record { fails = lines; answer = answer; case = c }
 
--- ---- a transaction of one input and one output of 100 shannons, but for one part
+-- ---- the usual transaction, of one input and one output of 100 shannons, but for one part
 
 abbrev ofVersion : ℕ → List ℕ
 ofVersion n = transaction n [] [] (inputs 1) (plain 100 ∷ []) ([] ∷ []) []
@@ -39,19 +39,12 @@ withInputs is = spending is (plain 100 ∷ []) ([] ∷ [])
 abbrev withOutputs : List (Value CellOutput) → List (List ℕ) → List ℕ
 withOutputs os es = spending (inputs 1) os es
 
-abbrev usual : List ℕ
-usual = withInputs (inputs 1)
-
--- it holds tokens
-abbrev holding : ℕ → List ℕ
-holding n = withOutputs (token 100 ∷ []) (amount n ∷ [])
-
--- it goes on to itself under other scripts
+-- an update to itself under other scripts
 abbrev under : List ℕ → List ℕ → List ℕ → Case
 under lock type source =
     record { lock = lock; type = type; ours = holding 0; call = record { peer = holding 0; records = encode Records []; source = source; rate = 1000 } }
 
--- it goes on to itself with any bytes for records
+-- an update to itself with any bytes for records
 abbrev lending : List ℕ → Call
 lending bytes = record { peer = usual; records = bytes; source = ourLock; rate = 1000 }
 
@@ -118,7 +111,7 @@ tokens =
     alone "a record's amount under 16 bytes" (5 ∷ []) (typed (holding 5) (offer (spending (inputs 2) (token 100 ∷ []) (amount 5 ∷ [])) (cell (token 7) [] ∷ [])))
     ∷ alone "the records' total 2^128 or more" (7 ∷ []) (typed (holding 5) (offer (spending (inputs 3) (token 100 ∷ []) (amount 5 ∷ [])) (cell (token 7) (amount (2 ^ 128 - 1)) ∷ cell (token 7) (amount 1) ∷ [])))
     ∷ alone "an added output's amount under 16 bytes" (5 ∷ []) (typed (holding 5) (offer (spending (inputs 2) (token 100 ∷ token 7 ∷ []) (amount 5 ∷ [] ∷ [])) (cell (plain 7) [] ∷ [])))
-    -- growth plus outputs is no less than the outputs, and no readable total of records reaches it
+    -- growth plus outputs is no less than the outputs, and records that pass their own line come to less than 2^128
     ∷ together ("the added outputs' total 2^128 or more" ∷ "growth plus outputs 2^128 or more" ∷ "token inputs below growth plus outputs" ∷ []) (7 ∷ []) (typed (holding 5) (offer (spending (inputs 2) (token 100 ∷ token 7 ∷ token 7 ∷ []) (amount 5 ∷ amount (2 ^ 128 - 1) ∷ amount 1 ∷ [])) (cell (plain 14) [] ∷ [])))
     ∷ together ("growth plus outputs 2^128 or more" ∷ "token inputs below growth plus outputs" ∷ []) (7 ∷ []) (typed (holding 5) (offer (spending (inputs 2) (token 100 ∷ token 7 ∷ []) (amount 6 ∷ amount (2 ^ 128 - 1) ∷ [])) (cell (plain 7) [] ∷ [])))
     ∷ alone "token inputs below growth plus outputs" (5 ∷ []) (typed (holding 5) (offer (holding 6) []))

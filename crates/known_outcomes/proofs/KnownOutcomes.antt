@@ -9,5 +9,6 @@ use Rattle.known_outcomes.proofs.Rows.{_and_, done}
 pub known-outcomes : All (λ (o : Outcome). o .computed ≡ o .expected) outcomes
 unfolding computing
 known-outcomes =
-    refl and refl and refl and refl and refl and refl and refl and refl and refl and refl and refl and refl and refl and refl and refl and refl and refl and refl and refl and refl and refl and refl and refl and refl and refl and refl and refl and refl
-    and bytes-pass and bytes-over and done
+    refl and refl and refl and refl and refl and refl and refl and refl and refl and refl and refl and refl and refl
+    and refl and refl and refl and refl and refl and refl and refl and refl and bytes-pass and bytes-over and refl
+    and refl and refl and done

@@ -65,6 +65,13 @@ transaction version ds hs is os es ws = encode Transaction ((toLe 4 version, (ds
 abbrev pub spending : List (Value CellInput) → List (Value CellOutput) → List (List ℕ) → List ℕ
 spending is os es = transaction 0 [] [] is os es []
 
+-- one input and one output of 100 shannons; the same holding tokens
+abbrev pub usual : List ℕ
+usual = spending (inputs 1) (plain 100 ∷ []) ([] ∷ [])
+
+abbrev pub holding : ℕ → List ℕ
+holding n = spending (inputs 1) (token 100 ∷ []) (amount n ∷ [])
+
 -- ---- records
 
 abbrev pub cell : Value CellOutput → List ℕ → Value (option Record)
