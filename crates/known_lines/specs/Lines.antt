@@ -14,7 +14,7 @@ use Rattle.transaction.specs.Ckb.{Script, Transaction, Records}
 use Rattle.transaction.specs.Tx.{Tx, txAt, lockOf, typeOf}
 use Rattle.units.specs.Fee.{feeShannons}
 use Rattle.rules.specs.Cells.{Cell, cells, recordAt}
-use Rattle.rules.specs.Outcome.{Outcome, fine, checkWith, _>>_}
+use Rattle.rules.specs.Outcome.{Outcome, checkWith, _>>_}
 use Rattle.rules.specs.Surplus.{total, first, added, capacityOf, amountOf, tokenOf, isOf, hasAmount, isEmpty}
 use Rattle.rules.specs.Judge.{Call, Figures, atFirst, growth, unfunded, liveCells}
 

@@ -1,1 +1,2 @@
-// No code: each line of the rules' table as a test of its own, and a case in which it alone fails.
+// The rules' table as a list of lines: proofs/LinesLaw.antt proves that an update is refused with the first line that fails, and specs/Alone.antt has for
+// each line a case in which it alone fails.

@@ -8,7 +8,7 @@ use Rattle.molecule.specs.Items.{join}
 use Rattle.molecule.specs.Molecule.{Value, option, encode}
 use Rattle.transaction.specs.Ckb.{CellOutput, Record, Records}
 use Rattle.rules.specs.Judge.{Call}
-use Rattle.known_outcomes.specs.Cases.{plainScript, expectedLock, ourLock, tokenType, input, inputs, dep, deps, output, plain, token, amount, transaction, spending, usual, holding, cell, notLive, atRate, offer, Case, untyped, typed}
+use Rattle.known_outcomes.specs.Cases.{plainScript, expectedLock, ourLock, input, inputs, dep, deps, output, plain, token, amount, transaction, spending, usual, holding, cell, notLive, atRate, offer, untyped, typed}
 use Rattle.known_outcomes.specs.Outcomes.{Outcome, _gives_, answer, emptyTx, peerTx}
 
 -- an update that adds one input to `usual` or to `holding`: the outputs then, their data, and the record

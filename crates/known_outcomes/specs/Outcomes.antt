@@ -92,7 +92,7 @@ outcomes =
     -- from none, 3 outputs pass the limits, 4 get 4
     ∷ (caseLine (file [] [] (outputsTx 3) (cell (plain 200000) [] ∷ [])) gives ascii "0 00000000000000000000000000030c14\n")
     ∷ (caseLine (file [] [] (outputsTx 4) (cell (plain 200000) [] ∷ [])) gives ascii "4\n")
-    -- inputs 64 and 65, deps 8 and 9, bytes 133,116 and 133,117 likewise
+    -- inputs 64 and 65, deps 8 and 9, bytes 133,116 and 133,117 (209 and the witness) likewise
     ∷ (answer (untyped [] (crowd 64 1 0 0)) gives 0 ∷ 12799900 ∷ 0 ∷ [])
     ∷ (answer (untyped [] (crowd 65 1 0 0)) gives 4 ∷ [])
     ∷ (answer (untyped [] (crowd 1 1 8 0)) gives 0 ∷ 199900 ∷ 0 ∷ [])
