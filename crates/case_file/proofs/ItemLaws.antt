@@ -8,7 +8,7 @@ use native.Mathlib.Numerals.{add-one}
 use native.Mathlib.Omega.{arith}
 use borrow.Author.Tests.{le-leb, lt-leb, eq-eqb, ne-eqb, not-true, not-false}
 use lib.Dec.{leb, eqb}
-use lib.ListN.{length, take, drop, getD, drop-of-length-le}
+use lib.ListN.{length, take, drop, getD, length-take, length-drop, drop-of-length-le}
 use lib.Seq.{drop-cons, take-nil}
 use Rattle.arithmetic.specs.LittleEndian.{u32At, numAt}
 use Rattle.molecule.specs.Partial.{only, pick}
@@ -43,6 +43,10 @@ body-past s at h e = e ∙ part-empty s ∙ sym (part-past s (at + 4) (bodyEnd s
 
 pub body-is : (s : List ℕ) (at : ℕ) {n : ℕ} {r : List ℕ} → n ≡ lengthAt s at → r ≡ part s (at + 4) (at + 4 + n) → r ≡ bodyAt s at
 body-is s at e f = f ∙ rw e
+
+pub part-short : (s : List ℕ) (from to : ℕ) {r : List ℕ} → length s ≤ 65536 → r ≡ part s from to → length r ≤ 65536
+unfolding part
+part-short s from to h e = rw e (simp (length-take, length-drop) (omega arith))
 
 pub missing-body : (s : List ℕ) (kind at : ℕ) {k : ℕ} {r : List ℕ} → k ≡ kindAt s at → (k ≡ kind → ⊥) → r ≡ part s 0 0 → r ≡ optionalBody s kind at
 unfolding optionalBody pick
@@ -86,7 +90,7 @@ only-none true = refl
 only-none false = refl
 
 module _ (s : List ℕ) (kind at : ℕ) where
-  no-word : leb (at + 4) (length s) ≡ false → itemAt s kind at ≡ none
+  pub no-word : leb (at + 4) (length s) ≡ false → itemAt s kind at ≡ none
   unfolding itemAt only
   no-word h = rw h
 

@@ -1,3 +1,5 @@
 pub mod Examples
 pub mod ItemLaws
+pub mod ListLaws
+pub mod RecordLaws
 pub mod Ways

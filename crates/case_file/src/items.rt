@@ -37,6 +37,7 @@ pub fn length_at(s: &[u8], at: usize) -> u32
 pub fn body(s: &[u8], at: usize) -> &[u8]
     requires { ⌜ length (now s) ≤ 65536 ⌝ }
     ensures { λ r. ⌜ now r ≡ bodyAt (now (s .entry)) at ⌝ }
+    ensures { λ r. ⌜ length (now r) ≤ 65536 ⌝ }
 {
     if s.len() < at {
         return molecule::part(s, 0, 0);

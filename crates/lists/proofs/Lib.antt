@@ -1,3 +1,4 @@
+pub mod AgreeLaws
 pub mod EqualLaws
 pub mod LoopLaws
 pub mod RunLaws

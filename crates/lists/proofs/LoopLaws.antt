@@ -6,7 +6,8 @@ use mathlib.Core.Bool.{Bool, true, false, not, _&&_, cond}
 use native.Mathlib.Omega.{arith}
 use borrow.Author.Tests.{not-true, not-false}
 use lib.ListN.{length, drop}
-use Rattle.molecule.specs.Layout.{span}
+use native.Mathlib.Nat.{le-of-suc-le-suc, not-suc-le-zero, zero-add, add-zero}
+use Rattle.molecule.specs.Layout.{span, fixCount, fixItem, fixItems}
 use Rattle.lists.specs.Lists.{eqBytes, extends, contains, containsAll}
 use Rattle.lists.proofs.SpanLaws.{span-on, span-end, span-drop, span-whole}
 
@@ -59,6 +60,29 @@ module _ {x : List ℕ} {g : ℕ → List ℕ} {n i : ℕ} {R : Bool} (h : Seek 
     unfolding contains
     seek-found t = sym (h .rest ∙ rw (span-on g i n k, ← ey, ← e, t))
 
+-- an item that stands at a place is there
+at-place : (x : List ℕ) (g : ℕ → List ℕ) (i j k : ℕ) → i < k → eqBytes x (g (j + i)) ≡ true → contains x (span g j k) ≡ true
+unfolding contains span
+at-place x g i j zero h e = absurd (not-suc-le-zero h)
+at-place x g zero j (suc k) h e = rw (ap (λ (n : ℕ). eqBytes x (g n)) (sym (add-zero j)) ∙ e)
+at-place x g (suc i) j (suc k) h e =
+    let q : j + suc i ≡ suc j + i = omega arith in
+    by (eqBytes x (g j)) (at-place x g i (suc j) k (le-of-suc-le-suc h) (ap (λ (n : ℕ). eqBytes x (g n)) (sym q) ∙ e))
+  where
+    by : (b : Bool) → contains x (span g (suc j) k) ≡ true → cond b true (contains x (span g (suc j) k)) ≡ true
+    by true h = refl
+    by false h = h
+
+pub same-place : (b : List ℕ) (k i : ℕ) {x y : List ℕ} {n : ℕ} {r : Bool} (X : List ℕ) → x ≡ X → n ≡ fixCount b → i < n → y ≡ fixItem b k i → r ≡ eqBytes x y → r ≡ true
+    → true ≡ contains X (fixItems k b)
+same-place b k i {x} {y} {n} X ex en h ey er t =
+    let c : fixCount b ≡ n = sym en in
+    sym (at-place X (fixItem b k) i 0 (fixCount b) (rw c h) (ap₂ eqBytes (sym ex) (ap (fixItem b k) (zero-add i) ∙ sym ey) ∙ sym er ∙ t))
+
+-- looked for everywhere
+pub any-place : (b : List ℕ) (k : ℕ) {x : List ℕ} {r : Bool} (X : List ℕ) → x ≡ X → r ≡ contains x (fixItems k b) → r ≡ contains X (fixItems k b)
+any-place b k X ex h = h ∙ ap (λ (l : List ℕ). contains l (fixItems k b)) ex
+
 -- and for `containsAll`
 pub record Among (f : ℕ → List ℕ) (ys : List (List ℕ)) (m i : ℕ) (R : Bool) : Type 0 where
   pub rest : R ≡ containsAll (span f i (m - i)) ys
@@ -71,11 +95,11 @@ module _ {f : ℕ → List ℕ} {ys : List (List ℕ)} {m i : ℕ} {R : Bool} (h
   unfolding containsAll
   among-end l = sym (h .rest ∙ rw (span-end f i m l))
 
-  module _ {x : List ℕ} {r : Bool} (k : i < m) (ex : x ≡ f i) (e : r ≡ contains x ys) where
+  module _ {r : Bool} (k : i < m) (e : r ≡ contains (f i) ys) where
     pub among-more : not r ≡ false → Among f ys m (i + 1) R
     unfolding containsAll
-    among-more t = record { rest = h .rest ∙ rw (span-on f i m k, ← ex, ← e, not-false r t) }
+    among-more t = record { rest = h .rest ∙ rw (span-on f i m k, ← e, not-false r t) }
 
     pub among-stop : not r ≡ true → false ≡ R
     unfolding containsAll
-    among-stop t = sym (h .rest ∙ rw (span-on f i m k, ← ex, ← e, not-true r t))
+    among-stop t = sym (h .rest ∙ rw (span-on f i m k, ← e, not-true r t))

@@ -1,8 +1,11 @@
 // Lists compared item by item: the peer's list goes on from ours, or holds all of ours.
 ghost use mathlib.Core.Path.{_≡_};
 ghost use lib.ListN.{drop};
-ghost use Rattle.molecule.specs.Layout.{fixItems, itemOf, itemsOf, entryOf, entriesOf};
+ghost use Rattle.molecule.specs.Layout.{fixItem, fixItems, itemOf, itemsOf, entryOf, entriesOf};
 ghost use Rattle.lists.specs.Lists.{eqBytes, extends, contains, containsAll};
+
+// Item 0 is the funding cell's, which a peer may change.
+const FIRST_COMPARED: usize = 1;
 
 // Whether a and b hold the same bytes. The loop has no early exit, so that it is compiled to wide comparisons.
 pub fn same(a: &[u8], b: &[u8]) -> bool
@@ -54,6 +57,21 @@ pub fn fix_has(b: &[u8], k: u32, x: &[u8]) -> bool
     false
 }
 
+// Item i of a is in b: the same place is looked at first, since that is where it stands in most lists.
+fn fix_has_item(a: &[u8], b: &[u8], k: u32, i: usize) -> bool
+    ensures { λ r. ⌜ r ≡ contains (fixItem (now (a .entry)) k i) (fixItems k (now (b .entry))) ⌝ }
+{
+    let x = molecule::fix_item(a, k, i);
+    let n = molecule::fix_count(b) as usize;
+    if i < n {
+        let y = molecule::fix_item(b, k, i);
+        if same(x, y) {
+            return true;
+        }
+    }
+    fix_has(b, k, x)
+}
+
 // Each item of a is in b.
 pub fn fix_has_all(a: &[u8], b: &[u8], k: u32) -> bool
     ensures { λ r. ⌜ r ≡ containsAll (fixItems k (now (a .entry))) (fixItems k (now (b .entry))) ⌝ }
@@ -61,8 +79,7 @@ pub fn fix_has_all(a: &[u8], b: &[u8], k: u32) -> bool
     let m = molecule::fix_count(a) as usize;
     let mut i = 0;
     while i < m {
-        let x = molecule::fix_item(a, k, i);
-        if !fix_has(b, k, x) {
+        if !fix_has_item(a, b, k, i) {
             return false;
         }
         i += 1;
@@ -94,7 +111,7 @@ pub fn items_extend(a: &[u8], b: &[u8]) -> bool
 {
     let m = molecule::item_count(a) as usize;
     let n = molecule::item_count(b) as usize;
-    let mut i = 1;
+    let mut i = FIRST_COMPARED;
     while i < m {
         if n <= i {
             return false;
@@ -113,7 +130,7 @@ pub fn entries_extend(a: &[u8], b: &[u8]) -> bool
 {
     let m = molecule::item_count(a) as usize;
     let n = molecule::item_count(b) as usize;
-    let mut i = 1;
+    let mut i = FIRST_COMPARED;
     while i < m {
         if n <= i {
             return false;

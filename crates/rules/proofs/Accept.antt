@@ -15,8 +15,8 @@ use Rattle.molecule.specs.Partial.{only}
 use Rattle.molecule.specs.Molecule.{option, readable}
 use Rattle.molecule.proofs.ReadableLaws.{readable-option}
 use Rattle.transaction.specs.Ckb.{Transaction}
-use Rattle.rules.specs.Surplus.{total, first, added, Measure, capacities, capacityOf, amount, amountOf, tokenOf, isOf, hasAmount, tokens, nothing, expected, isEmpty}
-use Rattle.rules.specs.Judge.{Call, Figures, txOf, judge, spent, comparison, live, liveCells, counted, tally, settled, account, growth, fundingOutputDelta, covered, tokenAccount, contribution}
+use Rattle.rules.specs.Surplus.{total, first, added, Measure, capacities, capacityOf, amountOf, tokenOf, isOf, hasAmount, tokens, nothing, expected, isEmpty}
+use Rattle.rules.specs.Judge.{Call, Figures, txOf, judge, spent, comparison, live, liveCells, counted, tally, settled, account, growth, tokenDelta, fundingOutputDelta, covered, tokenAccount, accounts, contribution}
 use Rattle.rules.specs.Run.{All, allCells}
 use Rattle.rules.proofs.Telescope.{Prefix, prefix-length, Settled, with-data, Extends, Step}
 use Rattle.rules.proofs.Tests.{both, agree-prefix, drop-more, fine-inj, bind-fine, check-fine, checkWith-fine, check-last, then-fine, given-fine, never}
@@ -59,14 +59,14 @@ live-all source i (some c ∷ rs) u e =
 
 -- a cell of the type has an amount
 abbrev Read : List ℕ → Cell → Type 0
-Read type c = T (not (isOf type c) || hasAmount (c .cellData))
+Read type c = T (not (isOf type c) || hasAmount c)
 
 counted-is : (type : List ℕ) (sum : ℕ) (c : Cell) (t : ℕ) → counted type sum c ≡ fine t → (t ≡ sum + tokenOf type c) × Read type c
 unfolding counted
 counted-is type sum c t e = by (isOf type c) e
   where
-    by : (b : Bool) → cond b (check 5 (hasAmount (c .cellData)) >> (check 7 (ltb (sum + amountOf c) (2 ^ 128)) >> fine (sum + amountOf c))) (fine sum) ≡ fine t
-        → (t ≡ sum + cond b (amountOf c) 0) × T (not b || hasAmount (c .cellData))
+    by : (b : Bool) → cond b (check 5 (hasAmount c) >> (check 7 (ltb (sum + amountOf c) (2 ^ 128)) >> fine (sum + amountOf c))) (fine sum) ≡ fine t
+        → (t ≡ sum + cond b (amountOf c) 0) × T (not b || hasAmount c)
     by true e =
         let (read, e₁) = check-fine _ _ _ _ e in
         let (small, e₂) = check-fine _ _ _ _ e₁ in
@@ -85,11 +85,15 @@ tally-total type sum (c ∷ cs) t e =
 
 -- an output of the type that is added has its amount when it is added, and no data entry can come to it later
 read-settled : (type : List ℕ) (c : Cell) → Read type c → Settled (tokenOf type) c
-read-settled type c h gone d = by-type (isOf type c) (c .cellData) h gone
+unfolding isOf hasAmount
+read-settled type c h gone d = by-type (isOf type c) h
   where
-    by-type : (b : Bool) (old : List ℕ) → T (not b || hasAmount old) → old ≡ [] → cond b (amount d) 0 ≡ cond b (amount old) 0
-    by-type true old h e = absurd (subst (λ (l : List ℕ). T (hasAmount l)) e h)
-    by-type false old h e = refl
+    none-there : T (hasAmount c) → ⊥
+    none-there t = subst (λ (l : List ℕ). T (leb 16 (length l))) gone t
+
+    by-type : (b : Bool) → T (not b || hasAmount c) → cond b (amountOf (with-data (c .output) d)) 0 ≡ cond b (amountOf c) 0
+    by-type true h = absurd (none-there h)
+    by-type false h = refl
 
 all-settled : (type : List ℕ) (cs : List Cell) → All (Read type) cs → All (Settled (tokenOf type)) cs
 all-settled type [] a = tt
@@ -166,16 +170,34 @@ record Grown (type : List ℕ) (ours peer : Tx) (delta : Figures) : Type 0 where
   pub amount : Grows type ours peer
   pub is : record { capacity = growth capacityOf ours peer; token = cond (isEmpty type) 0 (growth amountOf ours peer) } ≡ delta
 
+-- of a typed update
+token-grown : (ours peer : Tx) (t : ℕ) → tokenDelta ours peer ≡ fine t → T (leb (first amountOf (cells ours)) (first amountOf (cells peer))) × (growth amountOf ours peer ≡ t)
+unfolding tokenDelta
+token-grown ours peer t e =
+    let (oursRead, e₁) = check-fine _ _ _ _ e in
+    let (peerRead, e₂) = check-fine _ _ _ _ e₁ in
+    let (amountGrows, e₃) = check-fine _ _ _ _ e₂ in
+    (amountGrows, fine-inj e₃)
+
+expected-grown : (type : List ℕ) (ours peer : Tx) (t : ℕ) → cond (isEmpty type) (fine 0) (tokenDelta ours peer) ≡ fine t
+    → Grows type ours peer × (cond (isEmpty type) 0 (growth amountOf ours peer) ≡ t)
+unfolding isEmpty
+expected-grown [] ours peer t e = (tt, fine-inj e)
+expected-grown (b ∷ bs) ours peer t e = token-grown ours peer t e
+
 grown : (type : List ℕ) (ours peer : Tx) (delta : Figures) → fundingOutputDelta type ours peer ≡ fine delta → Grown type ours peer delta
 unfolding fundingOutputDelta
 grown type ours peer delta e =
     let (there, e₁) = check-fine _ _ _ _ e in
     let (dataThere, e₂) = check-fine _ _ _ _ e₁ in
     let (capacityGrows, e₃) = check-fine _ _ _ _ e₂ in
-    let (oursRead, e₄) = check-fine _ _ _ _ e₃ in
-    let (peerRead, e₅) = check-fine _ _ _ _ e₄ in
-    let (amountGrows, e₆) = check-fine _ _ _ _ e₅ in
-    record { capacity = leb→le _ _ capacityGrows; amount = amountGrows; is = fine-inj e₆ }
+    let (token, t, e₄) = bind-fine _ _ _ e₃ in
+    let (amountGrows, is) = expected-grown type ours peer token t in
+    record {
+      capacity = leb→le _ _ capacityGrows;
+      amount = amountGrows;
+      is = ap (λ (n : ℕ). record { capacity = growth capacityOf ours peer; token = n }) is ∙ fine-inj e₄;
+    }
 
 left-over : (first : Bool) (gained needed rate bytes paid : ℕ) → covered first gained needed rate bytes ≡ fine paid → gained ≡ paid + needed
 unfolding covered
@@ -186,10 +208,14 @@ left-over first gained needed rate bytes paid e =
     let p : gained - needed ≡ paid = fine-inj e₂ in
     omega arith
 
+capacity-free : (cs : List Cell) → All (Settled capacityOf) cs
+unfolding capacityOf
+capacity-free cs = data-free capacityOf (λ _ _. refl) cs
+
 contributed : (type : List ℕ) (ours peer : Tx) (records : List Cell) (rate bytes : ℕ) (s : Figures)
     → contribution type ours peer records rate bytes ≡ fine s
     → Balanced capacities ours peer records (s .capacity) × Balanced (expected type) ours peer records (s .token)
-unfolding contribution
+unfolding contribution accounts
 contributed type ours peer records rate bytes s e =
     let (delta, d, e₁) = bind-fine _ _ _ e in
     let (capacity, c, e₂) = bind-fine _ _ _ e₁ in
@@ -200,7 +226,7 @@ contributed type ours peer records rate bytes s e =
     let by : growth capacityOf ours peer ≡ delta .capacity = ap (λ (r : Figures). r .capacity) (g .is) in
     let tokenBy : delta .token ≡ cond (isEmpty type) 0 (growth amountOf ours peer) = ap (λ (r : Figures). r .token) (sym (g .is)) in (
       record {
-        settled = data-free capacityOf (λ _ _. refl) (added ours peer);
+        settled = capacity-free (added ours peer);
         balance = omega (arith, left-over _ _ _ _ _ _ c, g .capacity);
       },
       subst (Balanced (expected type) ours peer records) tokenPaid (token-balanced type ours peer records token (ap (λ (n : ℕ). tokenAccount type n records (added ours peer)) (sym tokenBy) ∙ t) (g .amount)),

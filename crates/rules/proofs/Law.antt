@@ -11,7 +11,7 @@ use Rattle.transaction.specs.Tx.{Tx}
 use Rattle.rules.specs.Cells.{Cell, readOurs, cells}
 use Rattle.rules.specs.Surplus.{total, first, added, Measure, surplus}
 use Rattle.rules.specs.Judge.{txOf}
-use Rattle.rules.specs.Run.{Entry, handedBack, keep, carried, sum, next, verdicts, inForce, All, spentBy, kept, inputsOf, recordsOf, steps, Exact, Ran, call}
+use Rattle.rules.specs.Run.{Entry, handedBack, keep, carried, sum, next, verdicts, inForce, All, spentBy, kept, inputsOf, recordsOf, steps, NotNegative, Exact, Ran, call}
 use Rattle.rules.specs.Run as run
 use Rattle.rules.proofs.Telescope.{Step, Chain, stop, step, Sum, chain-sum}
 use Rattle.rules.proofs.Whole.{whole}
@@ -51,7 +51,7 @@ module _ {C S : Type 0} (E : Entry C S) where
     each-step [] start = refl
     each-step (c ∷ cs) start = each-turn start c cs (E .judged start c) refl (each-step cs)
 
-    all-natural : (ns : List ℕ) → All (λ (z : ℤ). (n : ℕ) × (z ≡ pos n)) (map pos ns)
+    all-natural : (ns : List ℕ) → All NotNegative (map pos ns)
     all-natural [] = tt
     all-natural (n ∷ ns) = ((n, refl), all-natural ns)
 
@@ -60,10 +60,10 @@ module _ {C S : Type 0} (E : Entry C S) where
     total-surplus {a} {c} {ss} {paid} s =
         whole (total (m .of) (recordsOf ss)) (first (m .atZero) (cells a)) paid (first (m .atZero) (cells c)) (total (m .of) (added a c)) (s .balance)
 
-    pub exact : (start : List ℕ) (calls : List C) → Exact E m pick start calls
+    pub exact : (start : List ℕ) (calls : List C) → Exact E m pick start calls (verdicts E start calls) (inForce E start calls)
     exact start calls = record {
       each = each-step calls start;
-      natural = subst (All (λ (z : ℤ). (n : ℕ) × (z ≡ pos n))) (each-step calls start) (all-natural (carried pick (verdicts E start calls)));
+      natural = subst (All NotNegative) (each-step calls start) (all-natural (carried pick (verdicts E start calls)));
       sums = total-surplus (chain-sum (chain calls start));
     }
 

@@ -180,8 +180,8 @@ chain-sum {m} (stop {a}) = record {
 chain-sum {m} (step {a} {b} {c} {records} {kept} {paid} {sum} s ch) =
     let r : Sum m b c kept sum = chain-sum ch in
     let t : total (m .of) (recordsOf (spentIn a b records ++ kept)) ≡ total (m .of) records + total (m .of) (recordsOf kept) =
-        ap (total (m .of)) (records-append (spentIn a b records) kept) ∙ total-append (m .of) (recordsOf (spentIn a b records)) (recordsOf kept)
-        ∙ ap (λ (l : List Cell). total (m .of) l + total (m .of) (recordsOf kept)) (step-records s) in
+    ap (total (m .of)) (records-append (spentIn a b records) kept) ∙ total-append (m .of) (recordsOf (spentIn a b records)) (recordsOf kept)
+    ∙ ap (λ (l : List Cell). total (m .of) l + total (m .of) (recordsOf kept)) (step-records s) in
     record {
       extends = extends-trans (s .extends) (r .extends);
       balance = omega (arith, s .balance, r .balance, added-split (m .of) (s .extends) (r .extends) (s .settled), t);

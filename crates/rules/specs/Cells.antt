@@ -7,9 +7,9 @@ use lib.ListN.{length, getD, drop}
 use lib.Dec.{eqb}
 use Rattle.molecule.specs.Partial.{only}
 use Rattle.molecule.specs.Molecule.{option, readable}
-use Rattle.molecule.specs.Layout.{span, itemCount, itemOf}
+use Rattle.molecule.specs.Layout.{span, itemCount, itemOf, entryOf}
 use Rattle.transaction.specs.Ckb.{Transaction, Records}
-use Rattle.transaction.specs.Tx.{Tx, txAt, firstOf, dataOf}
+use Rattle.transaction.specs.Tx.{Tx, txAt, rawField, firstOf, dataOf}
 
 -- an output's bytes with its data: a resolved record, or an output of a transaction with its data entry
 pub record Cell : Type 0 where
@@ -23,6 +23,10 @@ pair (o ∷ os) ds = record { output = o; cellData = getD ds 0 [] } ∷ pair os 
 
 abbrev pub cells : Tx → List Cell
 cells t = pair (t .outputs) (t .outputsData)
+
+-- output i of a transaction with its data
+unfoldable pub cellAt : List ℕ → ℕ → Cell
+cellAt s i = record { output = itemOf (rawField s 4) i; cellData = entryOf (rawField s 5) i }
 
 -- our transaction, which may be none
 unfoldable pub readOurs : List ℕ → Option Tx
@@ -38,3 +42,10 @@ recordAt s i = cond (eqb (length (itemOf s i)) 0) none (some (recordCell (itemOf
 
 unfoldable pub readRecords : List ℕ → Option (List (Option Cell))
 readRecords s = only (readable Records s) (some (span (recordAt s) 0 (itemCount s)))
+
+-- the cells of records that are all live
+unfoldable pub recordCellAt : List ℕ → ℕ → Cell
+recordCellAt s i = recordCell (itemOf s i)
+
+abbrev pub recordCells : List ℕ → List Cell
+recordCells s = span (recordCellAt s) 0 (itemCount s)

@@ -9,7 +9,7 @@ use Rattle.lists.specs.Lists.{eqBytes, agree, containsAll}
 use Rattle.molecule.specs.Molecule.{option, readable}
 use Rattle.transaction.specs.Ckb.{Script}
 use Rattle.units.specs.Fee.{feeShannons}
-use Rattle.transaction.specs.Tx.{Tx, txAt, lockOf, typeOf, readTx}
+use Rattle.transaction.specs.Tx.{Tx, txAt, lockOf, readTx}
 use Rattle.rules.specs.Cells.{Cell, cells, readOurs, readRecords}
 use Rattle.rules.specs.Outcome.{Outcome, fine, refused, check, checkWith, given, _>>=_, _>>_}
 use Rattle.rules.specs.Surplus.{total, first, added, capacityOf, amountOf, isOf, hasAmount, isEmpty}
@@ -50,6 +50,12 @@ unfoldable pub atFirst : (Cell → Bool) → List Cell → Bool
 atFirst test [] = true
 atFirst test (c ∷ cs) = test c
 
+unfoldable pub hasLock : List ℕ → Cell → Bool
+hasLock lock c = eqBytes lock (lockOf (c .output))
+
+unfoldable pub noDataUntyped : List ℕ → Cell → Bool
+noDataUntyped type c = not (isEmpty type) || isEmpty (c .cellData)
+
 unfoldable pub comparison : List ℕ → List ℕ → Tx → Tx → Outcome (Unit {0})
 comparison lock type ours peer = do
   -- version differs
@@ -66,9 +72,9 @@ comparison lock type ours peer = do
   -- fewer outputs
   check 5 (leb (length (ours .outputs)) (length (peer .outputs)))
   -- output 0 present with lock or type not as expected, or untyped with data
-  check 5 (atFirst (λ c. eqBytes lock (lockOf (c .output))) (cells peer))
-  check 5 (atFirst (λ c. eqBytes type (typeOf (c .output))) (cells peer))
-  check 5 (atFirst (λ c. not (isEmpty type) || isEmpty (c .cellData)) (cells peer))
+  check 5 (atFirst (hasLock lock) (cells peer))
+  check 5 (atFirst (isOf type) (cells peer))
+  check 5 (atFirst (noDataUntyped type) (cells peer))
   -- an output after 0 differs from ours
   check 5 (agree (drop 1 (ours .outputs)) (drop 1 (peer .outputs)))
   -- fewer data entries
@@ -85,7 +91,7 @@ live source i [] = fine tt
 live source i (none ∷ rs) = refused 5 []
 live source i (some c ∷ rs) = do
   -- lock is our source lock
-  checkWith 6 (i ∷ []) (not (eqBytes source (lockOf (c .output))))
+  checkWith 6 (i ∷ []) (not (hasLock source c))
   live source (suc i) rs
 
 unfoldable pub liveCells : List (Option Cell) → List Cell
@@ -107,6 +113,16 @@ spent source ours peer lent = do
 abbrev pub growth : (Cell → ℕ) → Tx → Tx → ℕ
 growth f ours peer = first f (cells peer) - first f (cells ours)
 
+-- the growth of output 0 in tokens
+unfoldable pub tokenDelta : Tx → Tx → Outcome ℕ
+tokenDelta ours peer = do
+  -- our amount, then the peer's, under 16 bytes
+  check 5 (atFirst hasAmount (cells ours))
+  check 5 (atFirst hasAmount (cells peer))
+  -- amount falls
+  check 5 (leb (first amountOf (cells ours)) (first amountOf (cells peer)))
+  fine (growth amountOf ours peer)
+
 -- the growth of output 0, in tokens only where a type is expected
 unfoldable pub fundingOutputDelta : List ℕ → Tx → Tx → Outcome Figures
 fundingOutputDelta type ours peer = do
@@ -115,12 +131,8 @@ fundingOutputDelta type ours peer = do
   check 5 (not (isEmpty (peer .outputsData)))
   -- its capacity falls
   check 5 (leb (first capacityOf (cells ours)) (first capacityOf (cells peer)))
-  -- typed: our amount, then the peer's, under 16 bytes
-  check 5 (isEmpty type || atFirst (λ c. hasAmount (c .cellData)) (cells ours))
-  check 5 (isEmpty type || atFirst (λ c. hasAmount (c .cellData)) (cells peer))
-  -- amount falls
-  check 5 (isEmpty type || leb (first amountOf (cells ours)) (first amountOf (cells peer)))
-  fine (record { capacity = growth capacityOf ours peer; token = cond (isEmpty type) 0 (growth amountOf ours peer) })
+  token ← cond (isEmpty type) (fine 0) (tokenDelta ours peer)
+  fine (record { capacity = growth capacityOf ours peer; token = token })
 
 -- ours has no inputs and no outputs
 abbrev pub unfunded : Tx → Bool
@@ -142,7 +154,7 @@ counted type sum c = cond (isOf type c) summed (fine sum)
     summed : Outcome ℕ
     summed = do
       -- an amount under 16 bytes
-      check 5 (hasAmount (c .cellData))
+      check 5 (hasAmount c)
       -- a total of 2^128 or more
       check 7 (ltb (sum + amountOf c) (2 ^ 128))
       fine (sum + amountOf c)
@@ -172,12 +184,17 @@ account type growth records outs = do
 unfoldable pub tokenAccount : List ℕ → ℕ → List Cell → List Cell → Outcome ℕ
 tokenAccount type growth records outs = cond (isEmpty type) (fine 0) (account type growth records outs)
 
+-- both accounts, with output 0 grown by so much
+unfoldable pub accounts : List ℕ → Tx → Tx → List Cell → ℕ → ℕ → ℕ → ℕ → Outcome Figures
+accounts type ours peer records rate size grown minted = do
+  capacity ← covered (unfunded ours) (total capacityOf records) (grown + total capacityOf (added ours peer)) rate size
+  token ← tokenAccount type minted records (added ours peer)
+  fine (record { capacity = capacity; token = token })
+
 unfoldable pub contribution : List ℕ → Tx → Tx → List Cell → ℕ → ℕ → Outcome Figures
 contribution type ours peer records rate size = do
   delta ← fundingOutputDelta type ours peer
-  capacity ← covered (unfunded ours) (total capacityOf records) (delta .capacity + total capacityOf (added ours peer)) rate size
-  token ← tokenAccount type (delta .token) records (added ours peer)
-  fine (record { capacity = capacity; token = token })
+  accounts type ours peer records rate size (delta .capacity) (delta .token)
 
 -- ---- all
 

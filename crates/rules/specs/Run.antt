@@ -43,6 +43,10 @@ abbrev pub sum : List ℕ → ℕ
 sum [] = 0
 sum (n ∷ ns) = n + sum ns
 
+-- 0 or more
+abbrev pub NotNegative : ℤ → Type 0
+NotNegative z = (n : ℕ) × (z ≡ pos n)
+
 -- an added input, and the cell of the record that was lent for it
 pub record Spent : Type 0 where
   pub input : List ℕ
@@ -89,14 +93,14 @@ module _ {C S : Type 0} (E : Entry C S) where
   steps m ours (c ∷ cs) =
       keep (E .judged ours c) (surplus m (txOf ours) (txOf (E .peerOf c)) (E .lent c) ∷ []) ++ steps m (next ours c) cs
 
-  -- The law for one measure: `pick` takes its surplus from what an acceptance carries.
-  pub record Exact (m : Measure) (pick : S → ℕ) (start : List ℕ) (calls : List C) : Type 0 where
+  -- The law for one measure, of the verdicts of a list of calls and the bytes in force at its end: `pick` takes the surplus from what an acceptance carries.
+  pub record Exact (m : Measure) (pick : S → ℕ) (start : List ℕ) (calls : List C) (answers : List (Outcome S)) (end : List ℕ) : Type 0 where
     -- each accepted update carries the surplus of its own step
-    pub each : map pos (carried pick (verdicts start calls)) ≡ steps m start calls
-    -- which is never negative
-    pub natural : All (λ z. (n : ℕ) × (z ≡ pos n)) (steps m start calls)
+    pub each : map pos (carried pick answers) ≡ steps m start calls
+    -- none of which is negative
+    pub natural : All NotNegative (steps m start calls)
     -- and they sum to the surplus of the transaction then in force against the one at the start, over the records kept, in order
-    pub sums : pos (sum (carried pick (verdicts start calls))) ≡ surplus m (txOf start) (txOf (inForce start calls)) (recordsOf (kept start calls))
+    pub sums : pos (sum (carried pick answers)) ≡ surplus m (txOf start) (txOf end) (recordsOf (kept start calls))
 
 -- A list of calls of a program, each given the bytes that the one before handed back. `Called ours c u handed` is what is known of one call: given ours
 -- and c it answered u and handed back those bytes.

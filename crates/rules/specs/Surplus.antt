@@ -41,7 +41,7 @@ surplus m earlier later records =
 
 -- ---- capacity
 
-abbrev pub capacityOf : Cell → ℕ
+unfoldable pub capacityOf : Cell → ℕ
 capacityOf c = tx.capacityOf (c .output)
 
 abbrev pub capacities : Measure
@@ -49,17 +49,14 @@ capacities = record { atZero = capacityOf; of = capacityOf }
 
 -- ---- tokens
 
-abbrev pub hasAmount : List ℕ → Bool
-hasAmount d = leb 16 (length d)
+unfoldable pub hasAmount : Cell → Bool
+hasAmount c = leb 16 (length (c .cellData))
 
 -- a missing or short amount counts 0
-unfoldable pub amount : List ℕ → ℕ
-amount d = cond (hasAmount d) (le (take 16 d)) 0
+unfoldable pub amountOf : Cell → ℕ
+amountOf c = cond (hasAmount c) (le (take 16 (c .cellData))) 0
 
-abbrev pub amountOf : Cell → ℕ
-amountOf c = amount (c .cellData)
-
-abbrev pub isOf : List ℕ → Cell → Bool
+unfoldable pub isOf : List ℕ → Cell → Bool
 isOf type c = eqBytes type (typeOf (c .output))
 
 abbrev pub tokenOf : List ℕ → Cell → ℕ

@@ -5,9 +5,6 @@ use units::Tokens;
 
 // An acceptance carries the capacity surplus and the token surplus (0 when untyped), a refusal its number and values.
 pub enum Update {
-    Accepted {
-        capacity: Shannons,
-        token: Tokens,
-    },
+    Accepted { capacity: Shannons, token: Tokens },
     Refused(Refusal),
 }

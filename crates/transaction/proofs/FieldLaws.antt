@@ -1,12 +1,16 @@
 -- Laws of specs/Tx.antt, one for each way out of the accessor that computes it.
 use mathlib.Core.Path.{_≡_, refl, sym, ap, _∙_}
-use Prim.Native.Nat.{ℕ, _+_}
+use Prim.Native.Nat.{ℕ, _+_, _^_, _<_}
+use native.Mathlib.Omega.{arith}
+use mir.Syntax.{w64}
+use mir.Val.{Fits}
 use mathlib.Core.List.{List}
 use lib.ListN.{getD}
 use Rattle.arithmetic.specs.LittleEndian.{u32At, u64At}
 use Rattle.units.specs.declared.Shannons.{Shannons}
 use Rattle.arithmetic.specs.Amount.{amountOf}
-use Rattle.units.specs.Units.{inShannons}
+use Rattle.units.specs.Units.{inShannons, shannonCount}
+use Rattle.units.proofs.CountLaws.{shannons-of}
 use Rattle.molecule.specs.Layout.{part, inside, word, fieldOf, fieldStart, itemCount, itemOf, itemStart, fixItem, fixStart, content, contentStart, entryOf, entryStart}
 use Rattle.molecule.proofs.LayoutLaws.{inside-twice}
 use Rattle.transaction.specs.Tx.{rawField, rawStart, witnessesOf, argsOf, capacityOf, lockOf, typeOf, previousOutputOf, firstOf, dataOf}
@@ -73,6 +77,12 @@ module _ (s : List ℕ) where
   args-are e h = rw e at h
 
   -- ---- an output
+
+  pub capacity-below : {x : ℕ} {r : Shannons} → Fits w64 x → r ≡ inShannons (amountOf x) → shannonCount r < 2 ^ 64
+  capacity-below {x} {r} h e = by (shannonCount r) x (ap shannonCount e ∙ shannons-of x) (h .fits)
+    where
+      by : (n x : ℕ) → n ≡ x → x < 2 ^ 64 → n < 2 ^ 64
+      by n x e h = omega arith
 
   pub capacity-is : {f : List ℕ} {x : ℕ} {r : Shannons} → f ≡ fieldOf s 3 0 → x ≡ u64At f 0 → r ≡ inShannons (amountOf x) → r ≡ inShannons (amountOf (capacityOf s))
   unfolding capacityOf

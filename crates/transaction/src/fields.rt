@@ -3,11 +3,11 @@
 use arithmetic::little_endian;
 use units::Shannons;
 ghost use mathlib.Core.Path.{_≡_};
-ghost use Prim.Native.Nat.{_+_};
+ghost use Prim.Native.Nat.{_+_, _^_, _<_};
 ghost use lib.ListN.{getD};
 ghost use Rattle.arithmetic.specs.LittleEndian.{u32At, u64At};
 ghost use Rattle.arithmetic.specs.Amount.{amountOf};
-ghost use Rattle.units.specs.Units.{inShannons};
+ghost use Rattle.units.specs.Units.{inShannons, shannonCount};
 ghost use Rattle.molecule.specs.Layout.{part, partStart, inside, fieldOf, fieldStart, itemCount, itemOf, itemStart, fixCount, fixItem, fixStart, contentStart, entryOf, entryStart};
 ghost use Rattle.transaction.specs.Tx.{rawField, rawStart, witnessesOf, txAt, argsOf, capacityOf, lockOf, typeOf, previousOutputOf, firstOf, dataOf};
 
@@ -219,9 +219,10 @@ pub fn args(script: &[u8]) -> &[u8]
 
 // ---- an output
 
-// The capacity.
+// The capacity, a number of 64 bits.
 pub fn capacity(output: &[u8]) -> Shannons
     ensures { λ r. ⌜ r ≡ inShannons (amountOf (capacityOf (now (output .entry)))) ⌝ }
+    ensures { λ r. ⌜ shannonCount r < 2 ^ 64 ⌝ }
 {
     let f = molecule::field(output, 3, 0);
     Shannons::from_u64(little_endian::u64_at(f, 0))

@@ -21,8 +21,7 @@ fix-has-all-spec =
     (λ c κs. search ways)  -- fix-count-requires
     (λ c. search ways)  -- cast-m
     (λ c. search ways)  -- loop-holds
-    (λ c κs. search ways)  -- fix-item-requires
-    (λ c κs. search ways)  -- fix-has-requires
+    (λ c κs. search ways)  -- fix-has-item-requires
     (λ c. search ways)  -- returns
     (λ c. search ways)  -- add-i
     (λ c. search ways)  -- loop-less

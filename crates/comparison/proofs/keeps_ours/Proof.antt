@@ -1,0 +1,32 @@
+use Rattle.comparison.proofs.Ways.{ways}
+use Rattle.comparison.proofs.keeps_ours.Statement.{statement}
+use Rattle.comparison.proofs.keeps_ours.Tie as tie
+
+pub keeps-ours-spec : {M : Type 1} → statement M
+keeps-ours-spec =
+    tie.close
+    (tie.spec
+    (λ c κs. search ways)  -- same-version-requires
+    (λ c. search ways)  -- returns
+    (λ c κs. search ways)  -- no-fewer-cell-deps-requires
+    (λ c. search ways)  -- returns-2
+    (λ c κs. search ways)  -- has-cell-deps-requires
+    (λ c. search ways)  -- returns-3
+    (λ c κs. search ways)  -- extends-header-deps-requires
+    (λ c. search ways)  -- returns-4
+    (λ c κs. search ways)  -- extends-inputs-requires
+    (λ c. search ways)  -- returns-5
+    (λ c κs. search ways)  -- no-fewer-outputs-requires
+    (λ c. search ways)  -- returns-6
+    (λ c κs. search ways)  -- has-lock-requires
+    (λ c. search ways)  -- returns-7
+    (λ c κs. search ways)  -- has-type-requires
+    (λ c. search ways)  -- returns-8
+    (λ c κs. search ways)  -- no-data-untyped-requires
+    (λ c. search ways)  -- returns-9
+    (λ c κs. search ways)  -- extends-outputs-requires
+    (λ c. search ways)  -- returns-10
+    (λ c κs. search ways)  -- no-fewer-data-requires
+    (λ c. search ways)  -- returns-11
+    (λ c κs. search ways)  -- extends-data-requires
+    (λ c. search ways))  -- returns-12

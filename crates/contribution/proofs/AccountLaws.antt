@@ -1,0 +1,57 @@
+-- Laws of both accounts together, one for each way out of the functions.
+use mathlib.Core.Path.{_≡_, refl, sym, ap, ap₂, _∙_}
+use Prim.Native.Nat.{ℕ, _+_}
+use mathlib.Core.List.{List, [], _∷_}
+use lib.ListN.{length}
+use Rattle.units.specs.declared.{Shannons.Shannons, Tokens.Tokens}
+use Rattle.units.specs.Units.{shannonCount, tokenCount}
+use Rattle.transaction.specs.Tx.{txAt}
+use Rattle.error.specs.declared.Refusal.{Refusal}
+use Rattle.error.specs.Refusal.{number, values}
+use Rattle.rules.specs.declared.Update.{Update}
+use Rattle.rules.specs.Outcome.{Outcome, fine, refused, _>>=_}
+use Rattle.rules.specs.Cells.{recordCells}
+use Rattle.rules.specs.Surplus.{total, added, capacityOf}
+use Rattle.rules.specs.Judge.{unfunded, covered, tokenAccount, fundingOutputDelta, accounts, contribution}
+use Rattle.rules.specs.Told.{refusal, told}
+use Rattle.contribution.specs.declared.OutputDelta.{OutputDelta}
+use Rattle.contribution.specs.declared.capacity.CapacitySurplus.{CapacitySurplus}
+use Rattle.contribution.specs.declared.token.TokenSum.{TokenSum}
+use Rattle.contribution.specs.Answers.{delta, inCapacity, inTokens}
+
+module _ (type o p s : List ℕ) (rate : ℕ) where
+  module _ (g : Shannons) (m : Tokens) {size : ℕ} (es : size ≡ length p + 4) (q : CapacitySurplus)
+      (eq : inCapacity q ≡ covered (unfunded (txAt o)) (total capacityOf (recordCells s)) (shannonCount g + total capacityOf (added (txAt o) (txAt p))) rate size) where
+    pub accounts-capacity : {x : Refusal} → q ≡ CapacitySurplus.Refused x
+        → told (Update.Refused x) ≡ accounts type (txAt o) (txAt p) (recordCells s) rate (length p + 4) (shannonCount g) (tokenCount m)
+    unfolding accounts _>>=_
+    accounts-capacity h = rw (← es, ← eq, h)
+
+    module _ {c : Shannons} (h : q ≡ CapacitySurplus.Is c) (v : TokenSum)
+        (ev : inTokens v ≡ tokenAccount type (tokenCount m) (recordCells s) (added (txAt o) (txAt p))) where
+      pub accounts-short : v ≡ TokenSum.Invalid
+          → told (Update.Refused Refusal.InvalidPeerFundingTx) ≡ accounts type (txAt o) (txAt p) (recordCells s) rate (length p + 4) (shannonCount g) (tokenCount m)
+      unfolding accounts _>>=_ number values
+      accounts-short k = rw (← es, ← eq, h, ← ev, k)
+
+      pub accounts-wide : v ≡ TokenSum.Overflow
+          → told (Update.Refused Refusal.OverflowError) ≡ accounts type (txAt o) (txAt p) (recordCells s) rate (length p + 4) (shannonCount g) (tokenCount m)
+      unfolding accounts _>>=_ number values
+      accounts-wide k = rw (← es, ← eq, h, ← ev, k)
+
+      pub accounts-both : {t : Tokens} → v ≡ TokenSum.Is t
+          → told (Update.Accepted c t) ≡ accounts type (txAt o) (txAt p) (recordCells s) rate (length p + 4) (shannonCount g) (tokenCount m)
+      unfolding accounts _>>=_
+      accounts-both k = rw (← es, ← eq, h, ← ev, k)
+
+  module _ (d : OutputDelta) (ed : delta d ≡ fundingOutputDelta type (txAt o) (txAt p)) where
+    pub contribution-invalid : d ≡ OutputDelta.Invalid
+        → told (Update.Refused Refusal.InvalidPeerFundingTx) ≡ contribution type (txAt o) (txAt p) (recordCells s) rate (length p + 4)
+    unfolding contribution _>>=_ number values
+    contribution-invalid h = rw (← ed, h)
+
+    pub contribution-is : (u : Update) {g : Shannons} {m : Tokens} → d ≡ OutputDelta.Grows g m
+        → told u ≡ accounts type (txAt o) (txAt p) (recordCells s) rate (length p + 4) (shannonCount g) (tokenCount m)
+        → told u ≡ contribution type (txAt o) (txAt p) (recordCells s) rate (length p + 4)
+    unfolding contribution _>>=_
+    contribution-is u h k = rw (← ed, h) k

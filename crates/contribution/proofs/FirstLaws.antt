@@ -1,0 +1,158 @@
+-- Laws of output 0, one for each way out of the functions.
+use mathlib.Core.Path.{_≡_, refl, sym, ap, ap₂, _∙_}
+use Prim.Native.Nat.{ℕ, zero, suc, _+_, _-_, _*_, _^_, _≤_, _<_, max}
+use mathlib.Core.List.{List, [], _∷_}
+use mathlib.Core.Bool.{Bool, true, false, not, cond, _||_}
+use native.Mathlib.Omega.{arith}
+use borrow.Author.Tests.{le-leb, lt-leb, eq-eqb, ne-eqb, not-true, not-false}
+use lib.ListN.{length, take}
+use lib.Dec.{leb, eqb}
+use Rattle.arithmetic.specs.LittleEndian.{le}
+use Rattle.arithmetic.specs.Amount.{halves, difference, amountAt}
+use Rattle.arithmetic.specs.Amount as amount
+use Rattle.units.specs.declared.{Shannons.Shannons, CheckedShannons.CheckedShannons, Tokens.Tokens, CheckedTokens.CheckedTokens, TokensRead.TokensRead}
+use Rattle.units.specs.Units.{inShannons, shannonCount, tokenCount, checkedShannons, checkedTokens, tokensRead}
+use Rattle.units.specs.Units as units
+use Rattle.units.proofs.CountLaws.{shannons-of, shannons-left, shannons-enough, shannons-lacking, tokens-left, tokens-enough, tokens-lacking, tokens-there, tokens-long, tokens-under}
+use Rattle.molecule.specs.Layout.{itemCount, itemOf, entryOf}
+use Rattle.molecule.proofs.Offsets.{span-length}
+use Rattle.transaction.specs.Tx.{txAt, rawField}
+use Rattle.transaction.specs.Tx as tx
+use Rattle.rules.specs.Outcome.{Outcome, fine, refused, check, checkWith, _>>_, _>>=_}
+use Rattle.rules.specs.Cells.{Cell, cells, cellAt}
+use Rattle.rules.specs.Surplus.{isEmpty, first, capacityOf, hasAmount, amountOf}
+use Rattle.rules.specs.Judge.{Figures, atFirst, growth, tokenDelta, fundingOutputDelta}
+use Rattle.rules.proofs.CellLaws.{empty-is, cells-none, cells-some}
+use Rattle.contribution.specs.declared.OutputDelta.{OutputDelta}
+use Rattle.contribution.specs.Answers.{rise, delta}
+
+-- ---- figures
+
+-- an amount that was read, or not
+pub amount-there : (o d : List ℕ) {r : TokensRead} {t : Tokens} → r ≡ tokensRead (amountAt d) → r ≡ TokensRead.Tokens t
+    → tokenCount t ≡ amountOf (record { output = o; cellData = d })
+unfolding amountOf hasAmount
+amount-there o d e f = tokens-there d e f ∙ rw (le-leb 16 (length d) (tokens-long d e f))
+
+amount-short : (o d : List ℕ) {r : TokensRead} → r ≡ tokensRead (amountAt d) → r ≡ TokensRead.Short → 0 ≡ amountOf (record { output = o; cellData = d })
+unfolding amountOf hasAmount
+amount-short o d e f = rw (lt-leb 16 (length d) (tokens-under d e f))
+
+module _ (s : List ℕ) {n : ℕ} (e : n ≡ itemCount (rawField s 4)) where
+  pub first-capacity-none : n ≡ 0 → shannonCount (inShannons (halves 0 0)) ≡ first capacityOf (cells (txAt s))
+  unfolding first shannonCount
+  first-capacity-none h = sym (ap (first capacityOf) (cells-none s e h))
+
+  pub first-capacity-some : {o : List ℕ} {r : Shannons} → (n ≡ 0 → ⊥) → o ≡ itemOf (rawField s 4) 0 → r ≡ inShannons (amount.amountOf (tx.capacityOf o))
+      → shannonCount r ≡ first capacityOf (cells (txAt s))
+  unfolding first capacityOf cellAt
+  first-capacity-some {o} h eo er = ap shannonCount er ∙ shannons-of (tx.capacityOf o) ∙ ap tx.capacityOf eo ∙ sym (ap (first capacityOf) (cells-some s e h))
+
+  pub first-has-none : n ≡ 0 → true ≡ atFirst hasAmount (cells (txAt s))
+  unfolding atFirst
+  first-has-none h = sym (ap (atFirst hasAmount) (cells-none s e h))
+
+  pub first-has-some : {d : List ℕ} → (n ≡ 0 → ⊥) → d ≡ entryOf (rawField s 5) 0 → leb 16 (length d) ≡ atFirst hasAmount (cells (txAt s))
+  unfolding atFirst hasAmount cellAt
+  first-has-some h g = ap (λ (l : List ℕ). leb 16 (length l)) g ∙ sym (ap (atFirst hasAmount) (cells-some s e h))
+
+  pub first-amount-none : n ≡ 0 → tokenCount (units.inTokens (halves 0 0)) ≡ first amountOf (cells (txAt s))
+  unfolding first tokenCount
+  first-amount-none h = sym (ap (first amountOf) (cells-none s e h))
+
+  module _ {d : List ℕ} {r : TokensRead} (h : n ≡ 0 → ⊥) (ed : d ≡ entryOf (rawField s 5) 0) (er : r ≡ tokensRead (amountAt d)) where
+    first-amount : amountOf (record { output = itemOf (rawField s 4) 0; cellData = d }) ≡ first amountOf (cells (txAt s))
+    unfolding first cellAt
+    first-amount = ap (λ (l : List ℕ). amountOf (record { output = itemOf (rawField s 4) 0; cellData = l })) ed ∙ sym (ap (first amountOf) (cells-some s e h))
+
+    pub first-amount-some : {t : Tokens} → r ≡ TokensRead.Tokens t → tokenCount t ≡ first amountOf (cells (txAt s))
+    first-amount-some f = amount-there (itemOf (rawField s 4) 0) d er f ∙ first-amount
+
+    pub first-amount-short : r ≡ TokensRead.Short → tokenCount (units.inTokens (halves 0 0)) ≡ first amountOf (cells (txAt s))
+    unfolding tokenCount
+    first-amount-short f = amount-short (itemOf (rawField s 4) 0) d er f ∙ first-amount
+
+-- ---- the first added output
+
+module _ (o : List ℕ) {n : ℕ} (e : n ≡ itemCount (rawField o 4)) where
+  pub added-first : n ≡ 0 → 1 ≡ max 1 (length (txAt o .outputs))
+  added-first h = rw (span-length (itemOf (rawField o 4)) 0 (itemCount (rawField o 4)), ← e, h)
+
+  pub added-later : (n ≡ 0 → ⊥) → n ≡ max 1 (length (txAt o .outputs))
+  added-later h = rw (span-length (itemOf (rawField o 4)) 0 (itemCount (rawField o 4)), ← e) (omega arith)
+
+-- ---- the growth in tokens
+
+module _ (o p : List ℕ) {q : Bool} (eq : q ≡ atFirst hasAmount (cells (txAt o))) where
+  pub rise-ours-short : not q ≡ true → rise CheckedTokens.Overflow ≡ tokenDelta (txAt o) (txAt p)
+  unfolding tokenDelta check checkWith _>>_
+  rise-ours-short t = rw (← eq, not-true q t)
+
+  module _ (t : not q ≡ false) {w : Bool} (ew : w ≡ atFirst hasAmount (cells (txAt p))) where
+    pub rise-peer-short : not w ≡ true → rise CheckedTokens.Overflow ≡ tokenDelta (txAt o) (txAt p)
+    unfolding tokenDelta check checkWith _>>_
+    rise-peer-short u = rw (← eq, not-false q t, ← ew, not-true w u)
+
+    pub rise-is : (x y : Tokens) (v : CheckedTokens) → not w ≡ false → tokenCount x ≡ first amountOf (cells (txAt o)) → tokenCount y ≡ first amountOf (cells (txAt p))
+        → v ≡ checkedTokens (difference (y .0) (x .0)) → rise v ≡ tokenDelta (txAt o) (txAt p)
+    unfolding tokenDelta check checkWith _>>_
+    rise-is x y v u ex ey ev = by v refl
+      where
+        by : (k : CheckedTokens) → v ≡ k → rise v ≡ tokenDelta (txAt o) (txAt p)
+        by (CheckedTokens.Fits d) f =
+            rw f (ap fine (tokens-left y x ev f ∙ ap₂ _-_ ey ex)
+            ∙ rw (← eq, not-false q t, ← ew, not-false w u, ← ex, ← ey, le-leb (tokenCount x) (tokenCount y) (tokens-enough y x ev f)))
+        by CheckedTokens.Overflow f =
+            rw f (rw (← eq, not-false q t, ← ew, not-false w u, ← ex, ← ey, lt-leb (tokenCount x) (tokenCount y) (tokens-lacking y x ev f)))
+
+-- ---- the growth: the lines of fundingOutputDelta, one for each way out
+
+outputs-there : (p : List ℕ) {n : ℕ} → n ≡ itemCount (rawField p 4) → (b : Bool) → eqb n 0 ≡ b → not (isEmpty (txAt p .outputs)) ≡ not b
+outputs-there p en b h = ap not (empty-is (txAt p .outputs) ∙ ap (λ (k : ℕ). eqb k 0) (span-length _ 0 _ ∙ sym en) ∙ h)
+
+pub delta-no-output : (type o p : List ℕ) {n : ℕ} → n ≡ itemCount (rawField p 4) → n ≡ 0 → delta OutputDelta.Invalid ≡ fundingOutputDelta type (txAt o) (txAt p)
+unfolding fundingOutputDelta check checkWith _>>_
+delta-no-output type o p {n} en h = rw (outputs-there p en true (eq-eqb n 0 h))
+
+module _ (type o p : List ℕ) {n m : ℕ} (en : n ≡ itemCount (rawField p 4)) (em : m ≡ itemCount (rawField p 5)) where
+  outputs-are : (b : Bool) → eqb n 0 ≡ b → not (isEmpty (txAt p .outputs)) ≡ not b
+  outputs-are = outputs-there p en
+
+  data-are : (b : Bool) → eqb m 0 ≡ b → not (isEmpty (txAt p .outputsData)) ≡ not b
+  data-are b h = ap not (empty-is (txAt p .outputsData) ∙ ap (λ (k : ℕ). eqb k 0) (span-length _ 0 _ ∙ sym em) ∙ h)
+
+  pub delta-no-data : (n ≡ 0 → ⊥) → m ≡ 0 → delta OutputDelta.Invalid ≡ fundingOutputDelta type (txAt o) (txAt p)
+  unfolding fundingOutputDelta check checkWith _>>_
+  delta-no-data h k = rw (outputs-are false (ne-eqb n 0 h), data-are true (eq-eqb m 0 k))
+
+  module _ (hn : n ≡ 0 → ⊥) (hm : m ≡ 0 → ⊥) (a b : Shannons) (ea : shannonCount a ≡ first capacityOf (cells (txAt o)))
+      (eb : shannonCount b ≡ first capacityOf (cells (txAt p))) {r : CheckedShannons} (er : r ≡ checkedShannons (difference (b .0) (a .0))) where
+    pub delta-falls : r ≡ CheckedShannons.Overflow → delta OutputDelta.Invalid ≡ fundingOutputDelta type (txAt o) (txAt p)
+    unfolding fundingOutputDelta check checkWith _>>_
+    delta-falls f =
+        rw (outputs-are false (ne-eqb n 0 hn), data-are false (ne-eqb m 0 hm), ← ea, ← eb, lt-leb (shannonCount a) (shannonCount b) (shannons-lacking b a er f))
+
+    module _ {c : Shannons} (fc : r ≡ CheckedShannons.Fits c) where
+      rises : leb (shannonCount a) (shannonCount b) ≡ true
+      rises = le-leb (shannonCount a) (shannonCount b) (shannons-enough b a er fc)
+
+      by-so-much : shannonCount c ≡ growth capacityOf (txAt o) (txAt p)
+      by-so-much = shannons-left b a er fc ∙ ap₂ _-_ eb ea
+
+      pub delta-untyped : length type ≡ 0 → delta (OutputDelta.Grows c (units.inTokens (halves 0 0))) ≡ fundingOutputDelta type (txAt o) (txAt p)
+      unfolding fundingOutputDelta check checkWith _>>_ _>>=_ tokenCount
+      delta-untyped z =
+          ap (λ (k : ℕ). fine (record { capacity = k; token = 0 })) by-so-much
+          ∙ rw (outputs-are false (ne-eqb n 0 hn), data-are false (ne-eqb m 0 hm), ← ea, ← eb, rises, empty-is type, eq-eqb (length type) 0 z)
+
+      module _ (z : length type ≡ 0 → ⊥) (v : CheckedTokens) (ev : rise v ≡ tokenDelta (txAt o) (txAt p)) where
+        pub delta-tokens-fall : v ≡ CheckedTokens.Overflow → delta OutputDelta.Invalid ≡ fundingOutputDelta type (txAt o) (txAt p)
+        unfolding fundingOutputDelta check checkWith _>>_ _>>=_
+        delta-tokens-fall f =
+            rw (outputs-are false (ne-eqb n 0 hn), data-are false (ne-eqb m 0 hm), ← ea, ← eb, rises, empty-is type, ne-eqb (length type) 0 z, ← ev, f)
+
+        pub delta-grows : {k : Tokens} → v ≡ CheckedTokens.Fits k → delta (OutputDelta.Grows c k) ≡ fundingOutputDelta type (txAt o) (txAt p)
+        unfolding fundingOutputDelta check checkWith _>>_ _>>=_
+        delta-grows {k} f =
+            ap (λ (i : ℕ). fine (record { capacity = i; token = tokenCount k })) by-so-much
+            ∙ rw (outputs-are false (ne-eqb n 0 hn), data-are false (ne-eqb m 0 hm), ← ea, ← eb, rises, empty-is type, ne-eqb (length type) 0 z, ← ev, f)

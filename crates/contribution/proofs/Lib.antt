@@ -1,0 +1,5 @@
+pub mod AccountLaws
+pub mod CapacityLaws
+pub mod FirstLaws
+pub mod TokenLaws
+pub mod Ways

@@ -1,0 +1,16 @@
+use Rattle.contribution.proofs.Ways.{ways}
+use Rattle.contribution.proofs.first_amount.Statement.{statement}
+use Rattle.contribution.proofs.first_amount.Tie as tie
+
+pub first-amount-spec : {M : Type 1} → statement M
+first-amount-spec =
+    tie.close
+    (tie.spec
+    (λ c κs. search ways)  -- output-count-requires
+    (λ c. search ways)  -- returns
+    (λ c κs. search ways)  -- output-data-requires
+    (λ c κs. search ways)  -- read-udt-amount-requires
+    (λ c. search ways)  -- enum-known-amount
+    (λ c. search ways)  -- enum-told
+    (λ c. search ways)  -- returns-2
+    (λ c. search ways))  -- returns-3

@@ -1,0 +1,181 @@
+// What the peer put in: the growth of output 0, the cells that its inputs spend, and the outputs that it added.
+pub mod capacity;
+pub mod token;
+
+use crate::capacity::CapacitySurplus;
+use crate::token::TokenSum;
+use error::Refusal;
+use rules::Update;
+use transaction::fields;
+use units::CheckedShannons;
+use units::CheckedTokens;
+use units::Shannons;
+use units::Tokens;
+use units::TokensRead;
+ghost use mathlib.Core.Path.{_≡_};
+ghost use Prim.Native.Nat.{_+_, max};
+ghost use lib.ListN.{length};
+ghost use Rattle.arithmetic.specs.Amount.{amountAt};
+ghost use Rattle.units.specs.Units.{shannonCount, tokenCount, tokensRead};
+ghost use Rattle.molecule.specs.Layout.{itemCount};
+ghost use Rattle.transaction.specs.Tx.{txAt, rawField};
+ghost use Rattle.rules.specs.Cells.{cells, cellAt, recordCells};
+ghost use Rattle.rules.specs.Surplus.{first, capacityOf, amountOf, hasAmount};
+ghost use Rattle.rules.specs.Judge.{atFirst, tokenDelta, fundingOutputDelta, accounts, contribution};
+ghost use Rattle.rules.specs.Told.{told};
+ghost use Rattle.contribution.specs.Answers.{rise, delta};
+
+// By how much output 0 grows, in tokens only where a type is expected. `Invalid` is the refusal 5.
+pub enum OutputDelta {
+    Grows { capacity: Shannons, token: Tokens },
+    Invalid,
+}
+
+// The token amount that a cell's data begins with (RFC 0025).
+pub fn read_udt_amount(d: &[u8]) -> TokensRead
+    ensures { λ r. ⌜ r ≡ tokensRead (amountAt (now (d .entry))) ⌝ }
+{
+    Tokens::from_le_bytes(d)
+}
+
+// ---- output 0
+
+// Its capacity; absent counts 0.
+fn first_capacity(tx: &[u8]) -> Shannons
+    ensures { λ r. ⌜ shannonCount r ≡ first capacityOf (cells (txAt (now (tx .entry)))) ⌝ }
+{
+    if fields::output_count(tx) == 0 {
+        return Shannons::ZERO;
+    }
+    let o = fields::output(tx, 0);
+    fields::capacity(o)
+}
+
+// It is absent, or its amount can be read.
+fn has_first_amount(tx: &[u8]) -> bool
+    ensures { λ r. ⌜ r ≡ atFirst hasAmount (cells (txAt (now (tx .entry)))) ⌝ }
+{
+    if fields::output_count(tx) == 0 {
+        return true;
+    }
+    let d = fields::output_data(tx, 0);
+    16 <= d.len()
+}
+
+// Its amount; absent or short counts 0.
+fn first_amount(tx: &[u8]) -> Tokens
+    ensures { λ r. ⌜ tokenCount r ≡ first amountOf (cells (txAt (now (tx .entry)))) ⌝ }
+{
+    if fields::output_count(tx) == 0 {
+        return Tokens::ZERO;
+    }
+    let d = fields::output_data(tx, 0);
+    match read_udt_amount(d) {
+        TokensRead::Tokens(amount) => amount,
+        TokensRead::Short => Tokens::ZERO,
+    }
+}
+
+// How many tokens output 0 grows by; `Overflow` where an amount can't be read or it falls.
+fn token_delta(ours: &[u8], peer: &[u8]) -> CheckedTokens
+    ensures { λ r. ⌜ rise r ≡ tokenDelta (txAt (now (ours .entry))) (txAt (now (peer .entry))) ⌝ }
+{
+    if !has_first_amount(ours) {
+        return CheckedTokens::Overflow;
+    }
+    if !has_first_amount(peer) {
+        return CheckedTokens::Overflow;
+    }
+    let before = first_amount(ours);
+    let after = first_amount(peer);
+    after.checked_sub(before)
+}
+
+// How much output 0 grows: it and its data are there, and neither figure falls.
+pub fn funding_output_delta(udt: &[u8], ours: &[u8], peer: &[u8]) -> OutputDelta
+    ensures { λ r. ⌜ delta r ≡ fundingOutputDelta (now (udt .entry)) (txAt (now (ours .entry))) (txAt (now (peer .entry))) ⌝ }
+{
+    if fields::output_count(peer) == 0 {
+        return OutputDelta::Invalid;
+    }
+    if fields::output_data_count(peer) == 0 {
+        return OutputDelta::Invalid;
+    }
+    let before = first_capacity(ours);
+    let after = first_capacity(peer);
+    let capacity = match after.checked_sub(before) {
+        CheckedShannons::Fits(c) => c,
+        CheckedShannons::Overflow => return OutputDelta::Invalid,
+    };
+    if udt.len() == 0 {
+        return OutputDelta::Grows {
+            capacity,
+            token: Tokens::ZERO,
+        };
+    }
+    match token_delta(ours, peer) {
+        CheckedTokens::Fits(token) => OutputDelta::Grows { capacity, token },
+        CheckedTokens::Overflow => OutputDelta::Invalid,
+    }
+}
+
+// ---- the account
+
+// The index of the first output that the peer added: from our output count on, never 0.
+pub fn added_peer_outputs(ours: &[u8]) -> usize
+    ensures { λ r. ⌜ r ≡ max 1 (length (txAt (now (ours .entry)) .outputs)) ⌝ }
+{
+    let n = fields::output_count(ours) as usize;
+    if n == 0 {
+        return 1;
+    }
+    n
+}
+
+// Records and added outputs, with output 0 grown by so much.
+fn surpluses(
+    udt: &[u8],
+    ours: &[u8],
+    peer: &[u8],
+    records: &[u8],
+    rate: u64,
+    grown: Shannons,
+    minted: Tokens,
+) -> Update
+    ensures { λ r. ⌜ told r ≡ accounts (now (udt .entry)) (txAt (now (ours .entry))) (txAt (now (peer .entry))) (recordCells (now (records .entry))) rate (length (now (peer .entry)) + 4) (shannonCount grown) (tokenCount minted) ⌝ }
+{
+    let size = limits::serialized_size_in_block(peer);
+    let capacity = match capacity::surplus(ours, peer, records, grown, rate, size) {
+        CapacitySurplus::Is(c) => c,
+        CapacitySurplus::Refused(e) => return Update::Refused(e),
+    };
+    match token::surplus(udt, ours, peer, records, minted) {
+        TokenSum::Is(token) => Update::Accepted { capacity, token },
+        TokenSum::Invalid => Update::Refused(Refusal::InvalidPeerFundingTx),
+        TokenSum::Overflow => Update::Refused(Refusal::OverflowError),
+    }
+}
+
+// Whether the cells that the peer's added inputs spend cover the growth of output 0 and the outputs that it added, and the fee of a first update.
+pub fn verify_peer_funding_contribution(
+    udt: &[u8],
+    ours: &[u8],
+    peer: &[u8],
+    records: &[u8],
+    rate: u64,
+) -> Update
+    ensures { λ r. ⌜ told r ≡ contribution (now (udt .entry)) (txAt (now (ours .entry))) (txAt (now (peer .entry))) (recordCells (now (records .entry))) rate (length (now (peer .entry)) + 4) ⌝ }
+{
+    match funding_output_delta(udt, ours, peer) {
+        OutputDelta::Grows { capacity, token } => surpluses(
+            udt,
+            ours,
+            peer,
+            records,
+            rate,
+            capacity,
+            token,
+        ),
+        OutputDelta::Invalid => Update::Refused(Refusal::InvalidPeerFundingTx),
+    }
+}

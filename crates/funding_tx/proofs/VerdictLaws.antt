@@ -1,0 +1,85 @@
+-- Laws of the verdict, one for each way out of the functions.
+use mathlib.Core.Path.{_≡_, refl, sym, ap, ap₂, _∙_}
+use Prim.Native.Nat.{ℕ, _+_}
+use mathlib.Core.List.{List, [], _∷_}
+use mathlib.Core.Bool.{Bool, true, false, not}
+use borrow.Author.Tests.{not-true, not-false}
+use lib.ListN.{length}
+use Rattle.molecule.specs.Molecule.{option, readable}
+use Rattle.transaction.specs.Ckb.{Script, Transaction}
+use Rattle.transaction.specs.Tx.{txAt, readTx}
+use Rattle.error.specs.declared.Refusal.{Refusal}
+use Rattle.error.specs.Refusal.{number, values}
+use Rattle.rules.specs.declared.Update.{Update}
+use Rattle.rules.specs.Outcome.{Outcome, fine, refused, check, checkWith, given, _>>_, _>>=_}
+use Rattle.rules.specs.Cells.{readOurs, readRecords, recordCells}
+use Rattle.rules.specs.Judge.{scripts, limits, comparison, spent, contribution, judge}
+use Rattle.rules.specs.Told.{told}
+use Rattle.rules.proofs.Checks.{skip, fail, pass, last-is}
+use Rattle.rules.proofs.CellLaws.{read-yes, read-no, ours-yes, ours-no}
+use Rattle.records.specs.declared.Resolved.{Resolved}
+use Rattle.records.specs.Resolved.{resolved}
+
+-- ---- the scripts
+
+module _ (lock type source : List ℕ) where
+  pub scripts-lock : {r : Bool} → r ≡ readable Script lock → not r ≡ true → check 3 false ≡ scripts lock type source
+  unfolding scripts
+  scripts-lock e h = fail 3 _ (sym e ∙ not-true _ h)
+
+  pub scripts-type : {r : Bool} → r ≡ readable (option Script) type → not r ≡ true → check 3 false ≡ scripts lock type source
+  unfolding scripts
+  scripts-type e h = skip 3 _ (fail 3 _ (sym e ∙ not-true _ h))
+
+  pub scripts-source : {a b r : Bool} → a ≡ readable Script lock → not a ≡ false → b ≡ readable (option Script) type → not b ≡ false → r ≡ readable Script source
+      → check 3 r ≡ scripts lock type source
+  unfolding scripts
+  scripts-source ea ha eb hb e = pass 3 (sym ea ∙ not-false _ ha) (pass 3 (sym eb ∙ not-false _ hb) (last-is 3 e))
+
+-- ---- the whole
+
+module _ (lock type o p s source : List ℕ) (rate : ℕ) where
+  module _ {r₁ : Bool} (e₁ : r₁ ≡ readable (option Transaction) o) where
+    pub judge-ours : not r₁ ≡ true
+        → told (Update.Refused Refusal.OurTransactionUnreadable) ≡ judge lock type o (record { peer = p; records = s; source = source; rate = rate })
+    unfolding judge given _>>=_ number values
+    judge-ours t = rw (ours-no o (sym e₁ ∙ not-true r₁ t))
+
+    module _ (t₁ : not r₁ ≡ false) {r₂ : Bool} (e₂ : r₂ ≡ readable Transaction p) where
+      pub judge-peer : not r₂ ≡ true
+          → told (Update.Refused Refusal.PeerTransactionUnreadable) ≡ judge lock type o (record { peer = p; records = s; source = source; rate = rate })
+      unfolding judge given _>>=_ number values
+      judge-peer t = rw (ours-yes o (sym e₁ ∙ not-false r₁ t₁), read-no p (sym e₂ ∙ not-true r₂ t))
+
+      module _ (t₂ : not r₂ ≡ false) (r₃ : Bool) (e₃ : check 3 r₃ ≡ scripts lock type source) where
+        pub judge-scripts : not r₃ ≡ true
+            → told (Update.Refused Refusal.LentBytesUnreadable) ≡ judge lock type o (record { peer = p; records = s; source = source; rate = rate })
+        unfolding judge given _>>=_ _>>_ check checkWith number values
+        judge-scripts t = rw (ours-yes o (sym e₁ ∙ not-false r₁ t₁), read-yes p (sym e₂ ∙ not-false r₂ t₂), ← e₃, not-true r₃ t)
+
+        module _ (t₃ : not r₃ ≡ false) (r₄ : Bool) (e₄ : check 4 r₄ ≡ limits (length p + 4) (txAt o) (txAt p)) where
+          pub judge-limits : not r₄ ≡ true
+              → told (Update.Refused Refusal.PeerFundingTxExceedsLimit) ≡ judge lock type o (record { peer = p; records = s; source = source; rate = rate })
+          unfolding judge given _>>=_ _>>_ check checkWith number values
+          judge-limits t =
+              rw (ours-yes o (sym e₁ ∙ not-false r₁ t₁), read-yes p (sym e₂ ∙ not-false r₂ t₂), ← e₃, not-false r₃ t₃, ← e₄, not-true r₄ t)
+
+          module _ (t₄ : not r₄ ≡ false) (r₅ : Bool) (e₅ : check 5 r₅ ≡ comparison lock type (txAt o) (txAt p)) where
+            pub judge-comparison : not r₅ ≡ true
+                → told (Update.Refused Refusal.InvalidPeerFundingTx) ≡ judge lock type o (record { peer = p; records = s; source = source; rate = rate })
+            unfolding judge given _>>=_ _>>_ check checkWith number values
+            judge-comparison t =
+                rw (ours-yes o (sym e₁ ∙ not-false r₁ t₁), read-yes p (sym e₂ ∙ not-false r₂ t₂), ← e₃, not-false r₃ t₃, ← e₄, not-false r₄ t₄, ← e₅, not-true r₅ t)
+
+            module _ (t₅ : not r₅ ≡ false) (c : Resolved) (ec : resolved c (recordCells s) ≡ spent source (txAt o) (txAt p) (readRecords s)) where
+              pub judge-records : {x : Refusal} → c ≡ Resolved.Refused x
+                  → told (Update.Refused x) ≡ judge lock type o (record { peer = p; records = s; source = source; rate = rate })
+              unfolding judge given _>>=_ _>>_ check checkWith
+              judge-records k =
+                  rw (ours-yes o (sym e₁ ∙ not-false r₁ t₁), read-yes p (sym e₂ ∙ not-false r₂ t₂), ← e₃, not-false r₃ t₃, ← e₄, not-false r₄ t₄, ← e₅, not-false r₅ t₅, ← ec, k)
+
+              pub judge-is : (u : Update) → c ≡ Resolved.Live → told u ≡ contribution type (txAt o) (txAt p) (recordCells s) rate (length p + 4)
+                  → told u ≡ judge lock type o (record { peer = p; records = s; source = source; rate = rate })
+              unfolding judge given _>>=_ _>>_ check checkWith
+              judge-is u k h =
+                  rw (ours-yes o (sym e₁ ∙ not-false r₁ t₁), read-yes p (sym e₂ ∙ not-false r₂ t₂), ← e₃, not-false r₃ t₃, ← e₄, not-false r₄ t₄, ← e₅, not-false r₅ t₅, ← ec, k) h

@@ -1,0 +1,75 @@
+// A peer's update of the funding transaction: judged, and what is then in force.
+use error::Refusal;
+use records::Resolved;
+use rules::Update;
+ghost use mathlib.Core.Path.{_≡_};
+ghost use Rattle.rules.specs.Outcome.{check};
+ghost use Rattle.rules.specs.Judge.{scripts, judge};
+ghost use Rattle.rules.specs.Told.{told, inForceOf};
+
+// Whether the expected funding lock and type (empty for none) and our source lock are scripts; the refusal is 3.
+fn are_scripts(lock: &[u8], udt: &[u8], source: &[u8]) -> bool
+    ensures { λ r. ⌜ check 3 r ≡ scripts (now (lock .entry)) (now (udt .entry)) (now (source .entry)) ⌝ }
+{
+    if !transaction::is_script(lock) {
+        return false;
+    }
+    if !transaction::is_optional_script(udt) {
+        return false;
+    }
+    transaction::is_script(source)
+}
+
+// Judges the peer's transaction against ours (empty for none), under the expected funding lock, the expected token type (empty for none), our source lock
+// and a fee rate, over one record for each input that the peer added. Nothing that is lent is changed or copied.
+pub fn update_for_peer(
+    ours: &[u8],
+    peer: &[u8],
+    lock: &[u8],
+    udt: &[u8],
+    source: &[u8],
+    rate: u64,
+    records: &[u8],
+) -> Update
+    ensures { λ r. ⌜ told r ≡ judge (now (lock .entry)) (now (udt .entry)) (now (ours .entry)) (record { peer = now (peer .entry); records = now (records .entry); source = now (source .entry); rate = rate }) ⌝ }
+{
+    if !transaction::is_optional_transaction(ours) {
+        return Update::Refused(Refusal::OurTransactionUnreadable);
+    }
+    if !transaction::is_transaction(peer) {
+        return Update::Refused(Refusal::PeerTransactionUnreadable);
+    }
+    if !are_scripts(lock, udt, source) {
+        return Update::Refused(Refusal::LentBytesUnreadable);
+    }
+    if !limits::validate_peer_funding_tx_complexity(ours, peer) {
+        return Update::Refused(Refusal::PeerFundingTxExceedsLimit);
+    }
+    if !comparison::keeps_ours(lock, udt, ours, peer) {
+        return Update::Refused(Refusal::InvalidPeerFundingTx);
+    }
+    match records::resolve(source, ours, peer, records) {
+        Resolved::Live => contribution::verify_peer_funding_contribution(
+            udt,
+            ours,
+            peer,
+            records,
+            rate,
+        ),
+        Resolved::Refused(e) => Update::Refused(e),
+    }
+}
+
+// The transaction in force after an answer: the peer's bytes after an acceptance, ours after a refusal.
+pub fn in_force<'a>(update: Update, ours: &'a [u8], peer: &'a [u8]) -> &'a [u8]
+    ensures reference { λ r. ⌜ r ≡ inForceOf update (ours .entry) (peer .entry) ⌝ }
+    ensures bytes { λ r. ⌜ now r ≡ inForceOf update (now (ours .entry)) (now (peer .entry)) ⌝ }
+{
+    match update {
+        Update::Accepted {
+            capacity: _,
+            token: _,
+        } => peer,
+        Update::Refused(_) => ours,
+    }
+}

@@ -1,0 +1,13 @@
+use Rattle.records.proofs.Ways.{ways}
+use Rattle.records.proofs.has_our_lock.Statement.{statement}
+use Rattle.records.proofs.has_our_lock.Tie as tie
+
+pub has-our-lock-spec : {M : Type 1} → statement M
+has-our-lock-spec =
+    tie.close
+    (tie.spec
+    (λ c κs. search ways)  -- item-requires
+    (λ c κs. search ways)  -- record-output-requires
+    (λ c κs. search ways)  -- lock-requires
+    (λ c κs. search ways)  -- same-requires
+    (λ c. search ways))  -- returns
