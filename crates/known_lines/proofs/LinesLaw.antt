@@ -7,17 +7,16 @@ use mathlib.Core.Bool.{Bool, true, false, cond, not, _||_}
 use mathlib.Core.List.{List, [], _∷_, _++_}
 use mathlib.Core.Option.{Option, none, some}
 use lib.ListN.{length}
-use lib.Dec.{ltb, eqb}
+use lib.Dec.{leb, ltb, eqb}
 use Rattle.molecule.specs.Partial.{only}
 use Rattle.molecule.specs.Molecule.{option, readable}
 use Rattle.transaction.specs.Ckb.{Transaction, Records}
-use Rattle.lists.specs.Lists.{eqBytes}
-use Rattle.transaction.specs.Tx.{Tx, txAt, readTx, lockOf}
-use Rattle.rules.specs.Cells.{Cell, readOurs, readRecords}
+use Rattle.transaction.specs.Tx.{Tx, txAt, readTx}
+use Rattle.rules.specs.Cells.{Cell, cells, readOurs, readRecords}
 use Rattle.rules.specs.Outcome.{Outcome, fine, refused, check, checkWith, given, _>>=_, _>>_}
-use Rattle.rules.specs.Surplus.{total, added, capacityOf, amountOf, tokenOf, isOf, hasAmount, isEmpty}
-use Rattle.rules.specs.Judge.{Call, Figures, judge, scripts, limits, comparison, live, liveCells, spent, growth, unfunded, fundingOutputDelta, covered, counted, tally, settled, account, tokenAccount, contribution}
-use Rattle.known_lines.specs.Lines.{Line, line, ruled, scriptLines, limitLines, comparisonLines, recordLines, deltaLines, coveredLines, cellLines, tallyLines, settledLines, tokenLines, contributionLines, spentLines, allLines, lines, surpluses, recordsAt}
+use Rattle.rules.specs.Surplus.{total, first, added, capacityOf, amountOf, tokenOf, isOf, hasAmount, isEmpty}
+use Rattle.rules.specs.Judge.{Call, Figures, judge, scripts, limits, comparison, live, liveCells, spent, growth, unfunded, hasLock, tokenDelta, fundingOutputDelta, covered, counted, tally, settled, account, tokenAccount, accounts, contribution}
+use Rattle.known_lines.specs.Lines.{Line, line, ruled, scriptLines, limitLines, comparisonLines, recordLines, tokenDeltaLines, deltaLines, coveredLines, cellLines, tallyLines, settledLines, tokenLines, contributionLines, spentLines, allLines, lines, surpluses, recordsAt}
 
 -- ---- lines one after another
 
@@ -95,12 +94,28 @@ live-ruled : (source : List ℕ) (i : ℕ) (rs : List (Option Cell)) → live so
 unfolding live ruled recordLines checkWith _>>_
 live-ruled source i [] = refl
 live-ruled source i (none ∷ rs) = refl
-live-ruled source i (some c ∷ rs) = ap (λ (o : Outcome (Unit {0})). checkWith 6 (i ∷ []) (not (eqBytes source (lockOf (c .output)))) >> o) (live-ruled source (suc i) rs)
+live-ruled source i (some c ∷ rs) = ap (λ (o : Outcome (Unit {0})). checkWith 6 (i ∷ []) (not (hasLock source c)) >> o) (live-ruled source (suc i) rs)
+
+token-delta-ruled : (ours peer : Tx) → tokenDelta ours peer ≡ ruled (tokenDeltaLines ours peer) (fine (growth amountOf ours peer))
+unfolding tokenDelta ruled tokenDeltaLines check
+token-delta-ruled ours peer = refl
+
+-- in tokens only where a type is expected
+minted-ruled : (type : List ℕ) (ours peer : Tx)
+    → cond (isEmpty type) (fine 0) (tokenDelta ours peer) ≡ ruled (cond (isEmpty type) [] (tokenDeltaLines ours peer)) (fine (cond (isEmpty type) 0 (growth amountOf ours peer)))
+unfolding ruled
+minted-ruled type ours peer = by (isEmpty type)
+  where
+    by : (b : Bool) → cond b (fine 0) (tokenDelta ours peer) ≡ ruled (cond b [] (tokenDeltaLines ours peer)) (fine (cond b 0 (growth amountOf ours peer)))
+    by true = refl
+    by false = token-delta-ruled ours peer
 
 delta-ruled : (type : List ℕ) (ours peer : Tx)
     → fundingOutputDelta type ours peer ≡ ruled (deltaLines type ours peer) (fine (record { capacity = growth capacityOf ours peer; token = cond (isEmpty type) 0 (growth amountOf ours peer) }))
 unfolding fundingOutputDelta ruled deltaLines check
-delta-ruled type ours peer = refl
+delta-ruled type ours peer =
+    ap (λ (o : Outcome Figures). check 5 (not (isEmpty (peer .outputs))) >> (check 5 (not (isEmpty (peer .outputsData))) >> (check 5 (leb (first capacityOf (cells ours)) (first capacityOf (cells peer))) >> o)))
+    (bind-ruled (cond (isEmpty type) (fine 0) (tokenDelta ours peer)) (cond (isEmpty type) [] (tokenDeltaLines ours peer)) (cond (isEmpty type) 0 (growth amountOf ours peer)) (λ n. fine (record { capacity = growth capacityOf ours peer; token = n })) (minted-ruled type ours peer))
 
 covered-ruled : (opening : Bool) (gained needed rate size : ℕ) → covered opening gained needed rate size ≡ ruled (coveredLines opening gained needed rate size) (fine (gained - needed))
 unfolding covered ruled coveredLines check
@@ -114,8 +129,8 @@ counted-ruled : (short over : String) (type : List ℕ) (sum : ℕ) (c : Cell) �
 unfolding counted cellLines ruled check checkWith _>>_
 counted-ruled short over type sum c = by (isOf type c)
   where
-    by : (b : Bool) → cond b (check 5 (hasAmount (c .cellData)) >> (check 7 (ltb (sum + amountOf c) (2 ^ 128)) >> fine (sum + amountOf c))) (fine sum)
-        ≡ ruled (line 5 short (not b || hasAmount (c .cellData)) ∷ line 7 over (not b || ltb (sum + amountOf c) (2 ^ 128)) ∷ []) (fine (sum + cond b (amountOf c) 0))
+    by : (b : Bool) → cond b (check 5 (hasAmount c) >> (check 7 (ltb (sum + amountOf c) (2 ^ 128)) >> fine (sum + amountOf c))) (fine sum)
+        ≡ ruled (line 5 short (not b || hasAmount c) ∷ line 7 over (not b || ltb (sum + amountOf c) (2 ^ 128)) ∷ []) (fine (sum + cond b (amountOf c) 0))
     by true = refl
     by false = ap fine (omega arith)
 
@@ -158,23 +173,23 @@ token-ruled type ours peer records = by (isEmpty type)
     by false = account-ruled type (growth amountOf ours peer) records outs
 
 contribution-ruled : (type : List ℕ) (ours peer : Tx) (records : List Cell) (rate size : ℕ)
-    → contribution type ours peer records rate size
-    ≡ ruled (contributionLines type ours peer records rate size) (fine (surpluses type ours peer records))
-unfolding contribution contributionLines
+    → contribution type ours peer records rate size ≡ ruled (contributionLines type ours peer records rate size) (fine (surpluses type ours peer records))
+unfolding contribution accounts contributionLines
 contribution-ruled type ours peer records rate size =
     let gained : ℕ = total capacityOf records in
     let needed : ℕ = growth capacityOf ours peer + total capacityOf (added ours peer) in
-    let grown : ℕ = cond (isEmpty type) 0 (growth amountOf ours peer) in
+    let minted : ℕ = cond (isEmpty type) 0 (growth amountOf ours peer) in
     let ofDelta : List Line = deltaLines type ours peer in
     let ofCapacity : List Line = coveredLines (unfunded ours) gained needed rate size in
     let ofTokens : List Line = cond (isEmpty type) [] (tokenLines type (growth amountOf ours peer) records (added ours peer)) in
-    let onToken : ℕ → Outcome Figures = λ n. tokenAccount type grown records (added ours peer) >>= λ m. fine (record { capacity = n; token = m }) in
-    bind-ruled (fundingOutputDelta type ours peer) ofDelta (record { capacity = growth capacityOf ours peer; token = grown })
-    (λ d. covered (unfunded ours) gained (d .capacity + total capacityOf (added ours peer)) rate size >>= λ n. tokenAccount type (d .token) records (added ours peer) >>= λ m. fine (record { capacity = n; token = m }))
-    (delta-ruled type ours peer)
+    let onToken : ℕ → Outcome Figures = λ n. tokenAccount type minted records (added ours peer) >>= λ m. fine (record { capacity = n; token = m }) in
+    bind-ruled (fundingOutputDelta type ours peer) ofDelta (record { capacity = growth capacityOf ours peer; token = minted })
+    (λ d. accounts type ours peer records rate size (d .capacity) (d .token)) (delta-ruled type ours peer)
     ∙ ap (ruled ofDelta)
     (bind-ruled (covered (unfunded ours) gained needed rate size) ofCapacity (gained - needed) onToken (covered-ruled (unfunded ours) gained needed rate size)
-    ∙ ap (ruled ofCapacity) (bind-ruled (tokenAccount type grown records (added ours peer)) ofTokens (surpluses type ours peer records .token) (λ m. fine (record { capacity = gained - needed; token = m })) (token-ruled type ours peer records)))
+    ∙ ap (ruled ofCapacity)
+    (bind-ruled (tokenAccount type minted records (added ours peer)) ofTokens (surpluses type ours peer records .token)
+    (λ m. fine (record { capacity = gained - needed; token = m })) (token-ruled type ours peer records)))
     ∙ sym (ruled-append (ofDelta ++ ofCapacity) ofTokens _ ∙ ruled-append ofDelta ofCapacity _)
 
 spent-ruled : (source : List ℕ) (ours peer : Tx) (s : List ℕ)

@@ -7,16 +7,16 @@ use mathlib.Core.List.{List, [], _∷_, _++_}
 use mathlib.Core.Option.{Option, none, some}
 use lib.ListN.{length, drop}
 use lib.Dec.{leb, ltb, eqb}
-use Rattle.lists.specs.Lists.{eqBytes, agree, containsAll}
+use Rattle.lists.specs.Lists.{agree, containsAll}
 use Rattle.molecule.specs.Molecule.{option, readable}
 use Rattle.molecule.specs.Layout.{span, itemCount}
 use Rattle.transaction.specs.Ckb.{Script, Transaction, Records}
-use Rattle.transaction.specs.Tx.{Tx, txAt, lockOf, typeOf}
+use Rattle.transaction.specs.Tx.{Tx, txAt}
 use Rattle.units.specs.Fee.{feeShannons}
 use Rattle.rules.specs.Cells.{Cell, cells, recordAt}
 use Rattle.rules.specs.Outcome.{Outcome, checkWith, _>>_}
 use Rattle.rules.specs.Surplus.{total, first, added, capacityOf, amountOf, tokenOf, isOf, hasAmount, isEmpty}
-use Rattle.rules.specs.Judge.{Call, Figures, atFirst, growth, unfunded, liveCells}
+use Rattle.rules.specs.Judge.{Call, Figures, atFirst, hasLock, noDataUntyped, growth, unfunded, liveCells}
 
 -- what is refused, the number and its values, and whether all is well
 pub record Line : Type 0 where
@@ -63,9 +63,9 @@ comparisonLines lock type ours peer =
     ∷ line 5 "fewer inputs" (leb (length (ours .inputs)) (length (peer .inputs)))
     ∷ line 5 "an input differs" (agree (ours .inputs) (peer .inputs))
     ∷ line 5 "fewer outputs" (leb (length (ours .outputs)) (length (peer .outputs)))
-    ∷ line 5 "output 0's lock not as expected" (atFirst (λ c. eqBytes lock (lockOf (c .output))) (cells peer))
-    ∷ line 5 "output 0's type not as expected" (atFirst (λ c. eqBytes type (typeOf (c .output))) (cells peer))
-    ∷ line 5 "output 0 untyped with data" (atFirst (λ c. not (isEmpty type) || isEmpty (c .cellData)) (cells peer))
+    ∷ line 5 "output 0's lock not as expected" (atFirst (hasLock lock) (cells peer))
+    ∷ line 5 "output 0's type not as expected" (atFirst (isOf type) (cells peer))
+    ∷ line 5 "output 0 untyped with data" (atFirst (noDataUntyped type) (cells peer))
     ∷ line 5 "an output after 0 differs" (agree (drop 1 (ours .outputs)) (drop 1 (peer .outputs)))
     ∷ line 5 "fewer data entries" (leb (length (ours .outputsData)) (length (peer .outputsData)))
     ∷ line 5 "a data entry after 0 differs" (agree (drop 1 (ours .outputsData)) (drop 1 (peer .outputsData)))
@@ -77,7 +77,7 @@ isLive (some c) = true
 
 abbrev pub isOurs : List ℕ → Option Cell → Bool
 isOurs source none = false
-isOurs source (some c) = eqBytes source (lockOf (c .output))
+isOurs source (some c) = hasLock source c
 
 -- two for each record
 unfoldable pub recordLines : List ℕ → ℕ → List (Option Cell) → List Line
@@ -96,15 +96,19 @@ spentLines source ours peer s =
     ∷ line 3 "not one record per added input" (eqb (length (recordsAt s)) (length (peer .inputs) - length (ours .inputs)))
     ∷ recordLines source (length (ours .inputs)) (recordsAt s)
 
+unfoldable pub tokenDeltaLines : Tx → Tx → List Line
+tokenDeltaLines ours peer =
+    line 5 "our amount under 16 bytes" (atFirst hasAmount (cells ours))
+    ∷ line 5 "the peer's amount under 16 bytes" (atFirst hasAmount (cells peer))
+    ∷ line 5 "amount falls" (leb (first amountOf (cells ours)) (first amountOf (cells peer)))
+    ∷ []
+
 unfoldable pub deltaLines : List ℕ → Tx → Tx → List Line
 deltaLines type ours peer =
     line 5 "output 0 missing" (not (isEmpty (peer .outputs)))
     ∷ line 5 "output 0's data missing" (not (isEmpty (peer .outputsData)))
     ∷ line 5 "its capacity falls" (leb (first capacityOf (cells ours)) (first capacityOf (cells peer)))
-    ∷ line 5 "our amount under 16 bytes" (isEmpty type || atFirst (λ c. hasAmount (c .cellData)) (cells ours))
-    ∷ line 5 "the peer's amount under 16 bytes" (isEmpty type || atFirst (λ c. hasAmount (c .cellData)) (cells peer))
-    ∷ line 5 "amount falls" (isEmpty type || leb (first amountOf (cells ours)) (first amountOf (cells peer)))
-    ∷ []
+    ∷ cond (isEmpty type) [] (tokenDeltaLines ours peer)
 
 unfoldable pub coveredLines : Bool → ℕ → ℕ → ℕ → ℕ → List Line
 coveredLines opening gained needed rate size =
@@ -120,7 +124,7 @@ coveredLines opening gained needed rate size =
 -- two for each cell, where `short` and `over` name them
 unfoldable pub cellLines : String → String → List ℕ → ℕ → Cell → List Line
 cellLines short over type sum c =
-    line 5 short (not (isOf type c) || hasAmount (c .cellData))
+    line 5 short (not (isOf type c) || hasAmount c)
     ∷ line 7 over (not (isOf type c) || ltb (sum + amountOf c) (2 ^ 128))
     ∷ []
 

@@ -71,18 +71,18 @@ pub changing-whole : Whole F changing capacities (pos 900) × Whole F changing (
 unfolding computing
 changing-whole = (refl, refl, refl)
 
-pub no-token-law : Exact F (expected tokenType) (λ s. s .token) [] changing → ⊥
+pub no-token-law : Exact F (expected tokenType) (λ s. s .token) [] changing (verdicts F [] changing) (inForce F [] changing) → ⊥
 no-token-law e =
     let h : pos 2 ≡ pos 7 = ap pos (sym (changing-sums .1)) ∙ e .sums ∙ changing-whole .1 in
     let z : _≡_ {A = ℕ} 2 7 = cc in
     omega arith
 
-pub no-untyped-law : Exact F (expected []) (λ s. s .token) [] changing → ⊥
+pub no-untyped-law : Exact F (expected []) (λ s. s .token) [] changing (verdicts F [] changing) (inForce F [] changing) → ⊥
 no-untyped-law e =
     let h : pos 2 ≡ pos 0 = ap pos (sym (changing-sums .1)) ∙ e .sums ∙ changing-whole .2 in
     let z : _≡_ {A = ℕ} 2 0 = cc in
     omega arith
 
 -- capacity needs no such condition
-pub any-type-capacity : (lock start : List ℕ) (calls : List (List ℕ × Call)) → Exact (anyType lock) capacities (λ s. s .capacity) start calls
+pub any-type-capacity : (lock start : List ℕ) (calls : List (List ℕ × Call)) → Exact (anyType lock) capacities (λ s. s .capacity) start calls (verdicts (anyType lock) start calls) (inForce (anyType lock) start calls)
 any-type-capacity lock = exact (anyType lock) capacities (λ s. s .capacity) (λ ours c s e. accepted lock (c .0) ours (c .1) s e .capacity)
