@@ -1,3 +1,4 @@
+pub mod CaseLaws
 pub mod Examples
 pub mod ItemLaws
 pub mod ListLaws

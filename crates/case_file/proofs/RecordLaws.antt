@@ -16,7 +16,7 @@ use Rattle.molecule.specs.Items.{join}
 use Rattle.molecule.specs.Layout.{part}
 use Rattle.molecule.proofs.ItemsLaws.{length-join}
 use Rattle.rules.specs.Cells.{Cell}
-use Rattle.case_file.specs.declared.records.Measured.{Measured}
+use Rattle.case_file.specs.declared.record_list.Measured.{Measured}
 use Rattle.case_file.specs.CaseFile.{Read, _>>=_, kindAt, lengthAt, bodyEnd, itemEnd, bodyAt, allZero, itemAt, deadAt, cellAt, recordAt, recordsFrom, recordBytes, recordList}
 use Rattle.case_file.specs.Walk.{endOf, entryAt, cellBytes, walk, measured}
 use Rattle.case_file.proofs.ItemLaws.{no-word}

@@ -11,7 +11,7 @@ use Rattle.rules.specs.Cells.{Cell}
 use Rattle.rules.specs.Outcome.{Outcome}
 use Rattle.rules.specs.Judge.{Figures, judge}
 use Rattle.case_file.specs.declared.items.Places.{Places}
-use Rattle.case_file.specs.declared.records.Measured.{Measured}
+use Rattle.case_file.specs.declared.record_list.Measured.{Measured}
 use Rattle.case_file.specs.CaseFile.{Read, kindAt, bodyAt, itemAt, optionalAt, rateAt, recordAt, recordList}
 
 unfoldable pub endOf : {A : Type 0} → Option (Read A) → ℕ

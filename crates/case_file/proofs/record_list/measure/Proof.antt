@@ -2,8 +2,8 @@ use Prim.Native.Nat.{_-_}
 use lib.ListN.{length}
 use Rattle.case_file.proofs.RecordLaws.{Scanning}
 use Rattle.case_file.proofs.Ways.{ways}
-use Rattle.case_file.proofs.records.measure.Statement.{statement}
-use Rattle.case_file.proofs.records.measure.Tie as tie
+use Rattle.case_file.proofs.record_list.measure.Statement.{statement}
+use Rattle.case_file.proofs.record_list.measure.Tie as tie
 
 abbrev Inv-loop : tie.InvT-loop
 Inv-loop s from at₀ count₀ size₀ at count size = Scanning s from at count size

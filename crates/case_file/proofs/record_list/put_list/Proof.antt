@@ -1,7 +1,7 @@
 use Rattle.case_file.proofs.ListLaws.{list-offsets-room, list-small, list-entries-room, list-put}
 use Rattle.case_file.proofs.Ways.{ways}
-use Rattle.case_file.proofs.records.put_list.Statement.{statement}
-use Rattle.case_file.proofs.records.put_list.Tie as tie
+use Rattle.case_file.proofs.record_list.put_list.Statement.{statement}
+use Rattle.case_file.proofs.record_list.put_list.Tie as tie
 
 pub put-list-spec : {M : Type 1} → statement M
 put-list-spec =

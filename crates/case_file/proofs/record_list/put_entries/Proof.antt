@@ -2,8 +2,8 @@ use mathlib.Core.List.{flatten}
 use Rattle.case_file.specs.Walk.{walk}
 use Rattle.case_file.proofs.ListLaws.{Entering}
 use Rattle.case_file.proofs.Ways.{ways}
-use Rattle.case_file.proofs.records.put_entries.Statement.{statement}
-use Rattle.case_file.proofs.records.put_entries.Tie as tie
+use Rattle.case_file.proofs.record_list.put_entries.Statement.{statement}
+use Rattle.case_file.proofs.record_list.put_entries.Tie as tie
 
 abbrev Inv-loop : tie.InvT-loop
 Inv-loop out₀ to s from n end₀ at₀ left₀ out end at left = Entering (flatten (walk n s from)) out₀ to s out end at left

@@ -2,8 +2,8 @@ use Rattle.molecule.specs.Items.{unwords, offsets}
 use Rattle.case_file.specs.Walk.{walk}
 use Rattle.case_file.proofs.ListLaws.{Offsetting}
 use Rattle.case_file.proofs.Ways.{ways}
-use Rattle.case_file.proofs.records.put_offsets.Statement.{statement}
-use Rattle.case_file.proofs.records.put_offsets.Tie as tie
+use Rattle.case_file.proofs.record_list.put_offsets.Statement.{statement}
+use Rattle.case_file.proofs.record_list.put_offsets.Tie as tie
 
 abbrev Inv-loop : tie.InvT-loop
 Inv-loop out₀ to s from n first end₀ at₀ left₀ offset₀ out end at left offset = Offsetting (unwords (offsets first (walk n s from))) out₀ to s out end at left offset
