@@ -1,7 +1,7 @@
 #!/usr/bin/env python3
 """Writes case files with the lines that the check program has to print: NAME.case and beside it NAME.line.
 
-  tools/cases.py          the known outcomes, into examples/
+  tools/cases.py          the known outcomes, into examples/cases
   tools/cases.py DIR      these, and for each line of the rules' table the case in which it alone fails, into DIR
 
 The names are those of crates/known_outcomes/specs/Cases.antt and Outcomes.antt and of crates/known_lines/specs/Alone.antt, where the same cases are
@@ -171,6 +171,6 @@ def write(folder, cases):
 
 if __name__ == '__main__':
     if len(sys.argv) == 1:
-        write('examples', KNOWN)
+        write('examples/cases', KNOWN)
     else:
         write(sys.argv[1], KNOWN + LINES)
