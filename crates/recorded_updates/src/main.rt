@@ -9,9 +9,6 @@ use molecule::write;
 // Room for the longest part and for the longest file, which is longer than a case file may be.
 const ROOM: usize = 66_000;
 
-// Room for the longest line.
-const LINE: usize = 96;
-
 // The counts: files by number, then those with another line by number, then those at which the Rust panics.
 const NUMBERS: usize = 9;
 
@@ -83,9 +80,10 @@ fn print(counts: &[u64]) {
 
 // Whether the library answers the file with this line.
 fn is_right(file: &[u8], line: &[u8]) -> bool {
-    let mut out = [0u8; LINE];
-    let n = case_file::check(file, &mut out);
-    check::same(molecule::part(&out, 0, n), line)
+    let mut records = [0u8; case_file::RECORD_BYTES];
+    let mut out = [0u8; verdict_line::LINE_BYTES];
+    let n = case_file::check_case(file, &mut records, &mut out);
+    check::same(&out[0..n], line)
 }
 
 // The number that a line begins with.
@@ -176,12 +174,16 @@ fn read_at(buf: &mut [u8], at: usize, n: usize) {
     }
 }
 
-fn judge_part(counts: &mut [u64], part: &[u8]) {
-    let file = molecule::field(part, 3, 0);
-    let line = molecule::field(part, 3, 1);
+// The file itself, which has a line unless an earlier part had it.
+fn judge_file(counts: &mut [u64], file: &[u8], line: &[u8]) {
     if line.len() != 0 {
         judge(counts, file, line);
     }
+}
+
+fn judge_part(counts: &mut [u64], part: &[u8]) {
+    let file = molecule::field(part, 3, 0);
+    judge_file(counts, file, molecule::field(part, 3, 1));
     judge_copies(counts, file, molecule::field(part, 3, 2));
 }
 
