@@ -7,11 +7,17 @@ use lib.IntN.{ℤ, pos}
 use Rattle.rules.specs.Outcome.{fine, refused}
 use Rattle.rules.specs.Surplus.{Measure, capacities, expected, surplus}
 use Rattle.rules.specs.Judge.{Call, Figures, txOf}
-use Rattle.rules.specs.Run.{Entry, Exact, verdicts, inForce, kept, steps, carried, sum, recordsOf, updateForPeer}
+use Rattle.rules.specs.Run.{Entry, Exact, verdicts, inForce, kept, keptRecords, steps, carried, sum, updateForPeer, Returned, Ran, stop, call}
+use Rattle.arithmetic.specs.Amount.{amountOf}
+use Rattle.units.specs.Units.{inShannons, inTokens, shannonCount, tokenCount}
+use Rattle.error.specs.declared.Refusal.{Refusal}
+use Rattle.error.specs.Refusal.{number, values}
+use Rattle.rules.specs.declared.Update.{Update}
+use Rattle.funding_tx.specs.Negotiation.{Called}
 use Rattle.rules.proofs.Accept.{accepted}
 use Rattle.rules.proofs.Law.{exact}
 use Rattle.known_outcomes.specs.Cases.{expectedLock, tokenType, input, token, amount}
-use Rattle.known_outcomes.specs.Runs.{worked, growing, spentFor, anyType, changing}
+use Rattle.known_outcomes.specs.Runs.{worked, opening, growing, spentFor, anyType, changing}
 use Rattle.known_outcomes.proofs.Computing.{computing}
 
 -- ---- the worked list, from none
@@ -47,11 +53,20 @@ worked-sums = (refl, refl)
 
 -- the surplus of the end against the start, over the kept records
 abbrev Whole : {C : Type 0} → Entry C Figures → List C → Measure → ℤ → Type 0
-Whole F calls m z = surplus m (txOf []) (txOf (inForce F [] calls)) (recordsOf (kept F [] calls)) ≡ z
+Whole F calls m z = surplus m (txOf []) (txOf (inForce F [] calls)) (keptRecords F [] calls) ≡ z
 
 pub worked-whole : Whole E worked capacities (pos 870) × Whole E worked (expected tokenType) (pos 2)
 unfolding computing
 worked-whole = (refl, refl)
+
+-- these are calls of the code: what its contracts say of them holds
+abbrev accept : ℕ → ℕ → Call → Returned Update
+accept capacity token c = record { answer = Update.Accepted (inShannons (amountOf capacity)) (inTokens (amountOf token)); handed = c .peer }
+
+pub worked-ran : Ran (Called expectedLock tokenType) [] worked
+    (accept 860 1 opening ∷ record { answer = Update.Refused Refusal.InvalidPeerFundingTx; handed = opening .peer } ∷ accept 10 1 growing ∷ []) (growing .peer)
+unfolding computing shannonCount tokenCount number values
+worked-ran = call (record { answer = refl; bytes = refl }) (call (record { answer = refl; bytes = refl }) (call (record { answer = refl; bytes = refl }) stop))
 
 -- ---- the type changes
 
