@@ -369,4 +369,5 @@ def main():
         print('\n'.join([crate] + expected))
 
 
-main()
+if __name__ == '__main__':
+    main()

@@ -1,4 +1,5 @@
-// The peer's transaction against ours: everything that we put in stands, and output 0 is the funding cell.
+// The peer's transaction against ours: no cell dep, header dep, input, output or data of ours is gone, and output 0 is the funding cell. Cell deps may be
+// reordered, output 0 and its data may change, and witnesses are not compared.
 use transaction::fields;
 ghost use mathlib.Core.Path.{_≡_};
 ghost use lib.ListN.{length, drop};
@@ -125,7 +126,7 @@ fn extends_data(ours: &[u8], peer: &[u8]) -> bool
     lists::entries_extend(a, b)
 }
 
-// Whether the peer changed nothing of ours but output 0 and its data; the refusal is 5.
+// Whether the peer keeps what is ours and has the expected funding cell as output 0; the refusal is 5.
 pub fn keeps_ours(lock: &[u8], udt: &[u8], ours: &[u8], peer: &[u8]) -> bool
     ensures { λ r. ⌜ check 5 r ≡ comparison (now (lock .entry)) (now (udt .entry)) (txAt (now (ours .entry))) (txAt (now (peer .entry))) ⌝ }
 {

@@ -74,7 +74,7 @@ fn is_unfunded(ours: &[u8]) -> bool
     fields::output_count(ours) == 0
 }
 
-// What is left of what the records brought in over growth and added outputs, which pays the fee of a first update.
+// What is left of what the records brought in over growth and added outputs, which pays the fee where ours is still empty.
 fn cover(
     opening: bool,
     gained: Shannons,

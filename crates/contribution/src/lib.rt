@@ -132,7 +132,7 @@ pub fn added_peer_outputs(ours: &[u8]) -> usize
     n
 }
 
-// Records and added outputs, with output 0 grown by so much.
+// What is left of the records over the added outputs and the growth of output 0, in capacity and in tokens.
 fn surpluses(
     udt: &[u8],
     ours: &[u8],
@@ -140,23 +140,24 @@ fn surpluses(
     records: &[u8],
     rate: u64,
     grown: Shannons,
-    minted: Tokens,
+    risen: Tokens,
 ) -> Update
-    ensures { λ r. ⌜ told r ≡ accounts (now (udt .entry)) (txAt (now (ours .entry))) (txAt (now (peer .entry))) (recordCells (now (records .entry))) rate (length (now (peer .entry)) + 4) (shannonCount grown) (tokenCount minted) ⌝ }
+    ensures { λ r. ⌜ told r ≡ accounts (now (udt .entry)) (txAt (now (ours .entry))) (txAt (now (peer .entry))) (recordCells (now (records .entry))) rate (length (now (peer .entry)) + 4) (shannonCount grown) (tokenCount risen) ⌝ }
 {
     let size = limits::serialized_size_in_block(peer);
     let capacity = match capacity::surplus(ours, peer, records, grown, rate, size) {
         CapacitySurplus::Is(c) => c,
         CapacitySurplus::Refused(e) => return Update::Refused(e),
     };
-    match token::surplus(udt, ours, peer, records, minted) {
+    match token::surplus(udt, ours, peer, records, risen) {
         TokenSum::Is(token) => Update::Accepted { capacity, token },
         TokenSum::Invalid => Update::Refused(Refusal::InvalidPeerFundingTx),
         TokenSum::Overflow => Update::Refused(Refusal::OverflowError),
     }
 }
 
-// Whether the cells that the peer's added inputs spend cover the growth of output 0 and the outputs that it added, and the fee of a first update.
+// What is left of the cells that the peer's added inputs spend over the growth of output 0 and the outputs that it added; where ours is still empty it has
+// to pay the fee. The records must have been resolved: of one that is not live it reads an empty cell.
 pub fn verify_peer_funding_contribution(
     udt: &[u8],
     ours: &[u8],

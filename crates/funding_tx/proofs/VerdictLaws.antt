@@ -14,11 +14,13 @@ use Rattle.rules.specs.declared.Update.{Update}
 use Rattle.rules.specs.Outcome.{Outcome, fine, refused, check, checkWith, given, _>>_, _>>=_}
 use Rattle.rules.specs.Cells.{readOurs, readRecords, recordCells}
 use Rattle.rules.specs.Judge.{scripts, limits, comparison, spent, contribution, judge}
-use Rattle.rules.specs.Told.{told}
+use Rattle.rules.specs.Told.{told, inForceOf}
+use Rattle.rules.specs.Run.{next, updateForPeer}
 use Rattle.rules.proofs.Checks.{skip, fail, pass, last-is}
 use Rattle.rules.proofs.CellLaws.{read-yes, read-no, ours-yes, ours-no}
 use Rattle.records.specs.declared.Resolved.{Resolved}
 use Rattle.records.specs.Resolved.{resolved}
+use Rattle.funding_tx.proofs.Demand3.{hands}
 
 -- ---- the scripts
 
@@ -83,3 +85,10 @@ module _ (lock type o p s source : List ℕ) (rate : ℕ) where
               unfolding judge given _>>=_ _>>_ check checkWith
               judge-is u k h =
                   rw (ours-yes o (sym e₁ ∙ not-false r₁ t₁), read-yes p (sym e₂ ∙ not-false r₂ t₂), ← e₃, not-false r₃ t₃, ← e₄, not-false r₄ t₄, ← e₅, not-false r₅ t₅, ← ec, k) h
+
+-- ---- a whole call
+
+pub next-is : (lock type o p s source : List ℕ) (rate : ℕ) (u : Update) {x : List ℕ}
+    → told u ≡ judge lock type o (record { peer = p; records = s; source = source; rate = rate }) → x ≡ inForceOf u o p
+    → x ≡ next (updateForPeer lock type) o (record { peer = p; records = s; source = source; rate = rate })
+next-is lock type o p s source rate u e h = h ∙ hands lock type (judge lock type o (record { peer = p; records = s; source = source; rate = rate })) u o p e

@@ -6,6 +6,7 @@ ghost use mathlib.Core.Path.{_≡_};
 ghost use Rattle.rules.specs.Outcome.{check};
 ghost use Rattle.rules.specs.Judge.{scripts, judge};
 ghost use Rattle.rules.specs.Told.{told, inForceOf};
+ghost use Rattle.rules.specs.Run.{next, updateForPeer};
 
 // Whether the expected funding lock and type (empty for none) and our source lock are scripts; the refusal is 3.
 fn are_scripts(lock: &[u8], udt: &[u8], source: &[u8]) -> bool
@@ -72,4 +73,20 @@ pub fn in_force<'a>(update: Update, ours: &'a [u8], peer: &'a [u8]) -> &'a [u8]
         } => peer,
         Update::Refused(_) => ours,
     }
+}
+
+// A whole call: judges the peer's update and hands back the transaction that is then in force, for a caller who needs no more of the answer.
+pub fn next_in_force<'a>(
+    ours: &'a [u8],
+    peer: &'a [u8],
+    lock: &[u8],
+    udt: &[u8],
+    source: &[u8],
+    rate: u64,
+    records: &[u8],
+) -> &'a [u8]
+    ensures { λ r. ⌜ now r ≡ next (updateForPeer (now (lock .entry)) (now (udt .entry))) (now (ours .entry)) (record { peer = now (peer .entry); records = now (records .entry); source = now (source .entry); rate = rate }) ⌝ }
+{
+    let update = update_for_peer(ours, peer, lock, udt, source, rate, records);
+    in_force(update, ours, peer)
 }

@@ -1,21 +1,14 @@
 -- Every known outcome is what the definitions compute.
 use mathlib.Core.Path.{_≡_, refl}
-use mathlib.Core.List.{flatten}
-use mathlib.Core.Option.{bind}
-use Rattle.arithmetic.specs.LittleEndian.{le, toLe, numAt}
-use Rattle.units.specs.Fee.{requiredFee, changeCapacity}
-use Rattle.molecule.specs.Partial.{only, pick, there, both, each, All}
-use Rattle.molecule.specs.Items.{join, unwords, offsets, words, cuts, items, split}
-use Rattle.molecule.specs.Molecule.{encode, size, chunks, pieces, oneByte, decode, readable}
-use Rattle.molecule.specs.Layout.{part, word, start, span, fieldOf, itemCount, itemOf, fixItem, content, entryOf}
-use Rattle.lists.specs.Lists.{eqBytes, extends, contains, containsAll}
-use Rattle.transaction.specs.Tx.{rawField, witnessesOf, readTx, capacityOf, lockOf, typeOf, firstOf, dataOf}
-use Rattle.rules.specs.Cells.{readOurs, recordAt, readRecords}
-use Rattle.rules.specs.Outcome.{check, checkWith, given, _>>=_, _>>_}
-use Rattle.rules.specs.Surplus.{isEmpty, total, first, amount}
-use Rattle.rules.specs.Judge.{judge, scripts, limits, comparison, fundingCell, live, liveCells, spent, firstAmount, fundingOutputDelta, covered, capacityAccount, counted, tally, settled, account, tokenAccount, contribution}
+use Rattle.molecule.specs.Partial.{All}
 use Rattle.known_outcomes.specs.Outcomes.{Outcome, outcomes}
+use Rattle.known_outcomes.proofs.Computing.{computing}
+use Rattle.known_outcomes.proofs.Largest.{bytes-pass, bytes-over}
+use Rattle.known_outcomes.proofs.Rows.{_and_, done}
 
 pub known-outcomes : All (λ (o : Outcome). o .computed ≡ o .expected) outcomes
-unfolding encode join unwords offsets flatten toLe requiredFee changeCapacity le numAt only pick there both each words cuts items split size chunks pieces oneByte decode readable bind part word start span fieldOf itemCount itemOf fixItem content entryOf eqBytes extends contains containsAll rawField witnessesOf readTx capacityOf lockOf typeOf firstOf dataOf readOurs recordAt readRecords check checkWith given _>>=_ _>>_ isEmpty total first amount judge scripts limits comparison fundingCell live liveCells spent firstAmount fundingOutputDelta covered capacityAccount counted tally settled account tokenAccount contribution
-known-outcomes = (refl, (refl, (refl, (refl, (refl, (refl, (refl, (refl, (refl, (refl, (refl, (refl, (refl, (refl, tt))))))))))))))
+unfolding computing
+known-outcomes =
+    refl and refl and refl and refl and refl and refl and refl and refl and refl and refl and refl and refl and refl
+    and refl and refl and refl and refl and refl and refl and refl and refl and bytes-pass and bytes-over and refl
+    and refl and refl and done

@@ -1,80 +1,110 @@
--- The transactions of the known outcomes (01-scope.md, "Case file and known outcomes"), as values of the schema.
+-- What the cases are built from: values of the schema, written as bytes.
 use Prim.Native.Nat.{ℕ}
 use mathlib.Core.List.{List, [], _∷_}
 use mathlib.Core.Option.{none, some}
 use lib.ListN.{replicate}
 use Rattle.arithmetic.specs.LittleEndian.{toLe}
 use Rattle.molecule.specs.Molecule.{option, Value, encode}
-use Rattle.transaction.specs.Ckb.{Script, CellInput, CellOutput, Transaction, Record, Records}
-use Rattle.rules.specs.Judge.{Call}
+use Rattle.molecule.specs.Layout.{span}
+use Rattle.transaction.specs.Ckb.{Byte32, Script, CellDep, CellInput, CellOutput, Transaction, Record, Records}
+use Rattle.rules.specs.Outcome.{Outcome}
+use Rattle.rules.specs.Judge.{Call, Figures, judge}
 
--- version 0 and empty lists
-abbrev pub emptyTx : Value Transaction
-emptyTx = ((toLe 4 0, ([], ([], ([], ([], ([], tt)))))), ([], tt))
+-- ---- scripts: a code hash of one byte repeated, hash type 0 and empty args
 
--- a script of a code hash of one byte repeated, hash type 0 and empty args
 abbrev pub plainScript : ℕ → Value Script
 plainScript b = (replicate 32 b, (0, ([], tt)))
-
--- an output with no type
-abbrev pub plainOutput : ℕ → Value CellOutput
-plainOutput shannons = (toLe 8 shannons, (plainScript 0, (none, tt)))
-
--- an input of since 0 and output 0 of the transaction whose hash is zeros
-abbrev pub plainInput : Value CellInput
-plainInput = (toLe 8 0, ((replicate 32 0, (toLe 4 0, tt)), tt))
-
--- one input, one untyped output of 10,000,000,000 with empty lock args and empty data, no deps and no witnesses
-abbrev pub peerTx : Value Transaction
-peerTx = ((toLe 4 0, ([], ([], (plainInput ∷ [], (plainOutput 10000000000 ∷ [], ([] ∷ [], tt)))))), ([], tt))
-
--- one record, of an untyped output of so many shannons
-abbrev pub oneRecord : ℕ → List ℕ
-oneRecord shannons = encode Records (some (plainOutput shannons, ([], tt)) ∷ [])
-
--- that transaction proposed at a fee rate with the records lent; the expected lock and our source lock differ in their code hash
-abbrev pub proposal : ℕ → List ℕ → Call
-proposal rate records = record { peer = encode Transaction peerTx; records = records; source = encode Script (plainScript 1); rate = rate }
 
 abbrev pub expectedLock : List ℕ
 expectedLock = encode Script (plainScript 0)
 
--- ---- tokens
+abbrev pub ourLock : List ℕ
+ourLock = encode Script (plainScript 1)
 
-abbrev pub tokenType : Value Script
-tokenType = plainScript 2
+abbrev pub tokenType : List ℕ
+tokenType = encode Script (plainScript 2)
 
-abbrev pub typedOutput : ℕ → Value CellOutput
-typedOutput shannons = (toLe 8 shannons, (plainScript 0, (some tokenType, tt)))
+-- ---- parts of transactions, told apart by a number
 
--- so many inputs, one output of the token with an amount
-abbrev pub tokenTx : List (Value CellInput) → ℕ → Value Transaction
-tokenTx inputs amount = ((toLe 4 0, ([], ([], (inputs, (typedOutput 10000000000 ∷ [], (toLe 16 amount ∷ [], tt)))))), ([], tt))
+-- the output n of the transaction whose hash is zeros, with since 0 or as a dep of type 0
+abbrev pub input : ℕ → Value CellInput
+input n = (toLe 8 0, ((replicate 32 0, (toLe 4 n, tt)), tt))
 
--- a record of the token, of 20,000,000,000 shannons
-abbrev pub tokenRecord : ℕ → Value (option Record)
-tokenRecord amount = some (typedOutput 20000000000, (toLe 16 amount, tt))
+abbrev pub dep : ℕ → Value CellDep
+dep n = ((replicate 32 0, (toLe 4 n, tt)), (0, tt))
 
-abbrev pub tokenProposal : List (Value CellInput) → ℕ → List (Value (option Record)) → Call
-tokenProposal inputs amount records = record {
-  peer = encode Transaction (tokenTx inputs amount);
-  records = encode Records records;
-  source = encode Script (plainScript 1);
-  rate = 1000;
-}
+abbrev pub header : ℕ → Value Byte32
+header n = replicate 32 n
 
--- ---- inputs under our source lock: ours has two inputs, the peer adds two
+-- the first k of them
+abbrev pub inputs : ℕ → List (Value CellInput)
+inputs k = span input 0 k
 
-abbrev pub inputsTx : List (Value CellInput) → Value Transaction
-inputsTx inputs = ((toLe 4 0, ([], ([], (inputs, (plainOutput 10000000000 ∷ [], ([] ∷ [], tt)))))), ([], tt))
+abbrev pub deps : ℕ → List (Value CellDep)
+deps k = span dep 0 k
 
-abbrev pub ourRecord : Value (option Record)
-ourRecord = some ((toLe 8 5, (plainScript 1, (none, tt))), ([], tt))
+abbrev pub output : ℕ → Value (option Script) → ℕ → Value CellOutput
+output lock type shannons = (toLe 8 shannons, (plainScript lock, (type, tt)))
 
-abbrev pub ourLockProposal : Call
-ourLockProposal = record {
-  peer = encode Transaction (inputsTx (plainInput ∷ plainInput ∷ plainInput ∷ plainInput ∷ []));
-  records = encode Records (ourRecord ∷ none ∷ []);
-  source = encode Script (plainScript 1);
-  rate = 1000;
-}
+-- under the expected lock, with no type or of the token
+abbrev pub plain : ℕ → Value CellOutput
+plain shannons = output 0 none shannons
+
+abbrev pub token : ℕ → Value CellOutput
+token shannons = output 0 (some (plainScript 2)) shannons
+
+abbrev pub amount : ℕ → List ℕ
+amount n = toLe 16 n
+
+-- ---- transactions: version, cell deps, header deps, inputs, outputs and their data
+
+abbrev pub transaction : ℕ → List (Value CellDep) → List (Value Byte32) → List (Value CellInput) → List (Value CellOutput) → List (List ℕ) → List (List ℕ) → List ℕ
+transaction version ds hs is os es ws = encode Transaction ((toLe 4 version, (ds, (hs, (is, (os, (es, tt)))))), (ws, tt))
+
+-- of version 0, with no deps and no witnesses
+abbrev pub spending : List (Value CellInput) → List (Value CellOutput) → List (List ℕ) → List ℕ
+spending is os es = transaction 0 [] [] is os es []
+
+-- one input and one output of 100 shannons; the same holding tokens
+abbrev pub usual : List ℕ
+usual = spending (inputs 1) (plain 100 ∷ []) ([] ∷ [])
+
+abbrev pub holding : ℕ → List ℕ
+holding n = spending (inputs 1) (token 100 ∷ []) (amount n ∷ [])
+
+-- ---- records
+
+abbrev pub cell : Value CellOutput → List ℕ → Value (option Record)
+cell o d = some (o, (d, tt))
+
+abbrev pub notLive : Value (option Record)
+notLive = none
+
+-- ---- calls, at a fee rate of 1,000 shannons for 1,000 bytes
+
+abbrev pub atRate : ℕ → List ℕ → List (Value (option Record)) → Call
+atRate rate peer records = record { peer = peer; records = encode Records records; source = ourLock; rate = rate }
+
+abbrev pub offer : List ℕ → List (Value (option Record)) → Call
+offer peer records = atRate 1000 peer records
+
+-- so many inputs, each worth 200,000 shannons; outputs of 100 each; cell deps; and bytes in its one witness
+abbrev pub crowd : ℕ → ℕ → ℕ → ℕ → Call
+crowd ins outs ds bytes =
+    offer (transaction 0 (deps ds) [] (inputs ins) (replicate outs (plain 100)) (replicate outs []) (replicate bytes 0 ∷ [])) (replicate ins (cell (plain 200000) []))
+
+-- everything that a verdict is made of
+pub record Case : Type 0 where
+  pub lock : List ℕ
+  pub type : List ℕ
+  pub ours : List ℕ
+  pub call : Call
+
+abbrev pub untyped : List ℕ → Call → Case
+untyped ours call = record { lock = expectedLock; type = []; ours = ours; call = call }
+
+abbrev pub typed : List ℕ → Call → Case
+typed ours call = record { lock = expectedLock; type = tokenType; ours = ours; call = call }
+
+abbrev pub judged : Case → Outcome Figures
+judged c = judge (c .lock) (c .type) (c .ours) (c .call)

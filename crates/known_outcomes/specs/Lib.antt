@@ -1,2 +1,5 @@
+pub mod CaseFiles
 pub mod Cases
+pub mod Decided
 pub mod Outcomes
+pub mod Runs

@@ -2,15 +2,18 @@
 -- paper says. proofs/KnownOutcomes.antt proves all rows at once.
 use Prim.Native.Nat.{ℕ, _+_, _-_, _^_}
 use mathlib.Core.List.{List, [], _∷_}
-use lib.ListN.{length}
+use mathlib.Core.Option.{none}
+use lib.ListN.{length, replicate}
 use Rattle.units.specs.declared.{Shannons.Shannons, CheckedShannons.CheckedShannons}
 use Rattle.arithmetic.specs.Amount.{value}
 use Rattle.units.specs.Fee.{requiredFee, changeCapacity}
 use Rattle.molecule.specs.Molecule.{encode}
-use Rattle.transaction.specs.Ckb.{Script, CellOutput, Transaction, Records}
+use Rattle.transaction.specs.Ckb.{CellOutput}
 use Rattle.rules.specs.Outcome as verdict
-use Rattle.rules.specs.Judge.{Figures, judge}
-use Rattle.known_outcomes.specs.Cases.{emptyTx, peerTx, plainScript, plainOutput, oneRecord, proposal, expectedLock, plainInput, tokenType, tokenRecord, tokenProposal, inputsTx, ourLockProposal}
+use Rattle.rules.specs.Judge.{Figures}
+use Rattle.case_file.specs.CaseFile.{caseLine}
+use Rattle.known_outcomes.specs.CaseFiles.{ascii, file, fileAt, firstFile}
+use Rattle.known_outcomes.specs.Cases.{expectedLock, tokenType, inputs, output, plain, token, amount, spending, crowd, cell, notLive, atRate, offer, Case, untyped, judged}
 
 pub record Outcome : Type 0 where
   pub computed : List ℕ
@@ -36,35 +39,70 @@ ifFits (CheckedShannons.Fits s) = shannons s
 ifFits CheckedShannons.Overflow = []
 
 -- 0 and the surpluses in capacity and token, or the refusal's number and its values
-abbrev told : verdict.Outcome Figures → List ℕ
-told (verdict.fine s) = 0 ∷ s .capacity ∷ s .token ∷ []
-told (verdict.refused n l) = n ∷ l
+abbrev pub numbers : verdict.Outcome Figures → List ℕ
+numbers (verdict.fine s) = 0 ∷ s .capacity ∷ s .token ∷ []
+numbers (verdict.refused n l) = n ∷ l
+
+abbrev pub answer : Case → List ℕ
+answer c = numbers (judged c)
+
+-- ---- transactions
+
+abbrev pub emptyTx : List ℕ
+emptyTx = spending [] [] []
+
+-- one input, one untyped output of 10,000,000,000 with empty lock args and empty data, no deps and no witnesses
+abbrev pub peerTx : List ℕ
+peerTx = spending (inputs 1) (plain 10000000000 ∷ []) ([] ∷ [])
+
+-- so many outputs of 100 shannons
+abbrev pub outputsTx : ℕ → List ℕ
+outputsTx n = spending (inputs 1) (replicate n (plain 100)) (replicate n [])
+
+-- so many inputs
+abbrev pub inputsTx : ℕ → List ℕ
+inputsTx n = spending (inputs n) (plain 100 ∷ []) ([] ∷ [])
+
+-- two inputs, and 5 tokens at output 0
+abbrev pub tokensTx : List ℕ
+tokensTx = spending (inputs 2) (token 100 ∷ []) (amount 5 ∷ [])
 
 abbrev pub outcomes : List Outcome
 outcomes =
     -- version 0 and empty lists: 68 bytes, size 72
-    (measured (encode Transaction emptyTx) gives 68 ∷ 72 ∷ [])
-    -- one input, one untyped output: 201 bytes; its lock has 53, its output 77
-    ∷ (measured (encode Transaction peerTx) gives 201 ∷ 205 ∷ [])
-    ∷ (bytes (encode Script (plainScript 0)) gives 53 ∷ [])
-    ∷ (bytes (encode CellOutput (plainOutput 10000000000)) gives 77 ∷ [])
-    -- the fee at rate 1,000 is 205, and at rate 1,005 it is 206
+    (measured emptyTx gives 68 ∷ 72 ∷ [])
+    -- one input, one untyped output: 201 bytes; its lock has 53, its output 77; the fee at rate 1,000 is 205, and at rate 1,005 it is 206
+    ∷ (measured peerTx gives 201 ∷ 205 ∷ [])
+    ∷ (bytes expectedLock gives 53 ∷ [])
+    ∷ (bytes (encode CellOutput (plain 10000000000)) gives 77 ∷ [])
     ∷ (shannons (requiredFee 1000 205) gives 205 ∷ [])
     ∷ (shannons (requiredFee 1005 205) gives 206 ∷ [])
-    -- ours none, rate 1,000, a record of 10,000,000,205: accepted, surplus 205; one less: 8 204 205 1000 205; at rate 1,005, 206 is required
-    ∷ (told (judge expectedLock [] [] (proposal 1000 (oneRecord 10000000205))) gives 0 ∷ 205 ∷ 0 ∷ [])
-    ∷ (told (judge expectedLock [] [] (proposal 1000 (oneRecord 10000000204))) gives 8 ∷ 204 ∷ 205 ∷ 1000 ∷ 205 ∷ [])
-    ∷ (told (judge expectedLock [] [] (proposal 1005 (oneRecord 10000000205))) gives 8 ∷ 205 ∷ 206 ∷ 1005 ∷ 205 ∷ [])
+    -- ours none, rate 1,000, a record of 10,000,000,205: the case file has the paper's item words, and the whole output is the line; surplus 205
+    ∷ (file [] [] peerTx (cell (plain 10000000205) [] ∷ []) gives firstFile peerTx)
+    ∷ (caseLine (firstFile peerTx) gives ascii "0 000000000000000000000000000000cd\n")
+    ∷ (answer (untyped [] (offer peerTx (cell (plain 10000000205) [] ∷ []))) gives 0 ∷ 205 ∷ 0 ∷ [])
+    -- record one less; at rate 1,005, 206 is required
+    ∷ (caseLine (file [] [] peerTx (cell (plain 10000000204) [] ∷ [])) gives ascii "8 204 205 1000 205\n")
+    ∷ (answer (untyped [] (offer peerTx (cell (plain 10000000204) [] ∷ []))) gives 8 ∷ 204 ∷ 205 ∷ 1000 ∷ 205 ∷ [])
+    ∷ (caseLine (fileAt 1005 [] [] peerTx (cell (plain 10000000205) [] ∷ [])) gives ascii "8 205 206 1005 205\n")
+    ∷ (answer (untyped [] (atRate 1005 peerTx (cell (plain 10000000205) [] ∷ []))) gives 8 ∷ 205 ∷ 206 ∷ 1005 ∷ 205 ∷ [])
     -- that transaction against itself, no record: accepted, surplus 0
-    ∷ (told (judge expectedLock [] (encode Transaction peerTx) (proposal 1000 (encode Records []))) gives 0 ∷ 0 ∷ 0 ∷ [])
+    ∷ (caseLine (file peerTx [] peerTx []) gives ascii "0 00000000000000000000000000000000\n")
+    ∷ (answer (untyped peerTx (offer peerTx [])) gives 0 ∷ 0 ∷ 0 ∷ [])
+    -- from none, 3 outputs pass the limits, 4 get 4
+    ∷ (caseLine (file [] [] (outputsTx 3) (cell (plain 200000) [] ∷ [])) gives ascii "0 00000000000000000000000000030c14\n")
+    ∷ (caseLine (file [] [] (outputsTx 4) (cell (plain 200000) [] ∷ [])) gives ascii "4\n")
+    -- inputs 64 and 65, deps 8 and 9, bytes 133,116 and 133,117 (209 and the witness) likewise
+    ∷ (answer (untyped [] (crowd 64 1 0 0)) gives 0 ∷ 12799900 ∷ 0 ∷ [])
+    ∷ (answer (untyped [] (crowd 65 1 0 0)) gives 4 ∷ [])
+    ∷ (answer (untyped [] (crowd 1 1 8 0)) gives 0 ∷ 199900 ∷ 0 ∷ [])
+    ∷ (answer (untyped [] (crowd 1 1 9 0)) gives 4 ∷ [])
+    ∷ (answer (untyped [] (crowd 1 1 0 132907)) gives 0 ∷ 199900 ∷ 0 ∷ [])
+    ∷ (answer (untyped [] (crowd 1 1 0 132908)) gives 4 ∷ [])
     -- ours 2 inputs, added record 0 under our lock, record 1 not live: 6 2
-    ∷ (told (judge expectedLock [] (encode Transaction (inputsTx (plainInput ∷ plainInput ∷ []))) ourLockProposal) gives 6 ∷ 2 ∷ [])
-    -- typed, from none: 7 brought in and 5 at output 0, accepted with 2 left; token records 2^128 - 1 and 1: 7
-    ∷ (told (judge expectedLock (encode Script tokenType) [] (tokenProposal (plainInput ∷ []) 5 (tokenRecord 7 ∷ []))) gives 0 ∷ 10000000000 ∷ 2 ∷ [])
-    ∷ (told
-    (judge expectedLock (encode Script tokenType) []
-    (tokenProposal (plainInput ∷ plainInput ∷ []) 5 (tokenRecord (2 ^ 128 - 1) ∷ tokenRecord 1 ∷ [])))
-    gives 7 ∷ [])
+    ∷ (caseLine (file (inputsTx 2) [] (inputsTx 4) (cell (output 1 none 5) [] ∷ notLive ∷ [])) gives ascii "6 2\n")
+    -- token records 2^128 - 1 and 1: 7
+    ∷ (caseLine (file [] tokenType tokensTx (cell (token 1000) (amount (2 ^ 128 - 1)) ∷ cell (token 1000) (amount 1) ∷ [])) gives ascii "7\n")
     -- lock args 20, type args 32: change capacity 14,200,000,000
     ∷ (ifFits (changeCapacity 20 32) gives 14200000000 ∷ [])
     ∷ []

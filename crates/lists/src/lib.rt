@@ -4,8 +4,11 @@ ghost use lib.ListN.{drop};
 ghost use Rattle.molecule.specs.Layout.{fixItem, fixItems, itemOf, itemsOf, entryOf, entriesOf};
 ghost use Rattle.lists.specs.Lists.{eqBytes, extends, contains, containsAll};
 
-// Item 0 is the funding cell's, which a peer may change.
-const FIRST_COMPARED: usize = 1;
+// Output 0 is the funding cell, which a peer may change.
+const FIRST_OUTPUT: usize = 1;
+
+// So may its data.
+const FIRST_ENTRY: usize = 1;
 
 // Whether a and b hold the same bytes. The loop has no early exit, so that it is compiled to wide comparisons.
 pub fn same(a: &[u8], b: &[u8]) -> bool
@@ -111,7 +114,7 @@ pub fn items_extend(a: &[u8], b: &[u8]) -> bool
 {
     let m = molecule::item_count(a) as usize;
     let n = molecule::item_count(b) as usize;
-    let mut i = FIRST_COMPARED;
+    let mut i = FIRST_OUTPUT;
     while i < m {
         if n <= i {
             return false;
@@ -130,7 +133,7 @@ pub fn entries_extend(a: &[u8], b: &[u8]) -> bool
 {
     let m = molecule::item_count(a) as usize;
     let n = molecule::item_count(b) as usize;
-    let mut i = FIRST_COMPARED;
+    let mut i = FIRST_ENTRY;
     while i < m {
         if n <= i {
             return false;

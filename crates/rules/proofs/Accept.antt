@@ -15,10 +15,11 @@ use Rattle.molecule.specs.Partial.{only}
 use Rattle.molecule.specs.Molecule.{option, readable}
 use Rattle.molecule.proofs.ReadableLaws.{readable-option}
 use Rattle.transaction.specs.Ckb.{Transaction}
-use Rattle.rules.specs.Surplus.{total, first, added, Measure, capacities, capacityOf, amountOf, tokenOf, isOf, hasAmount, tokens, nothing, expected, isEmpty}
+use Rattle.rules.specs.Surplus.{All, total, first, added, Measure, capacities, capacityOf, amountOf, tokenOf, isOf, hasAmount, tokens, nothing, expected, isEmpty}
 use Rattle.rules.specs.Judge.{Call, Figures, txOf, judge, spent, comparison, live, liveCells, counted, tally, settled, account, growth, tokenDelta, fundingOutputDelta, covered, tokenAccount, accounts, contribution}
-use Rattle.rules.specs.Run.{All, allCells}
-use Rattle.rules.proofs.Telescope.{Prefix, prefix-length, Settled, with-data, Extends, Step}
+use Rattle.rules.specs.Run.{allCells}
+use Rattle.rules.proofs.Telescope.{prefix-length}
+use Rattle.rules.specs.Step.{Settled, with-data, Extends, Step}
 use Rattle.rules.proofs.Tests.{both, agree-prefix, drop-more, fine-inj, bind-fine, check-fine, checkWith-fine, check-last, then-fine, given-fine, never}
 
 -- ---- comparison

@@ -9,14 +9,11 @@ use lib.ListN.{length, getD, drop, length-append, length-drop, drop-of-length-le
 use lib.Seq.{drop-drop}
 use Rattle.transaction.specs.Tx.{Tx}
 use Rattle.rules.specs.Cells.{Cell, pair, cells}
-use Rattle.rules.specs.Surplus.{total, first, added, Measure}
-use Rattle.rules.specs.Run.{All, Spent, spends, inputsOf, recordsOf}
+use Rattle.rules.specs.Surplus.{All, total, first, added, Measure}
+use Rattle.rules.specs.Step.{Prefix, start, more, with-data, Settled, Extends, Step}
+use Rattle.rules.specs.Run.{Spent, spends, inputsOf, recordsOf}
 
 -- ---- prefixes
-
-pub data Prefix {A : Type 0} : List A → List A → Type 0 where
-  start : {ys : List A} → Prefix [] ys
-  more : {x : A} {xs ys : List A} → Prefix xs ys → Prefix (x ∷ xs) (x ∷ ys)
 
 module _ {A : Type 0} where
   pub prefix-refl : (xs : List A) → Prefix xs xs
@@ -42,13 +39,6 @@ module _ {A : Type 0} where
 
 -- ---- cells
 
-abbrev pub with-data : List ℕ → List ℕ → Cell
-with-data o d = record { output = o; cellData = d }
-
--- A cell without data counts the same whatever data entry comes to it later.
-abbrev pub Settled : (Cell → ℕ) → Cell → Type 0
-Settled f c = c .cellData ≡ [] → (d : List ℕ) → f (with-data (c .output) d) ≡ f c
-
 module _ (f : Cell → ℕ) where
   pub total-append : (cs ds : List Cell) → total f (cs ++ ds) ≡ total f cs + total f ds
   unfolding total
@@ -71,11 +61,6 @@ module _ (f : Cell → ℕ) where
   split (suc n) (more p) q h a = split n p (prefix-tail q) (le-of-suc-le-suc h) a
 
 -- ---- added outputs of transactions
-
-pub record Extends (a b : Tx) : Type 0 where
-  pub inputs : Prefix (a .inputs) (b .inputs)
-  pub rest : Prefix (drop 1 (a .outputs)) (drop 1 (b .outputs))
-  pub entries : Prefix (drop 1 (a .outputsData)) (drop 1 (b .outputsData))
 
 extends-refl : (a : Tx) → Extends a a
 extends-refl a = record { inputs = prefix-refl (a .inputs); rest = prefix-refl (drop 1 (a .outputs)); entries = prefix-refl (drop 1 (a .outputsData)) }
@@ -132,18 +117,11 @@ inputs-append : (ss ts : List Spent) → inputsOf (ss ++ ts) ≡ inputsOf ss ++ 
 inputs-append [] ts = refl
 inputs-append (s ∷ ss) ts = ap (λ (l : List (List ℕ)). s .input ∷ l) (inputs-append ss ts)
 
-records-append : (ss ts : List Spent) → recordsOf (ss ++ ts) ≡ recordsOf ss ++ recordsOf ts
+pub records-append : (ss ts : List Spent) → recordsOf (ss ++ ts) ≡ recordsOf ss ++ recordsOf ts
 records-append [] ts = refl
 records-append (s ∷ ss) ts = ap (λ (l : List Cell). s .cell ∷ l) (records-append ss ts)
 
 -- ---- steps and chains
-
--- What an accepted update from a to b over its records brings: `paid` is the surplus it carries.
-pub record Step (m : Measure) (a b : Tx) (records : List Cell) (paid : ℕ) : Type 0 where
-  pub extends : Extends a b
-  pub settled : All (Settled (m .of)) (added a b)
-  pub balance : total (m .of) records + first (m .atZero) (cells a) ≡ paid + first (m .atZero) (cells b) + total (m .of) (added a b)
-  pub inputs : length (b .inputs) ≡ length (a .inputs) + length records
 
 -- the inputs that a step adds, with their records
 abbrev pub spentIn : Tx → Tx → List Cell → List Spent
@@ -164,7 +142,7 @@ module _ {m : Measure} {a b : Tx} {records : List Cell} {paid : ℕ} (s : Step m
   as-many : length (drop (length (a .inputs)) (b .inputs)) ≡ length records
   as-many = omega (arith, length-drop (length (a .inputs)) (b .inputs), s .inputs)
 
-  step-records : recordsOf (spentIn a b records) ≡ records
+  pub step-records : recordsOf (spentIn a b records) ≡ records
   step-records = spends-records (drop (length (a .inputs)) (b .inputs)) records as-many
 
   step-inputs : b .inputs ≡ a .inputs ++ inputsOf (spentIn a b records)

@@ -11,7 +11,7 @@ use lib.Dec.{T, eqb, eqb→eq}
 use Rattle.rules.specs.Outcome.{Outcome, fine, refused, check, checkWith, given, _>>=_, _>>_}
 use Rattle.lists.specs.Lists.{eqBytes, agree}
 use Rattle.lists.proofs.EqualLaws.{eq-true}
-use Rattle.rules.proofs.Telescope.{Prefix, start, more}
+use Rattle.rules.specs.Step.{Prefix, start, more}
 
 -- ---- tests
 

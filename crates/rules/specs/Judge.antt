@@ -26,7 +26,7 @@ pub record Figures : Type 0 where
   pub capacity : ℕ
   pub token : ℕ
 
--- the transaction of our bytes; none where they can't be read
+-- the transaction of our bytes; where they can't be read, that of version 0 and empty lists
 unfoldable pub txOf : List ℕ → Tx
 txOf bs = Option·getD (readOurs bs) (txAt [])
 
@@ -138,7 +138,7 @@ fundingOutputDelta type ours peer = do
 abbrev pub unfunded : Tx → Bool
 unfunded ours = isEmpty (ours .inputs) && isEmpty (ours .outputs)
 
--- what is left of `gained` over what it has to cover, which pays the fee of a first update
+-- what is left of `gained` over what it has to cover, which pays the fee where ours is still empty
 unfoldable pub covered : Bool → ℕ → ℕ → ℕ → ℕ → Outcome ℕ
 covered opening gained needed rate size = do
   -- added inputs below growth plus added outputs
@@ -184,11 +184,11 @@ account type growth records outs = do
 unfoldable pub tokenAccount : List ℕ → ℕ → List Cell → List Cell → Outcome ℕ
 tokenAccount type growth records outs = cond (isEmpty type) (fine 0) (account type growth records outs)
 
--- both accounts, with output 0 grown by so much
+-- both accounts, with output 0 grown by so many shannons and tokens
 unfoldable pub accounts : List ℕ → Tx → Tx → List Cell → ℕ → ℕ → ℕ → ℕ → Outcome Figures
-accounts type ours peer records rate size grown minted = do
-  capacity ← covered (unfunded ours) (total capacityOf records) (grown + total capacityOf (added ours peer)) rate size
-  token ← tokenAccount type minted records (added ours peer)
+accounts type ours peer records rate size shannons tokens = do
+  capacity ← covered (unfunded ours) (total capacityOf records) (shannons + total capacityOf (added ours peer)) rate size
+  token ← tokenAccount type tokens records (added ours peer)
   fine (record { capacity = capacity; token = token })
 
 unfoldable pub contribution : List ℕ → Tx → Tx → List Cell → ℕ → ℕ → Outcome Figures

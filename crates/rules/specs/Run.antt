@@ -8,7 +8,7 @@ use lib.IntN.{ℤ, pos}
 use Rattle.rules.specs.Outcome.{Outcome, fine, refused}
 use Rattle.transaction.specs.Tx.{Tx}
 use Rattle.rules.specs.Cells.{Cell, readRecords}
-use Rattle.rules.specs.Surplus.{Measure, surplus}
+use Rattle.rules.specs.Surplus.{All, Measure, surplus}
 use Rattle.rules.specs.Judge.{Call, Figures, judge, txOf, liveCells}
 
 -- An entry judges calls C against our bytes, and its acceptances carry S.
@@ -22,11 +22,6 @@ pub record Entry (C S : Type 0) : Type 0 where
 abbrev pub handedBack : {S : Type 0} → Outcome S → List ℕ → List ℕ → List ℕ
 handedBack (fine s) ours peer = peer
 handedBack (refused n l) ours peer = ours
-
--- P holds of each
-abbrev pub All : {A : Type 0} → (A → Type 0) → List A → Type 0
-All P [] = Unit {0}
-All P (x ∷ xs) = P x × All P xs
 
 -- what an acceptance adds, and a refusal does not
 abbrev pub keep : {S A : Type 0} → Outcome S → List A → List A
@@ -78,6 +73,16 @@ module _ {C S : Type 0} (E : Entry C S) where
   inForce ours [] = ours
   inForce ours (c ∷ cs) = inForce (next ours c) cs
 
+  -- the bytes in force after each call
+  abbrev pub forces : List ℕ → List C → List (List ℕ)
+  forces ours [] = []
+  forces ours (c ∷ cs) = next ours c ∷ forces (next ours c) cs
+
+  -- the records of the accepted updates, in order
+  abbrev pub keptRecords : List ℕ → List C → List Cell
+  keptRecords ours [] = []
+  keptRecords ours (c ∷ cs) = keep (E .judged ours c) (E .lent c) ++ keptRecords (next ours c) cs
+
   -- what a call would add to ours
   abbrev pub spentBy : List ℕ → C → List Spent
   spentBy ours c = spends (drop (length (txOf ours .inputs)) (txOf (E .peerOf c) .inputs)) (E .lent c)
@@ -100,13 +105,19 @@ module _ {C S : Type 0} (E : Entry C S) where
     -- none of which is negative
     pub natural : All NotNegative (steps m start calls)
     -- and they sum to the surplus of the transaction then in force against the one at the start, over the records kept, in order
-    pub sums : pos (sum (carried pick answers)) ≡ surplus m (txOf start) (txOf end) (recordsOf (kept start calls))
+    pub sums : pos (sum (carried pick answers)) ≡ surplus m (txOf start) (txOf end) (keptRecords start calls)
+
+-- what a call of a program returns: its answer, and the bytes that it hands back
+pub record Returned (U : Type 0) : Type 0 where
+  pub answer : U
+  pub handed : List ℕ
 
 -- A list of calls of a program, each given the bytes that the one before handed back. `Called ours c u handed` is what is known of one call: given ours
 -- and c it answered u and handed back those bytes.
-pub data Ran {C U : Type 0} (Called : List ℕ → C → U → List ℕ → Type 0) : List ℕ → List C → List U → List ℕ → Type 0 where
+pub data Ran {C U : Type 0} (Called : List ℕ → C → U → List ℕ → Type 0) : List ℕ → List C → List (Returned U) → List ℕ → Type 0 where
   stop : {ours : List ℕ} → Ran Called ours [] [] ours
-  call : {ours handed end : List ℕ} {c : C} {cs : List C} {u : U} {us : List U} → Called ours c u handed → Ran Called handed cs us end → Ran Called ours (c ∷ cs) (u ∷ us) end
+  call : {ours handed end : List ℕ} {c : C} {cs : List C} {u : U} {rs : List (Returned U)} → Called ours c u handed → Ran Called handed cs rs end
+      → Ran Called ours (c ∷ cs) (record { answer = u; handed = handed } ∷ rs) end
 
 -- ---- update_for_peer
 
