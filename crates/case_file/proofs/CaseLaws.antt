@@ -1,13 +1,12 @@
 -- The case that a file holds, and its verdict: one law for each way out of the entry's functions.
 use mathlib.Core.Path.{_≡_, refl, sym, ap, _∙_}
-use Prim.Native.Nat.{ℕ, zero, suc, _+_, _-_, _*_, _^_, _≤_, _<_}
+use Prim.Native.Nat.{ℕ, suc, _+_, _-_, _*_, _≤_, _<_}
 use mathlib.Core.Bool.{Bool, true, false}
-use mathlib.Core.List.{List, [], _∷_, map, flatten}
+use mathlib.Core.List.{List, [], map, flatten}
 use mathlib.Core.Option.{Option, none, some}
-use native.Mathlib.Nat.{zero-add}
 use native.Mathlib.Omega.{arith}
-use borrow.Author.Tests.{le-leb, lt-leb, eq-eqb, ne-eqb, eqb-true}
-use lib.Dec.{leb, eqb}
+use borrow.Author.Tests.{le-leb, lt-leb}
+use lib.Dec.{eqb}
 use lib.ListN.{length, take, drop}
 use lib.Seq.{take-at}
 use Rattle.arithmetic.specs.LittleEndian.{u64At}
@@ -20,15 +19,15 @@ use Rattle.molecule.proofs.ItemsLaws.{length-join}
 use Rattle.molecule.proofs.WriteLaws.{splice-zero}
 use Rattle.rules.specs.declared.Update.{Update}
 use Rattle.rules.specs.Cells.{Cell}
-use Rattle.rules.specs.Outcome.{Outcome, refused}
-use Rattle.rules.specs.Judge.{Figures, Call, judge}
+use Rattle.rules.specs.Outcome.{Outcome}
+use Rattle.rules.specs.Judge.{Figures, judge}
 use Rattle.rules.specs.Told.{told}
 use Rattle.verdict_line.specs.VerdictLine.{lineOf}
 use Rattle.case_file.specs.declared.items.Places.{Places}
 use Rattle.case_file.specs.declared.record_list.Measured.{Measured}
 use Rattle.case_file.specs.CaseFile.{Read, Case, _>>=_, kindAt, lengthAt, itemEnd, bodyAt, itemAt, optionalAt, rateAt, recordsFrom, recordBytes, recordList, readCase, caseOf, verdictOf, caseLine}
 use Rattle.case_file.specs.Walk.{endOf, placesOf, optionalBody, verdictAt, walk, measured}
-use Rattle.case_file.proofs.RecordLaws.{only-some, Found, item-some, walk-bytes}
+use Rattle.case_file.proofs.RecordLaws.{only-some, item-some, walk-bytes}
 use Rattle.case_file.proofs.ListLaws.{length-walk}
 
 -- ---- items that are there go by where they end

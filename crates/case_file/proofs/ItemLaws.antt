@@ -1,20 +1,20 @@
 -- Items of a case file: one law for each way out of the functions that find them.
 use mathlib.Core.Path.{_≡_, refl, sym, ap, _∙_}
-use Prim.Native.Nat.{ℕ, zero, suc, _+_, _-_, _*_, _/_, _%_, _^_, _≤_, _<_}
+use Prim.Native.Nat.{ℕ, zero, suc, _+_, _-_, _*_, _/_, _%_, _≤_, _<_}
 use mathlib.Core.Bool.{Bool, true, false, not}
 use mathlib.Core.List.{List, [], _∷_}
-use mathlib.Core.Option.{Option, none, some}
+use mathlib.Core.Option.{Option, none}
 use native.Mathlib.Numerals.{add-one}
 use native.Mathlib.Omega.{arith}
 use borrow.Author.Tests.{le-leb, lt-leb, eq-eqb, ne-eqb, not-true, not-false}
 use lib.Dec.{leb, eqb}
-use lib.ListN.{length, take, drop, getD, length-take, length-drop, drop-of-length-le}
+use lib.ListN.{length, drop, getD, length-take, length-drop, drop-of-length-le}
 use lib.Seq.{drop-cons, take-nil}
-use Rattle.arithmetic.specs.LittleEndian.{u32At, numAt}
+use Rattle.arithmetic.specs.LittleEndian.{u32At}
 use Rattle.molecule.specs.Partial.{only, pick}
 use Rattle.molecule.specs.Layout.{part}
 use Rattle.case_file.specs.declared.items.Places.{Places}
-use Rattle.case_file.specs.CaseFile.{Read, kindAt, lengthAt, bodyEnd, itemEnd, bodyAt, allZero, itemAt, optionalAt, rateAt}
+use Rattle.case_file.specs.CaseFile.{kindAt, lengthAt, bodyEnd, itemEnd, bodyAt, allZero, itemAt, optionalAt, rateAt}
 use Rattle.case_file.specs.Walk.{endOf, placesOf, optionalBody}
 
 -- ---- words

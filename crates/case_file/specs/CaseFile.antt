@@ -12,14 +12,15 @@ use Rattle.molecule.specs.Items.{join}
 use Rattle.molecule.specs.Layout.{part}
 use Rattle.rules.specs.Cells.{Cell}
 use Rattle.rules.specs.Outcome.{Outcome, refused}
-use Rattle.rules.specs.Judge.{Call, Figures, judge}
+use Rattle.rules.specs.Judge.{Figures, judge}
 use Rattle.verdict_line.specs.VerdictLine.{lineOf}
 
--- what is read at a place, and the place after it; a step that finds no such thing ends the reading
+-- what is read at a place, and the place after it
 pub record Read (A : Type 0) : Type 0 where
   pub got : A
   pub next : ℕ
 
+-- a step that finds nothing ends the reading
 infixl 10 _>>=_
 unfoldable pub _>>=_ : {A B : Type 0} → Option A → (A → Option B) → Option B
 _>>=_ none f = none
@@ -80,7 +81,7 @@ cellAt s at = do
 unfoldable pub recordAt : List ℕ → ℕ → Option (Read (Option Cell))
 recordAt s at = pick (eqb (kindAt s at) 9) (deadAt s at) (cellAt s at)
 
--- the records from a place up to the end of the file, of which there are fewer than n
+-- the records from a place up to the end of the file, fewer than n: each takes up 4 bytes, so the length of the file is enough
 unfoldable pub recordsFrom : ℕ → List ℕ → ℕ → Option (List (Option Cell))
 recordsFrom zero s at = none
 recordsFrom (suc n) s at = pick (eqb at (length s)) (some []) (recordAt s at >>= λ r. recordsFrom n s (r .next) >>= λ rs. some (r .got ∷ rs))

@@ -1,6 +1,6 @@
 -- How the code walks a case file: by places, with an answer at every place. Where no item stands the place after it is past the end of every file.
-use Prim.Native.Nat.{ℕ, zero, suc, _+_, _*_}
-use mathlib.Core.List.{List, [], _∷_, _++_, map}
+use Prim.Native.Nat.{ℕ, zero, suc, _+_}
+use mathlib.Core.List.{List, [], _∷_, _++_}
 use mathlib.Core.Option.{Option, none, some}
 use lib.ListN.{length}
 use lib.Dec.{eqb}

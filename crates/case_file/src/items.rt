@@ -1,7 +1,7 @@
 // Items of a case file: where they end, and their bodies.
 use arithmetic::little_endian;
 ghost use mathlib.Core.Path.{_≡_};
-ghost use Prim.Native.Nat.{_≤_, _<_, _^_};
+ghost use Prim.Native.Nat.{_≤_, _<_};
 ghost use lib.ListN.{length};
 ghost use Rattle.case_file.specs.CaseFile.{kindAt, lengthAt, bodyAt, allZero, itemAt, optionalAt, rateAt};
 ghost use Rattle.case_file.specs.Walk.{endOf, placesOf, optionalBody};

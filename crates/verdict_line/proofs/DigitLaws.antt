@@ -1,10 +1,7 @@
 -- Digits, made from the lowest on: one law for each way out of the functions that put a number.
-use mathlib.Core.Path.{_≡_, refl, sym, ap, _∙_}
+use mathlib.Core.Path.{_≡_, sym, ap, _∙_}
 use Prim.Native.Nat.{ℕ, zero, suc, _+_, _-_, _/_, _%_, _≤_, _<_}
-use mathlib.Core.Bool.{cond}
 use mathlib.Core.List.{List, [], _∷_, _++_, append-assoc, append-nil}
-use native.Mathlib.Nat.{le-antisymm}
-use native.Mathlib.Numerals.{add-one}
 use native.Mathlib.Omega.{arith}
 use borrow.Author.Tests.{lt-ltb, le-ltb}
 use lib.ListN.{length, take, drop, set, length-set, length-drop, drop-of-length-le}

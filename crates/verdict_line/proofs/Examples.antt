@@ -1,7 +1,7 @@
 -- Worked lines of specs/VerdictLine.antt.
 use mathlib.Core.Path.{_≡_, refl}
-use mathlib.Core.List.{List, [], _∷_}
-use Prim.Native.Nat.{ℕ, _-_, _^_}
+use mathlib.Core.List.{[], _∷_}
+use Prim.Native.Nat.{_-_, _^_}
 use Rattle.molecule.specs.Partial.{pick}
 use Rattle.rules.specs.Outcome.{fine, refused}
 use Rattle.verdict_line.specs.VerdictLine.{digit, hex, digits, decimal, spaced, accepted, refusedWith, lineOf}

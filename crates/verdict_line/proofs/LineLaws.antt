@@ -1,14 +1,13 @@
 -- What the functions of this crate put, one after the other, is the line: one law for each way out.
-use mathlib.Core.Path.{_≡_, refl, sym, ap, _∙_}
+use mathlib.Core.Path.{_≡_, refl, _∙_}
 use Prim.Native.Nat.{ℕ, zero, suc, _+_, _-_, _*_, _/_, _%_, _^_, _≤_, _<_}
 use mathlib.Core.Bool.{Bool, true, false}
 use mathlib.Core.List.{List, [], _∷_, _++_, append-assoc, append-nil}
-use native.Mathlib.Nat.{add-suc, add-zero, zero-add, one-mul, pow-zero, pow-suc, mul-assoc, mul-comm, add-mul-div-left, add-mul-mod-self-left, div-lt-iff-lt-mul}
+use native.Mathlib.Nat.{add-suc, add-zero, zero-add, pow-suc, mul-assoc, mul-comm, add-mul-div-left, add-mul-mod-self-left, div-lt-iff-lt-mul}
 use native.Mathlib.Numerals.{add-one}
 use native.Mathlib.Omega.{arith}
-use borrow.Author.Tests.{lt-ltb, le-ltb}
 use lib.Dec.{ltb}
-use lib.ListN.{length, take, drop, getD, length-append}
+use lib.ListN.{length, take, getD, length-append}
 use lib.Seq.{take-suc, take-all, length-take-le}
 use Rattle.molecule.specs.Partial.{pick}
 use Rattle.molecule.specs.Write.{splice, putAt, putEnd, Put}
