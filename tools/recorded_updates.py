@@ -33,6 +33,7 @@ import os
 import subprocess
 import sys
 
+import cases as proved
 import update_cases as cases
 from molecule_vectors import join, u32
 from update_model import PLACES, Case, amount, judge, judge_file, read_case, read_records, read_tx, surplus, u64, Shape, Tx
@@ -193,12 +194,17 @@ def expanded(data):
 # ---- cases
 
 
+def named():
+    """Cases with their lines: those of 01-scope.md and its open points, and those whose lines are proved (crates/known_outcomes, known_lines)."""
+    return list(cases.named()) + [(name, f, line) for name, line, f in proved.KNOWN + proved.LINES]
+
+
 def always(family):
     return lambda rng: family()
 
 
 FAMILIES = [
-    ('good', always(cases.wholes)), ('named', lambda rng: (f for _, f, _ in cases.named())), ('one change', always(cases.singles)),
+    ('good', always(cases.wholes)), ('named', lambda rng: (f for _, f, _ in named())), ('one change', always(cases.singles)),
     ('two changes', always(cases.pairs)), ('limits', always(cases.limits)), ('fees', always(cases.fees)), ('tokens', always(cases.tokens)),
     ('shannons', always(cases.shannons)), ('left open', always(cases.openings)), ('a byte changed', cases.places),
     ('cut and lengthened', always(cases.cuts)), ('parts cut and lengthened', always(cases.inner_cuts)), ('shapes', cases.shapes),
@@ -249,8 +255,7 @@ def by_number(numbers):
 
 def record_updates(oracle):
     rng, seen, pairs, whole, found, panics, numbers = cases.Rng(SEED), set(), [], 0, {}, 0, []
-    named = list(cases.named())
-    for (what, f, line), (said, _) in zip(named, ask(oracle, [f for _, f, _ in named])):
+    for (what, f, line), (said, _) in zip(named(), ask(oracle, [f for _, f, _ in named()])):
         if said != line:
             sys.exit('%s: the Rust says %s, not %s' % (what, said, line))
     for name, family in FAMILIES:
