@@ -11,18 +11,10 @@ use Rattle.molecule.specs.Partial.{pick}
 use Rattle.molecule.specs.Items.{join, unwords, offsets, header}
 use Rattle.molecule.specs.Write.{putAt, putEnd, Put}
 use Rattle.molecule.proofs.ItemsLaws.{length-join, length-unwords, length-offsets, length-flatten}
-use Rattle.molecule.proofs.WriteLaws.{did, none, then, and-put, splice-length}
+use Rattle.molecule.proofs.WriteLaws.{did, none, then, and-put, as-bytes, length-kept}
 use Rattle.case_file.specs.CaseFile.{kindAt, bodyAt, itemAt, recordAt}
 use Rattle.case_file.specs.Walk.{endOf, entryAt, cellBytes, walk}
 use Rattle.case_file.proofs.RecordLaws.{cell-length}
-
--- the same bytes, said otherwise
-as-bytes : {out after : List ℕ} {at next : ℕ} {xs ys : List ℕ} → xs ≡ ys → Put out at xs after next → Put out at ys after next
-as-bytes e p = rw e at p
-
--- a write leaves the buffer's length
-length-kept : {out after : List ℕ} {at next : ℕ} {xs : List ℕ} → Put out at xs after next → length after ≡ length out
-length-kept {out} {after} {at} {next} {xs} p = rw (p .bytes) (splice-length out at xs (p .room))
 
 -- ---- a cell
 

@@ -108,6 +108,14 @@ pub splice-zero : (out xs : List ℕ) → splice out 0 xs ≡ xs ++ drop (length
 unfolding splice
 splice-zero out xs = rw zero-add
 
+-- the same bytes, said otherwise
+pub as-bytes : {out after : List ℕ} {at next : ℕ} {xs ys : List ℕ} → xs ≡ ys → Put out at xs after next → Put out at ys after next
+as-bytes e p = rw e at p
+
+-- a write leaves the buffer's length
+pub length-kept : {out after : List ℕ} {at next : ℕ} {xs : List ℕ} → Put out at xs after next → length after ≡ length out
+length-kept {out} {after} {at} {next} {xs} p = rw (p .bytes) (splice-length out at xs (p .room))
+
 -- no write
 pub none : (out : List ℕ) (at : ℕ) → at ≤ length out → Put out at [] out at
 unfolding splice

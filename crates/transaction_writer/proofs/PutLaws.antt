@@ -9,12 +9,8 @@ use Rattle.arithmetic.proofs.LittleEndianLaws.{length-toLe}
 use Rattle.molecule.specs.Items.{join, unwords, offsets}
 use Rattle.molecule.specs.Write.{putAt, putEnd, Put}
 use Rattle.molecule.proofs.ItemsLaws.{length-join, length-unwords}
-use Rattle.molecule.proofs.WriteLaws.{did, then, and-put}
+use Rattle.molecule.proofs.WriteLaws.{did, then, and-put, as-bytes}
 use Rattle.transaction_writer.specs.Written.{rawBytes, txBytes, rawSize, txSize}
-
--- the same bytes, said otherwise
-as-bytes : {out after : List ℕ} {at next : ℕ} {xs ys : List ℕ} → xs ≡ ys → Put out at xs after next → Put out at ys after next
-as-bytes e p = rw e at p
 
 -- ---- words
 

@@ -11,7 +11,7 @@ use lib.ListN.{length, take, getD, length-append}
 use lib.Seq.{take-suc, take-all, length-take-le}
 use Rattle.molecule.specs.Partial.{pick}
 use Rattle.molecule.specs.Write.{splice, putAt, putEnd, Put}
-use Rattle.molecule.proofs.WriteLaws.{did, none, then, and-put, splice-length}
+use Rattle.molecule.proofs.WriteLaws.{did, none, then, and-put, as-bytes, length-kept}
 use Rattle.error.specs.declared.Refusal.{Refusal}
 use Rattle.error.specs.Refusal.{number, values}
 use Rattle.units.specs.declared.Shannons.{Shannons}
@@ -20,14 +20,6 @@ use Rattle.units.specs.Units.{shannonCount}
 use Rattle.rules.specs.declared.Update.{Update}
 use Rattle.rules.specs.Told.{told}
 use Rattle.verdict_line.specs.VerdictLine.{digit, hex, digits, decimal, spaced, accepted, refusedWith, lineOf}
-
--- the same bytes, said otherwise
-as-bytes : {out after : List ℕ} {at next : ℕ} {xs ys : List ℕ} → xs ≡ ys → Put out at xs after next → Put out at ys after next
-as-bytes e p = rw e at p
-
--- a write leaves the buffer's length
-length-kept : {out after : List ℕ} {at next : ℕ} {xs : List ℕ} → Put out at xs after next → length after ≡ length out
-length-kept {out} {after} {at} {next} {xs} p = rw (p .bytes) (splice-length out at xs (p .room))
 
 -- ---- lengths
 
