@@ -127,7 +127,7 @@ fn extends_data(ours: &[u8], peer: &[u8]) -> bool
 }
 
 // Whether the peer keeps what is ours and has the expected funding cell as output 0; the refusal is 5.
-pub fn keeps_ours(lock: &[u8], udt: &[u8], ours: &[u8], peer: &[u8]) -> bool
+pub fn keeps_ours(ours: &[u8], peer: &[u8], lock: &[u8], udt: &[u8]) -> bool
     ensures { λ r. ⌜ check 5 r ≡ comparison (now (lock .entry)) (now (udt .entry)) (txAt (now (ours .entry))) (txAt (now (peer .entry))) ⌝ }
 {
     if !same_version(ours, peer) {

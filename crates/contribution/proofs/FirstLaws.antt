@@ -24,6 +24,7 @@ use Rattle.rules.specs.Surplus.{isEmpty, first, capacityOf, hasAmount, amountOf
 use Rattle.rules.specs.Judge.{Figures, atFirst, growth, tokenDelta, fundingOutputDelta}
 use Rattle.rules.proofs.CellLaws.{empty-is, cells-none, cells-some}
 use Rattle.contribution.specs.declared.OutputDelta.{OutputDelta}
+use Rattle.contribution.specs.declared.TokenDelta.{TokenDelta}
 use Rattle.contribution.specs.Answers.{rise, delta}
 
 -- ---- figures
@@ -84,26 +85,26 @@ module _ (o : List ℕ) {n : ℕ} (e : n ≡ itemCount (rawField o 4)) where
 -- ---- the growth in tokens
 
 module _ (o p : List ℕ) {q : Bool} (eq : q ≡ atFirst hasAmount (cells (txAt o))) where
-  pub rise-ours-short : not q ≡ true → rise CheckedTokens.Overflow ≡ tokenDelta (txAt o) (txAt p)
+  pub rise-ours-short : not q ≡ true → rise TokenDelta.Invalid ≡ tokenDelta (txAt o) (txAt p)
   unfolding tokenDelta check checkWith _>>_
   rise-ours-short t = rw (← eq, not-true q t)
 
   module _ (t : not q ≡ false) {w : Bool} (ew : w ≡ atFirst hasAmount (cells (txAt p))) where
-    pub rise-peer-short : not w ≡ true → rise CheckedTokens.Overflow ≡ tokenDelta (txAt o) (txAt p)
+    pub rise-peer-short : not w ≡ true → rise TokenDelta.Invalid ≡ tokenDelta (txAt o) (txAt p)
     unfolding tokenDelta check checkWith _>>_
     rise-peer-short u = rw (← eq, not-false q t, ← ew, not-true w u)
 
-    pub rise-is : (x y : Tokens) (v : CheckedTokens) → not w ≡ false → tokenCount x ≡ first amountOf (cells (txAt o)) → tokenCount y ≡ first amountOf (cells (txAt p))
-        → v ≡ checkedTokens (difference (y .0) (x .0)) → rise v ≡ tokenDelta (txAt o) (txAt p)
-    unfolding tokenDelta check checkWith _>>_
-    rise-is x y v u ex ey ev = by v refl
-      where
-        by : (k : CheckedTokens) → v ≡ k → rise v ≡ tokenDelta (txAt o) (txAt p)
-        by (CheckedTokens.Fits d) f =
-            rw f (ap fine (tokens-left y x ev f ∙ ap₂ _-_ ey ex)
-            ∙ rw (← eq, not-false q t, ← ew, not-false w u, ← ex, ← ey, le-leb (tokenCount x) (tokenCount y) (tokens-enough y x ev f)))
-        by CheckedTokens.Overflow f =
-            rw f (rw (← eq, not-false q t, ← ew, not-false w u, ← ex, ← ey, lt-leb (tokenCount x) (tokenCount y) (tokens-lacking y x ev f)))
+    module _ (u : not w ≡ false) (x y : Tokens) {v : CheckedTokens} (ex : tokenCount x ≡ first amountOf (cells (txAt o)))
+        (ey : tokenCount y ≡ first amountOf (cells (txAt p))) (ev : v ≡ checkedTokens (difference (y .0) (x .0))) where
+      pub rise-is : {d : Tokens} → v ≡ CheckedTokens.Fits d → rise (TokenDelta.Grows d) ≡ tokenDelta (txAt o) (txAt p)
+      unfolding tokenDelta check checkWith _>>_
+      rise-is f =
+          ap fine (tokens-left y x ev f ∙ ap₂ _-_ ey ex)
+          ∙ rw (← eq, not-false q t, ← ew, not-false w u, ← ex, ← ey, le-leb (tokenCount x) (tokenCount y) (tokens-enough y x ev f))
+
+      pub rise-falls : v ≡ CheckedTokens.Overflow → rise TokenDelta.Invalid ≡ tokenDelta (txAt o) (txAt p)
+      unfolding tokenDelta check checkWith _>>_
+      rise-falls f = rw (← eq, not-false q t, ← ew, not-false w u, ← ex, ← ey, lt-leb (tokenCount x) (tokenCount y) (tokens-lacking y x ev f))
 
 -- ---- the growth: the lines of fundingOutputDelta, one for each way out
 
@@ -145,13 +146,13 @@ module _ (type o p : List ℕ) {n m : ℕ} (en : n ≡ itemCount (rawField p 4))
           ap (λ (k : ℕ). fine (record { capacity = k; token = 0 })) by-so-much
           ∙ rw (outputs-are false (ne-eqb n 0 hn), data-are false (ne-eqb m 0 hm), ← ea, ← eb, rises, empty-is type, eq-eqb (length type) 0 z)
 
-      module _ (z : length type ≡ 0 → ⊥) (v : CheckedTokens) (ev : rise v ≡ tokenDelta (txAt o) (txAt p)) where
-        pub delta-tokens-fall : v ≡ CheckedTokens.Overflow → delta OutputDelta.Invalid ≡ fundingOutputDelta type (txAt o) (txAt p)
+      module _ (z : length type ≡ 0 → ⊥) (v : TokenDelta) (ev : rise v ≡ tokenDelta (txAt o) (txAt p)) where
+        pub delta-tokens-fall : v ≡ TokenDelta.Invalid → delta OutputDelta.Invalid ≡ fundingOutputDelta type (txAt o) (txAt p)
         unfolding fundingOutputDelta check checkWith _>>_ _>>=_
         delta-tokens-fall f =
             rw (outputs-are false (ne-eqb n 0 hn), data-are false (ne-eqb m 0 hm), ← ea, ← eb, rises, empty-is type, ne-eqb (length type) 0 z, ← ev, f)
 
-        pub delta-grows : {k : Tokens} → v ≡ CheckedTokens.Fits k → delta (OutputDelta.Grows c k) ≡ fundingOutputDelta type (txAt o) (txAt p)
+        pub delta-grows : {k : Tokens} → v ≡ TokenDelta.Grows k → delta (OutputDelta.Grows c k) ≡ fundingOutputDelta type (txAt o) (txAt p)
         unfolding fundingOutputDelta check checkWith _>>_ _>>=_
         delta-grows {k} f =
             ap (λ (i : ℕ). fine (record { capacity = i; token = tokenCount k })) by-so-much

@@ -1,19 +1,18 @@
 -- What this crate's answers stand for.
 use Prim.Native.Nat.{ℕ}
 use mathlib.Core.List.{[]}
-use Rattle.units.specs.declared.CheckedTokens.{CheckedTokens}
 use Rattle.units.specs.Units.{shannonCount, tokenCount}
 use Rattle.rules.specs.Outcome.{Outcome, fine, refused}
 use Rattle.rules.specs.Judge.{Figures}
 use Rattle.rules.specs.Told.{refusal}
 use Rattle.contribution.specs.declared.OutputDelta.{OutputDelta}
+use Rattle.contribution.specs.declared.TokenDelta.{TokenDelta}
 use Rattle.contribution.specs.declared.capacity.CapacitySurplus.{CapacitySurplus}
 use Rattle.contribution.specs.declared.token.TokenSum.{TokenSum}
 
--- a difference that is less than nothing is 5
-abbrev pub rise : CheckedTokens → Outcome ℕ
-rise (CheckedTokens.Fits t) = fine (tokenCount t)
-rise CheckedTokens.Overflow = refused 5 []
+abbrev pub rise : TokenDelta → Outcome ℕ
+rise (TokenDelta.Grows t) = fine (tokenCount t)
+rise TokenDelta.Invalid = refused 5 []
 
 abbrev pub delta : OutputDelta → Outcome Figures
 delta (OutputDelta.Grows capacity token) = fine (record { capacity = shannonCount capacity; token = tokenCount token })

@@ -31,6 +31,12 @@ pub enum OutputDelta {
     Invalid,
 }
 
+// The same in tokens alone: `Invalid` where an amount can't be read, or it falls.
+enum TokenDelta {
+    Grows(Tokens),
+    Invalid,
+}
+
 // The token amount that a cell's data begins with (RFC 0025).
 pub fn read_udt_amount(d: &[u8]) -> TokensRead
     ensures { λ r. ⌜ r ≡ tokensRead (amountAt (now (d .entry))) ⌝ }
@@ -76,23 +82,26 @@ fn first_amount(tx: &[u8]) -> Tokens
     }
 }
 
-// How many tokens output 0 grows by; `Overflow` where an amount can't be read or it falls.
-fn token_delta(ours: &[u8], peer: &[u8]) -> CheckedTokens
+// By how many tokens output 0 grows.
+fn token_delta(ours: &[u8], peer: &[u8]) -> TokenDelta
     ensures { λ r. ⌜ rise r ≡ tokenDelta (txAt (now (ours .entry))) (txAt (now (peer .entry))) ⌝ }
 {
     if !has_first_amount(ours) {
-        return CheckedTokens::Overflow;
+        return TokenDelta::Invalid;
     }
     if !has_first_amount(peer) {
-        return CheckedTokens::Overflow;
+        return TokenDelta::Invalid;
     }
     let before = first_amount(ours);
     let after = first_amount(peer);
-    after.checked_sub(before)
+    match after.checked_sub(before) {
+        CheckedTokens::Fits(token) => TokenDelta::Grows(token),
+        CheckedTokens::Overflow => TokenDelta::Invalid,
+    }
 }
 
 // How much output 0 grows: it and its data are there, and neither figure falls.
-pub fn funding_output_delta(udt: &[u8], ours: &[u8], peer: &[u8]) -> OutputDelta
+pub fn funding_output_delta(ours: &[u8], peer: &[u8], udt: &[u8]) -> OutputDelta
     ensures { λ r. ⌜ delta r ≡ fundingOutputDelta (now (udt .entry)) (txAt (now (ours .entry))) (txAt (now (peer .entry))) ⌝ }
 {
     if fields::output_count(peer) == 0 {
@@ -114,8 +123,8 @@ pub fn funding_output_delta(udt: &[u8], ours: &[u8], peer: &[u8]) -> OutputDelta
         };
     }
     match token_delta(ours, peer) {
-        CheckedTokens::Fits(token) => OutputDelta::Grows { capacity, token },
-        CheckedTokens::Overflow => OutputDelta::Invalid,
+        TokenDelta::Grows(token) => OutputDelta::Grows { capacity, token },
+        TokenDelta::Invalid => OutputDelta::Invalid,
     }
 }
 
@@ -134,11 +143,11 @@ pub fn added_peer_outputs(ours: &[u8]) -> usize
 
 // What is left of the records over the added outputs and the growth of output 0, in capacity and in tokens.
 fn surpluses(
-    udt: &[u8],
     ours: &[u8],
     peer: &[u8],
-    records: &[u8],
+    udt: &[u8],
     rate: u64,
+    records: &[u8],
     grown: Shannons,
     risen: Tokens,
 ) -> Update
@@ -149,7 +158,7 @@ fn surpluses(
         CapacitySurplus::Is(c) => c,
         CapacitySurplus::Refused(e) => return Update::Refused(e),
     };
-    match token::surplus(udt, ours, peer, records, risen) {
+    match token::surplus(ours, peer, udt, records, risen) {
         TokenSum::Is(token) => Update::Accepted { capacity, token },
         TokenSum::Invalid => Update::Refused(Refusal::InvalidPeerFundingTx),
         TokenSum::Overflow => Update::Refused(Refusal::OverflowError),
@@ -159,24 +168,16 @@ fn surpluses(
 // What is left of the cells that the peer's added inputs spend over the growth of output 0 and the outputs that it added; where ours is still empty it has
 // to pay the fee. The records must have been resolved: of one that is not live it reads an empty cell.
 pub fn verify_peer_funding_contribution(
-    udt: &[u8],
     ours: &[u8],
     peer: &[u8],
-    records: &[u8],
+    udt: &[u8],
     rate: u64,
+    records: &[u8],
 ) -> Update
     ensures { λ r. ⌜ told r ≡ contribution (now (udt .entry)) (txAt (now (ours .entry))) (txAt (now (peer .entry))) (recordCells (now (records .entry))) rate (length (now (peer .entry)) + 4) ⌝ }
 {
-    match funding_output_delta(udt, ours, peer) {
-        OutputDelta::Grows { capacity, token } => surpluses(
-            udt,
-            ours,
-            peer,
-            records,
-            rate,
-            capacity,
-            token,
-        ),
+    match funding_output_delta(ours, peer, udt) {
+        OutputDelta::Grows { capacity, token } => surpluses(ours, peer, udt, rate, records, capacity, token),
         OutputDelta::Invalid => Update::Refused(Refusal::InvalidPeerFundingTx),
     }
 }

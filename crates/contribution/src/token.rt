@@ -114,7 +114,7 @@ fn settle(grown: Tokens, put: Tokens, gained: Tokens) -> TokenSum
 }
 
 // The surplus in tokens, with output 0 grown by so much; 0 when untyped.
-pub fn surplus(udt: &[u8], ours: &[u8], peer: &[u8], records: &[u8], grown: Tokens) -> TokenSum
+pub fn surplus(ours: &[u8], peer: &[u8], udt: &[u8], records: &[u8], grown: Tokens) -> TokenSum
     ensures { λ r. ⌜ inTokens r ≡ tokenAccount (now (udt .entry)) (tokenCount grown) (recordCells (now (records .entry))) (added (txAt (now (ours .entry))) (txAt (now (peer .entry)))) ⌝ }
 {
     if udt.len() == 0 {

@@ -20,12 +20,12 @@ use Rattle.rules.proofs.Accept.{accepted}
 use Rattle.rules.proofs.Law.{exact, kept-inputs, kept-records, stay-readable, ran-answers, ran-handed, ran-bytes}
 use Rattle.funding_tx.specs.Negotiation.{toldOf, handedOf, Called, Lawful, Refusals, Demand3}
 
-module _ (lock udt : List ℕ) where
-  -- what in_force hands back is what the rules say
-  pub hands : (v : Outcome Figures) (u : Update) (ours peer : List ℕ) → told u ≡ v → inForceOf u ours peer ≡ handedBack v ours peer
-  hands v (Update.Accepted c t) ours peer e = rw (← e)
-  hands v (Update.Refused x) ours peer e = rw (← e)
+-- what in_force hands back is what the rules say
+pub hands {ℓ} : {A : Type ℓ} (v : Outcome Figures) (u : Update) (ours peer : A) → told u ≡ v → inForceOf u ours peer ≡ handedBack v ours peer
+hands v (Update.Accepted c t) ours peer e = rw (← e)
+hands v (Update.Refused x) ours peer e = rw (← e)
 
+module _ (lock udt : List ℕ) where
   -- from bytes that can't be read the answer is 1, and they stay
   one : (ours : List ℕ) (c : Call) → readOurs ours ≡ none → judge lock udt ours c ≡ refused 1 []
   unfolding judge given _>>=_

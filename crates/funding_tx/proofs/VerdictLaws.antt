@@ -15,7 +15,7 @@ use Rattle.rules.specs.Outcome.{Outcome, fine, refused, check, checkWith, given
 use Rattle.rules.specs.Cells.{readOurs, readRecords, recordCells}
 use Rattle.rules.specs.Judge.{scripts, limits, comparison, spent, contribution, judge}
 use Rattle.rules.specs.Told.{told, inForceOf}
-use Rattle.rules.specs.Run.{next, updateForPeer}
+use Rattle.rules.specs.Run.{handedBack, next, updateForPeer}
 use Rattle.rules.proofs.Checks.{skip, fail, pass, last-is}
 use Rattle.rules.proofs.CellLaws.{read-yes, read-no, ours-yes, ours-no}
 use Rattle.records.specs.declared.Resolved.{Resolved}
@@ -91,4 +91,9 @@ module _ (lock type o p s source : List ℕ) (rate : ℕ) where
 pub next-is : (lock type o p s source : List ℕ) (rate : ℕ) (u : Update) {x : List ℕ}
     → told u ≡ judge lock type o (record { peer = p; records = s; source = source; rate = rate }) → x ≡ inForceOf u o p
     → x ≡ next (updateForPeer lock type) o (record { peer = p; records = s; source = source; rate = rate })
-next-is lock type o p s source rate u e h = h ∙ hands lock type (judge lock type o (record { peer = p; records = s; source = source; rate = rate })) u o p e
+next-is lock type o p s source rate u e h = h ∙ hands (judge lock type o (record { peer = p; records = s; source = source; rate = rate })) u o p e
+
+pub next-reference {ℓ} : {A : Type ℓ} (lock type o p s source : List ℕ) (rate : ℕ) (u : Update) (x y : A) {r : A}
+    → told u ≡ judge lock type o (record { peer = p; records = s; source = source; rate = rate }) → r ≡ inForceOf u x y
+    → r ≡ handedBack (judge lock type o (record { peer = p; records = s; source = source; rate = rate })) x y
+next-reference lock type o p s source rate u x y e h = h ∙ hands (judge lock type o (record { peer = p; records = s; source = source; rate = rate })) u x y e

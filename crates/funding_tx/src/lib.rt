@@ -6,7 +6,7 @@ ghost use mathlib.Core.Path.{_≡_};
 ghost use Rattle.rules.specs.Outcome.{check};
 ghost use Rattle.rules.specs.Judge.{scripts, judge};
 ghost use Rattle.rules.specs.Told.{told, inForceOf};
-ghost use Rattle.rules.specs.Run.{next, updateForPeer};
+ghost use Rattle.rules.specs.Run.{handedBack, next, updateForPeer};
 
 // Whether the expected funding lock and type (empty for none) and our source lock are scripts; the refusal is 3.
 fn are_scripts(lock: &[u8], udt: &[u8], source: &[u8]) -> bool
@@ -46,17 +46,11 @@ pub fn update_for_peer(
     if !limits::validate_peer_funding_tx_complexity(ours, peer) {
         return Update::Refused(Refusal::PeerFundingTxExceedsLimit);
     }
-    if !comparison::keeps_ours(lock, udt, ours, peer) {
+    if !comparison::keeps_ours(ours, peer, lock, udt) {
         return Update::Refused(Refusal::InvalidPeerFundingTx);
     }
-    match records::resolve(source, ours, peer, records) {
-        Resolved::Live => contribution::verify_peer_funding_contribution(
-            udt,
-            ours,
-            peer,
-            records,
-            rate,
-        ),
+    match records::resolve(ours, peer, source, records) {
+        Resolved::Live => contribution::verify_peer_funding_contribution(ours, peer, udt, rate, records),
         Resolved::Refused(e) => Update::Refused(e),
     }
 }
@@ -85,7 +79,8 @@ pub fn next_in_force<'a>(
     rate: u64,
     records: &[u8],
 ) -> &'a [u8]
-    ensures { λ r. ⌜ now r ≡ next (updateForPeer (now (lock .entry)) (now (udt .entry))) (now (ours .entry)) (record { peer = now (peer .entry); records = now (records .entry); source = now (source .entry); rate = rate }) ⌝ }
+    ensures reference { λ r. ⌜ r ≡ handedBack (judge (now (lock .entry)) (now (udt .entry)) (now (ours .entry)) (record { peer = now (peer .entry); records = now (records .entry); source = now (source .entry); rate = rate })) (ours .entry) (peer .entry) ⌝ }
+    ensures bytes { λ r. ⌜ now r ≡ next (updateForPeer (now (lock .entry)) (now (udt .entry))) (now (ours .entry)) (record { peer = now (peer .entry); records = now (records .entry); source = now (source .entry); rate = rate }) ⌝ }
 {
     let update = update_for_peer(ours, peer, lock, udt, source, rate, records);
     in_force(update, ours, peer)

@@ -26,14 +26,14 @@ pub fn serialized_size_in_block(tx: &[u8]) -> u64
     tx.len() as u64 + 4
 }
 
-// How many more y is than x; fewer count as none added.
-fn added(x: u32, y: u32) -> u32
-    ensures { λ r. ⌜ r ≡ y - x ⌝ }
+// How many were added; fewer than before count as none.
+fn added(before: u32, after: u32) -> u32
+    ensures { λ r. ⌜ r ≡ after - before ⌝ }
 {
-    if y <= x {
+    if after <= before {
         return 0;
     }
-    y - x
+    after - before
 }
 
 // How many inputs the peer added.

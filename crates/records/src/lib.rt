@@ -58,7 +58,7 @@ fn all_live(source: &[u8], first: u32, records: &[u8]) -> Resolved
 }
 
 // Whether the records are readable, one for each added input, live, and none under our source lock.
-pub fn resolve(source: &[u8], ours: &[u8], peer: &[u8], records: &[u8]) -> Resolved
+pub fn resolve(ours: &[u8], peer: &[u8], source: &[u8], records: &[u8]) -> Resolved
     ensures { λ r. ⌜ resolved r (recordCells (now (records .entry))) ≡ spent (now (source .entry)) (txAt (now (ours .entry))) (txAt (now (peer .entry))) (readRecords (now (records .entry))) ⌝ }
 {
     if !transaction::is_records(records) {

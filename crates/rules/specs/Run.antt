@@ -19,7 +19,7 @@ pub record Entry (C S : Type 0) : Type 0 where
   pub lent : C → List Cell
 
 -- the bytes in force after a verdict: the peer's after an acceptance, ours after a refusal
-abbrev pub handedBack : {S : Type 0} → Outcome S → List ℕ → List ℕ → List ℕ
+abbrev pub handedBack {ℓ} : {S : Type 0} {A : Type ℓ} → Outcome S → A → A → A
 handedBack (fine s) ours peer = peer
 handedBack (refused n l) ours peer = ours
 

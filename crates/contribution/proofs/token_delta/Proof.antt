@@ -13,4 +13,7 @@ token-delta-spec =
     (λ c κs. search ways)  -- first-amount-requires
     (λ c κs. search ways)  -- first-amount-requires-2
     (λ c κs. search ways)  -- checked-sub-requires
-    (λ c. search ways))  -- returns-3
+    (λ c. search ways)  -- enum-known-token
+    (λ c. search ways)  -- enum-told
+    (λ c. search ways)  -- returns-3
+    (λ c. search ways))  -- returns-4
