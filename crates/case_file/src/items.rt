@@ -19,18 +19,21 @@ pub struct Places {
     pub records: usize,
 }
 
+// How many lengths there are: the low 28 bits of a word.
+const LENGTHS: u32 = 268_435_456;
+
 // The kind that the word at a place has, and 0 where no word stands there.
 pub fn kind_at(s: &[u8], at: usize) -> u32
     ensures { λ r. ⌜ r ≡ kindAt (now (s .entry)) at ⌝ }
 {
-    little_endian::u32_at(s, at) / 268_435_456
+    little_endian::u32_at(s, at) / LENGTHS
 }
 
 // The length of a body that the word at a place has.
 pub fn length_at(s: &[u8], at: usize) -> u32
     ensures { λ r. ⌜ r ≡ lengthAt (now (s .entry)) at ⌝ }
 {
-    little_endian::u32_at(s, at) % 268_435_456
+    little_endian::u32_at(s, at) % LENGTHS
 }
 
 // The body of the item at a place, as much of it as there is.

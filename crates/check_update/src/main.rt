@@ -5,7 +5,7 @@ use libc::STDOUT_FILENO;
 
 fn main() {
     // one byte more than the longest case file, so that a longer one is seen to be too long
-    let mut file = [0u8; 65537];
+    let mut file = [0u8; case_file::FILE_BYTES + 1];
     let n = io::read_full(STDIN_FILENO, &mut file);
     let mut records = [0u8; case_file::RECORD_BYTES];
     let mut line = [0u8; verdict_line::LINE_BYTES];

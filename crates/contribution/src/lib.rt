@@ -177,7 +177,15 @@ pub fn verify_peer_funding_contribution(
     ensures { λ r. ⌜ told r ≡ contribution (now (udt .entry)) (txAt (now (ours .entry))) (txAt (now (peer .entry))) (recordCells (now (records .entry))) rate (length (now (peer .entry)) + 4) ⌝ }
 {
     match funding_output_delta(ours, peer, udt) {
-        OutputDelta::Grows { capacity, token } => surpluses(ours, peer, udt, rate, records, capacity, token),
+        OutputDelta::Grows { capacity, token } => surpluses(
+            ours,
+            peer,
+            udt,
+            rate,
+            records,
+            capacity,
+            token,
+        ),
         OutputDelta::Invalid => Update::Refused(Refusal::InvalidPeerFundingTx),
     }
 }

@@ -50,7 +50,13 @@ pub fn update_for_peer(
         return Update::Refused(Refusal::InvalidPeerFundingTx);
     }
     match records::resolve(ours, peer, source, records) {
-        Resolved::Live => contribution::verify_peer_funding_contribution(ours, peer, udt, rate, records),
+        Resolved::Live => contribution::verify_peer_funding_contribution(
+            ours,
+            peer,
+            udt,
+            rate,
+            records,
+        ),
         Resolved::Refused(e) => Update::Refused(e),
     }
 }

@@ -67,6 +67,10 @@ inputsTx n = spending (inputs n) (plain 100 ∷ []) ([] ∷ [])
 abbrev pub tokensTx : List ℕ
 tokensTx = spending (inputs 2) (token 100 ∷ []) (amount 5 ∷ [])
 
+-- the file of so many inputs and cell deps
+abbrev crowded : ℕ → ℕ → List ℕ
+crowded ins ds = file [] [] (crowd ins 1 ds 0 .peer) (replicate ins (cell (plain 200000) []))
+
 abbrev pub outcomes : List Outcome
 outcomes =
     -- version 0 and empty lists: 68 bytes, size 72
@@ -93,10 +97,10 @@ outcomes =
     ∷ (caseLine (file [] [] (outputsTx 3) (cell (plain 200000) [] ∷ [])) gives ascii "0 00000000000000000000000000030c14\n")
     ∷ (caseLine (file [] [] (outputsTx 4) (cell (plain 200000) [] ∷ [])) gives ascii "4\n")
     -- inputs 64 and 65, deps 8 and 9, bytes 133,116 and 133,117 (209 and the witness) likewise
-    ∷ (answer (untyped [] (crowd 64 1 0 0)) gives 0 ∷ 12799900 ∷ 0 ∷ [])
-    ∷ (answer (untyped [] (crowd 65 1 0 0)) gives 4 ∷ [])
-    ∷ (answer (untyped [] (crowd 1 1 8 0)) gives 0 ∷ 199900 ∷ 0 ∷ [])
-    ∷ (answer (untyped [] (crowd 1 1 9 0)) gives 4 ∷ [])
+    ∷ (caseLine (crowded 64 0) gives ascii "0 00000000000000000000000000c34f9c\n")
+    ∷ (caseLine (crowded 65 0) gives ascii "4\n")
+    ∷ (caseLine (crowded 1 8) gives ascii "0 00000000000000000000000000030cdc\n")
+    ∷ (caseLine (crowded 1 9) gives ascii "4\n")
     ∷ (answer (untyped [] (crowd 1 1 0 132907)) gives 0 ∷ 199900 ∷ 0 ∷ [])
     ∷ (answer (untyped [] (crowd 1 1 0 132908)) gives 4 ∷ [])
     -- ours 2 inputs, added record 0 under our lock, record 1 not live: 6 2
