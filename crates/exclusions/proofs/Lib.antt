@@ -1,0 +1,10 @@
+pub mod RowLaws
+pub mod LoopLaws
+pub mod EntryLaws
+pub mod InputLaws
+pub mod PlaceLaws
+pub mod RenewLaws
+pub mod CallLaws
+pub mod AddLaws
+pub mod MigrateLaws
+pub mod Ways

@@ -1,0 +1,18 @@
+use Rattle.exclusions.proofs.Ways.{ways}
+use Rattle.exclusions.proofs.add.Statement.{statement}
+use Rattle.exclusions.proofs.add.Tie as tie
+
+pub add-spec : {M : Type 1} → statement M
+add-spec =
+    tie.close
+    (tie.spec
+    (λ c κs. search ways)  -- is-optional-transaction-requires
+    (λ c κs. search ways)  -- refused-requires
+    (λ c. search ways)  -- returns
+    (λ c κs. search ways)  -- refused-requires-2
+    (λ c. search ways)  -- returns-2
+    (λ c κs. search ways)  -- done-requires
+    (λ c. search ways)  -- returns-3
+    (λ c κs. search ways)  -- byte32-at-requires
+    (λ c κs. search ways)  -- enter-requires
+    (λ c. search ways))  -- returns-4

@@ -1,0 +1,102 @@
+-- When two out points are the same: one law for each way out of the tests, and that the tests say equality.
+use mathlib.Core.Path.{_≡_, refl, sym, ap, _∙_, subst}
+use Prim.Native.Nat.{ℕ, zero, suc, _+_, _-_, _≤_, _<_}
+use mathlib.Core.List.{List, [], _∷_}
+use mathlib.Core.Bool.{Bool, true, false, not, _&&_, cond}
+use native.Mathlib.Omega.{arith}
+use borrow.Author.Tests.{eq-eqb, ne-eqb, eqb-true}
+use lib.Dec.{eqb}
+use Rattle.molecule.specs.Layout.{span, fixCount}
+use Rattle.lists.proofs.SpanLaws.{span-on, span-end, span-whole}
+use Rattle.out_points.specs.declared.{Byte32.Byte32, OutPoint.OutPoint}
+use Rattle.out_points.specs.OutPoints.{eqHash, eqPoint, has, pointOf, points}
+
+module _ (x y : Byte32) where
+  pub hash-a : (x .a ≡ y .a → ⊥) → false ≡ eqHash x y
+  unfolding eqHash
+  hash-a h = simp (ne-eqb _ _ h)
+
+  module _ (ea : x .a ≡ y .a) where
+    pub hash-b : (x .b ≡ y .b → ⊥) → false ≡ eqHash x y
+    unfolding eqHash
+    hash-b h = simp (eq-eqb _ _ ea, ne-eqb _ _ h)
+
+    module _ (eb : x .b ≡ y .b) where
+      pub hash-c : (x .c ≡ y .c → ⊥) → false ≡ eqHash x y
+      unfolding eqHash
+      hash-c h = simp (eq-eqb _ _ ea, eq-eqb _ _ eb, ne-eqb _ _ h)
+
+      pub hash-d : x .c ≡ y .c → eqb (x .d) (y .d) ≡ eqHash x y
+      unfolding eqHash
+      hash-d ec = simp (eq-eqb _ _ ea, eq-eqb _ _ eb, eq-eqb _ _ ec)
+
+module _ (p q : OutPoint) where
+  pub point-index : (p .index ≡ q .index → ⊥) → false ≡ eqPoint p q
+  unfolding eqPoint
+  point-index h = simp (ne-eqb _ _ h)
+
+  pub point-hash : {r : Bool} → p .index ≡ q .index → r ≡ eqHash (p .hash) (q .hash) → r ≡ eqPoint p q
+  unfolding eqPoint
+  point-hash e h = rw (eq-eqb _ _ e) h
+
+-- ---- the tests say equality
+
+pub and-both : (a b : Bool) → (a && b) ≡ true → (a ≡ true) × (b ≡ true)
+and-both true b e = (refl, e)
+and-both false b e = absurd (true-is-not-false e)
+  where
+    true-is-not-false : false ≡ true → ⊥
+    true-is-not-false e = let z : _≡_ {A = ℕ} 0 1 = cc in omega arith
+
+hash-same : (x y : Byte32) → eqHash x y ≡ true → x ≡ y
+unfolding eqHash
+hash-same x y e =
+    let p = and-both (eqb (x .a) (y .a)) (eqb (x .b) (y .b) && (eqb (x .c) (y .c) && eqb (x .d) (y .d))) e in
+    let q = and-both (eqb (x .b) (y .b)) (eqb (x .c) (y .c) && eqb (x .d) (y .d)) (p .1) in
+    let r = and-both (eqb (x .c) (y .c)) (eqb (x .d) (y .d)) (q .1) in
+    made (x .a) (x .b) (x .c) (x .d) (y .a) (y .b) (y .c) (y .d) (eqb-true _ _ (p .0)) (eqb-true _ _ (q .0)) (eqb-true _ _ (r .0)) (eqb-true _ _ (r .1))
+  where
+    made : (a b c d a' b' c' d' : ℕ) → a ≡ a' → b ≡ b' → c ≡ c' → d ≡ d' → _≡_ {A = Byte32} (record { a = a; b = b; c = c; d = d }) (record { a = a'; b = b'; c = c'; d = d' })
+    made a b c d a' b' c' d' p q r s = rw (p, q, r, s)
+
+hash-refl : (x : Byte32) → eqHash x x ≡ true
+unfolding eqHash
+hash-refl x = rw (eq-eqb (x .a) (x .a) refl, eq-eqb (x .b) (x .b) refl, eq-eqb (x .c) (x .c) refl, eq-eqb (x .d) (x .d) refl)
+
+pub point-same : (p q : OutPoint) → eqPoint p q ≡ true → p ≡ q
+unfolding eqPoint
+point-same p q e =
+    let a = and-both (eqb (p .index) (q .index)) (eqHash (p .hash) (q .hash)) e in
+    made (p .hash) (q .hash) (p .index) (q .index) (hash-same _ _ (a .1)) (eqb-true _ _ (a .0))
+  where
+    made : (h h' : Byte32) (n n' : ℕ) → h ≡ h' → n ≡ n' → _≡_ {A = OutPoint} (record { hash = h; index = n }) (record { hash = h'; index = n' })
+    made h h' n n' e f = rw (e, f)
+
+pub point-refl : (p : OutPoint) → eqPoint p p ≡ true
+unfolding eqPoint
+point-refl p = rw (eq-eqb (p .index) (p .index) refl, hash-refl (p .hash))
+
+-- ---- a search in a list: what is left decides
+
+pub record Seek (p : OutPoint) (f : ℕ → OutPoint) (n i : ℕ) (R : Bool) : Type 0 where
+  pub rest : R ≡ has p (span f i (n - i))
+
+pub seek-start : (p : OutPoint) (f : ℕ → OutPoint) (n : ℕ) → Seek p f n 0 (has p (span f 0 n))
+seek-start p f n = record { rest = ap (has p) (span-whole f n) }
+
+module _ {p : OutPoint} {f : ℕ → OutPoint} {n i : ℕ} {R : Bool} (h : Seek p f n i R) where
+  pub seek-end : n ≤ i → false ≡ R
+  unfolding has
+  seek-end l = sym (h .rest ∙ rw (span-end f i n l))
+
+  module _ {q : OutPoint} {r : Bool} (k : i < n) (ey : q ≡ f i) (e : r ≡ eqPoint p q) where
+    pub seek-more : r ≡ false → Seek p f n (i + 1) R
+    unfolding has
+    seek-more t = record { rest = h .rest ∙ rw (span-on f i n k, ← ey, ← e, t) }
+
+    pub seek-found : r ≡ true → true ≡ R
+    unfolding has
+    seek-found t = sym (h .rest ∙ rw (span-on f i n k, ← ey, ← e, t))
+
+pub seek-all : (p : OutPoint) (s : List ℕ) {n : ℕ} {r : Bool} → n ≡ fixCount s → r ≡ has p (span (pointOf s) 0 n) → r ≡ has p (points s)
+seek-all p s e h = h ∙ ap (λ (n : ℕ). has p (span (pointOf s) 0 n)) e

@@ -1,0 +1,4 @@
+pub mod EqualLaws
+pub mod ListLaws
+pub mod PointLaws
+pub mod Ways
