@@ -2,7 +2,7 @@
 -- paper says. proofs/KnownOutcomes.antt proves all rows at once.
 use Prim.Native.Nat.{ℕ, _+_, _-_, _^_}
 use mathlib.Core.List.{List, [], _∷_}
-use mathlib.Core.Option.{none}
+use mathlib.Core.Option.{none, some}
 use lib.ListN.{length, replicate}
 use Rattle.units.specs.declared.{Shannons.Shannons, CheckedShannons.CheckedShannons}
 use Rattle.arithmetic.specs.Amount.{value}
@@ -11,6 +11,7 @@ use Rattle.molecule.specs.Molecule.{encode}
 use Rattle.transaction.specs.Ckb.{CellOutput}
 use Rattle.rules.specs.Outcome as verdict
 use Rattle.rules.specs.Judge.{Figures}
+use Rattle.exclusions.specs.Calls.{truncated}
 use Rattle.case_file.specs.CaseFile.{caseLine}
 use Rattle.known_outcomes.specs.CaseFiles.{ascii, file, fileAt, firstFile}
 use Rattle.known_outcomes.specs.Cases.{expectedLock, tokenType, inputs, output, plain, token, amount, spending, crowd, cell, notLive, atRate, offer, Case, untyped, judged}
@@ -67,6 +68,11 @@ inputsTx n = spending (inputs n) (plain 100 ∷ []) ([] ∷ [])
 abbrev pub tokensTx : List ℕ
 tokensTx = spending (inputs 2) (token 100 ∷ []) (amount 5 ∷ [])
 
+-- how many entries are left at a tip, of one that was committed at 100
+abbrev entriesAt : ℕ → List ℕ
+entriesAt tip =
+    length (truncated (record { 0 = tip }) (record { hash = record { a = 0; b = 0; c = 0; d = 0 }; committed = some (record { 0 = 100 }); points = [] } ∷ [])) ∷ []
+
 -- the file of so many inputs and cell deps
 abbrev crowded : ℕ → ℕ → List ℕ
 crowded ins ds = file [] [] (crowd ins 1 ds 0 .peer) (replicate ins (cell (plain 200000) []))
@@ -109,4 +115,8 @@ outcomes =
     ∷ (caseLine (file [] tokenType tokensTx (cell (token 1000) (amount (2 ^ 128 - 1)) ∷ cell (token 1000) (amount 1) ∷ [])) gives ascii "7\n")
     -- lock args 20, type args 32: change capacity 14,200,000,000
     ∷ (ifFits (changeCapacity 20 32) gives 14200000000 ∷ [])
+    -- committed 100: kept at tip 99 and 112, dropped at 113
+    ∷ (entriesAt 99 gives 1 ∷ [])
+    ∷ (entriesAt 112 gives 1 ∷ [])
+    ∷ (entriesAt 113 gives 0 ∷ [])
     ∷ []
