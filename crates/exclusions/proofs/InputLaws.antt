@@ -180,7 +180,10 @@ pub write-none : (out : List ℕ) (at : ℕ) (l : List Slot) (count : ℕ) {n : 
 write-none out at l count {n} h e k =
     let r : at + length (bytesOf (inputs (take n l))) ≤ length out = rw (take-used l n count e k) h in
     record {
-      within = omega arith; fits = omega arith; source = e; long = refl;
+      within = omega arith;
+      fits = omega arith;
+      source = e;
+      long = refl;
       putting = record { done = []; put = no-write out at (omega (arith, h)); all = refl; room = r };
     }
 
@@ -189,7 +192,7 @@ module _ {out₀ : List ℕ} {at₀ : ℕ} {l : List Slot} {n : ℕ} {out : List
       → next ≡ putEnd out at (bytesOf (inputAt (getD l i d .row) [])) → Writing out₀ at₀ l n after next (i + 1)
   write-more d h e f =
       let here : bytesOf (inputs (drop i (take n l))) ≡ bytesOf (inputAt (getD l i d .row) []) ++ bytesOf (inputs (drop (i + 1) (take n l)))
-            = rw (rows-on l n i d (omega (arith, w .source, w .fits)) h) (bytes-one (getD l i d) (drop (i + 1) (take n l))) in
+      = rw (rows-on l n i d (omega (arith, w .source, w .fits)) h) (bytes-one (getD l i d) (drop (i + 1) (take n l))) in
       let p = putting-next (bytesOf (inputAt (getD l i d .row) [])) (rw here at (w .putting)) e f in
       record { within = omega arith; fits = w .fits; source = w .source; long = length-kept (p .put); putting = p }
 

@@ -7,4 +7,5 @@ pub mod RenewLaws
 pub mod CallLaws
 pub mod AddLaws
 pub mod MigrateLaws
+pub mod Examples
 pub mod Ways

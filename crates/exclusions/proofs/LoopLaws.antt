@@ -66,7 +66,9 @@ module _ {f : Slot → Slot} {l g : List Slot} {n i : ℕ} (m : Marking f l n g 
   mark-more d {y} h e =
       let rest : map f (drop i (take n l)) ≡ y ∷ map f (drop (i + 1) (take n l)) = rw (rows-on l n i d (omega (arith, m .source, m .fits)) h, e) in
       record {
-        within = omega arith; fits = m .fits; source = m .source;
+        within = omega arith;
+        fits = m .fits;
+        source = m .source;
         building = build-put y (rw rest at (m .building)) (omega (arith, m .fits));
       }
 
@@ -96,7 +98,10 @@ module _ {rule : Rule} {l g : List Slot} {n to i : ℕ} {above : Bool} (m : Sift
         let k : keepsRow rule above (getD l i d) ≡ true = sym e ∙ t in
         let rest : sift rule above (drop i (take n l)) ≡ getD l i d ∷ sift rule r (drop (i + 1) (take n l)) = rw (rows-on l n i d (omega (arith, m .source, m .fits)) h, k, t) in
         record {
-          within = omega arith; below = omega (arith, m .below); fits = m .fits; source = m .source;
+          within = omega arith;
+          below = omega (arith, m .below);
+          fits = m .fits;
+          source = m .source;
           building = build-put (getD l i d) (rw rest at (m .building)) (omega (arith, m .fits, m .below));
         }
 

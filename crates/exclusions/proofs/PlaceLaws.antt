@@ -121,7 +121,9 @@ pub record Appending (start : List Slot) (from : ℕ) (tx : List ℕ) (n : ℕ) 
 pub append-start : (l : List Slot) (from : ℕ) (tx : List ℕ) {n : ℕ} → from + n ≤ 576 → n ≡ fixCount (rawField tx 3) → length l ≡ 576 → Appending (take from l) from tx n l from 0
 unfolding spentRows
 append-start l from tx {n} h c e = record {
-  within = omega arith; place = omega arith; fits = h;
+  within = omega arith;
+  place = omega arith;
+  fits = h;
   building = record { long = e; built = ap (λ (t : List (List ℕ)). take from l ++ map spentRow t) (sym (span-whole (fixItem (rawField tx 3) 44) n) ∙ ap (span (fixItem (rawField tx 3) 44) 0) c) };
 }
 
@@ -129,9 +131,11 @@ module _ {start : List Slot} {from : ℕ} {tx : List ℕ} {n : ℕ} {g : List Sl
   pub append-more : {x : Slot} → k < n → x ≡ spentRow (fixItem (rawField tx 3) 44 k) → Appending start from tx n (set g to x) (to + 1) (k + 1)
   append-more {x} h e =
       let here : map spentRow (span (fixItem (rawField tx 3) 44) k (n - k)) ≡ x ∷ map spentRow (span (fixItem (rawField tx 3) 44) (k + 1) (n - (k + 1)))
-            = rw (span-on (fixItem (rawField tx 3) 44) k n h, e) in
+      = rw (span-on (fixItem (rawField tx 3) 44) k n h, e) in
       record {
-        within = omega arith; place = omega (arith, a .place); fits = a .fits;
+        within = omega arith;
+        place = omega (arith, a .place);
+        fits = a .fits;
         building = build-put x (rw here at (a .building)) (omega (arith, a .place, a .fits));
       }
 
@@ -150,7 +154,9 @@ pub record Joining (start : List Slot) (l : List Slot) (n : ℕ) (g : List Slot)
 pub join-start : (g : List Slot) (to : ℕ) (l : List Slot) (from count : ℕ) {n : ℕ} → to + (min count 576 - from) ≤ 576 → length g ≡ 576 → length l ≡ 576 → n ≡ min count 576
     → Joining (take to g) l n g to from (take to g ++ drop from (take count l))
 join-start g to l from count {n} h eg el k = record {
-  room = rw k h; fits = omega arith; source = el;
+  room = rw k h;
+  fits = omega arith;
+  source = el;
   building = record { long = eg; built = ap (λ (t : List Slot). take to g ++ drop from t) (take-used l n count el k) };
 }
 
@@ -159,7 +165,9 @@ module _ {start l : List Slot} {n : ℕ} {g : List Slot} {to i : ℕ} {whole : L
   join-more d h =
       let here : drop i (take n l) ≡ getD l i d ∷ drop (i + 1) (take n l) = rows-on l n i d (omega (arith, j .source, j .fits)) h in
       record {
-        room = omega (arith, j .room); fits = j .fits; source = j .source;
+        room = omega (arith, j .room);
+        fits = j .fits;
+        source = j .source;
         building = build-put (getD l i d) (rw here at (j .building)) (omega (arith, j .room));
       }
 

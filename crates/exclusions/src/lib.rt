@@ -29,6 +29,7 @@ const KEEP_BLOCK_PERIOD: u64 = 13;
 const MOST_ROWS: usize = 576;
 
 const MOST_TRANSACTIONS: usize = 64;
+
 const MOST_OUT_POINTS: usize = 512;
 
 // A transaction, or an out point that the nearest transaction above it spends.
@@ -342,7 +343,11 @@ fn append_inputs(m: LiveCellsExclusionMap, tx: &[u8], n: usize) -> LiveCellsExcl
 }
 
 // The table with the rows of another from `from` on after its own.
-fn append_rows(m: LiveCellsExclusionMap, other: LiveCellsExclusionMap, from: usize) -> LiveCellsExclusionMap
+fn append_rows(
+    m: LiveCellsExclusionMap,
+    other: LiveCellsExclusionMap,
+    from: usize,
+) -> LiveCellsExclusionMap
     requires { ⌜ m .count + (min (other .count) 576 - from) ≤ 576 ⌝ }
     ensures { λ r. ⌜ rowsOf r ≡ rowsOf m ++ drop from (rowsOf other) ⌝ }
 {
@@ -390,7 +395,14 @@ fn has_room(m: LiveCellsExclusionMap, i: usize, j: usize, n: u32) -> bool
 }
 
 // The table with the transaction in place of the rows from i up to j.
-fn put_in_place(m: LiveCellsExclusionMap, i: usize, j: usize, hash: Byte32, tx: &[u8], n: usize) -> LiveCellsExclusionMap
+fn put_in_place(
+    m: LiveCellsExclusionMap,
+    i: usize,
+    j: usize,
+    hash: Byte32,
+    tx: &[u8],
+    n: usize,
+) -> LiveCellsExclusionMap
     requires { ⌜ i + 1 + n + (min (m .count) 576 - j) ≤ 576 ⌝ }
     requires { ⌜ n ≡ fixCount (rawField (now tx) 3) ⌝ }
     ensures { λ r. ⌜ rowsOf r ≡ take i (m .rows) ++ (record { row = Row.Pending hash } ∷ []) ++ spentRows (now (tx .entry)) ++ drop j (rowsOf m) ⌝ }
@@ -404,7 +416,12 @@ fn put_in_place(m: LiveCellsExclusionMap, i: usize, j: usize, hash: Byte32, tx: 
 }
 
 // Enters the transaction into m; where it does not fit, `given` is handed back.
-fn enter(m: LiveCellsExclusionMap, given: LiveCellsExclusionMap, hash: Byte32, tx: &[u8]) -> Excluded
+fn enter(
+    m: LiveCellsExclusionMap,
+    given: LiveCellsExclusionMap,
+    hash: Byte32,
+    tx: &[u8],
+) -> Excluded
     ensures { λ r. ⌜ told r ≡ ifFits given (renew (pending hash (now (tx .entry))) (entriesOf m)) ⌝ }
 {
     let rule = Rule::All;

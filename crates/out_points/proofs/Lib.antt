@@ -1,3 +1,4 @@
+pub mod AgainLaws
 pub mod EqualLaws
 pub mod ListLaws
 pub mod PointLaws

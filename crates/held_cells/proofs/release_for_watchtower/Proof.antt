@@ -1,0 +1,14 @@
+use Rattle.held_cells.proofs.Ways.{ways}
+use Rattle.held_cells.proofs.release_for_watchtower.Statement.{statement}
+use Rattle.held_cells.proofs.release_for_watchtower.Tie as tie
+
+pub release-for-watchtower-spec : {M : Type 1} → statement M
+release-for-watchtower-spec =
+    tie.close
+    (tie.spec
+    (λ c κs. search ways)  -- is-out-points-requires
+    (λ c κs. search ways)  -- refused-requires
+    (λ c. search ways)  -- returns
+    (λ c κs. search ways)  -- without-requires
+    (λ c κs. search ways)  -- done-requires
+    (λ c. search ways))  -- returns-2

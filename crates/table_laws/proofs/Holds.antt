@@ -1,0 +1,350 @@
+-- Laws over any list of calls on a table of holds: a watchtower cell has at most one record.
+use mathlib.Core.Path.{_≡_, refl, sym, ap, ap₂, _∙_, subst}
+use Prim.Native.Nat.{ℕ, zero, suc, _+_, _≤_, max}
+use mathlib.Core.List.{List, [], _∷_, _++_, map}
+use mathlib.Core.Bool.{Bool, true, false, cond, not}
+use native.Mathlib.Omega.{arith}
+use lib.Dec.{leb}
+use lib.ListN.{length}
+use Rattle.units.specs.declared.Millis.{Millis}
+use Rattle.units.specs.Units.{later}
+use Rattle.molecule.specs.Molecule.{readable}
+use Rattle.transaction.specs.Ckb.{OutPoints}
+use Rattle.error.specs.Refusal.{number}
+use Rattle.out_points.specs.declared.OutPoint.{OutPoint}
+use Rattle.out_points.specs.OutPoints.{eqPoint, has, points}
+use Rattle.out_points.proofs.EqualLaws.{point-same, point-refl}
+use Rattle.held_cells.specs.declared.{Owner.Owner, Hold.Hold, Held.Held, Answer.Answer, Holds.Holds, Taker.Taker}
+use Rattle.held_cells.specs.Held.{recordsOf, funding, watchtower, keep, Outcome, done, refused, outcome, told, atMost256, isNotOf, holdFunding, ownerIsTower, isUnnamed, releaseForWatchtower, isTowerOn, renew, renewAll, holdForWatchtower, isLive, cellsOf, written, hasRoom, lockHeld, isBusy, isNew, firsts, others, ownerFor, heldBy, takeFrom, takeCells}
+use Rattle.table_laws.specs.Holds as run
+use Rattle.table_laws.specs.Holds.{Called, Reached, towers, OneEach, unended, given, HeldRefused, GivenHeld, LockedRefused}
+
+abbrev Single : List Hold → Type 0
+Single l = (p : OutPoint) → towers p l ≤ 1
+
+false-true : false ≡ true → ⊥
+false-true e = let z : _≡_ {A = ℕ} 0 1 = cc in omega arith
+
+-- ---- counting
+
+module _ (p : OutPoint) where
+  towers-append : (a b : List Hold) → towers p (a ++ b) ≡ towers p a + towers p b
+  unfolding towers
+  towers-append [] b = omega arith
+  towers-append (r ∷ a) b = by (isTowerOn p r) (towers-append a b)
+    where
+      by : (t : Bool) → towers p (a ++ b) ≡ towers p a + towers p b
+          → cond t (suc (towers p (a ++ b))) (towers p (a ++ b)) ≡ cond t (suc (towers p a)) (towers p a) + towers p b
+      by true e = omega (arith, e)
+      by false e = e
+
+  towers-keep : (f : Hold → Bool) (l : List Hold) → towers p (keep f l) ≤ towers p l
+  unfolding towers keep
+  towers-keep f [] = omega arith
+  towers-keep f (r ∷ l) = by (f r) (isTowerOn p r) refl (towers-keep f l)
+    where
+      by : (t u : Bool) → isTowerOn p r ≡ u → towers p (keep f l) ≤ towers p l → towers p (cond t (r ∷ keep f l) (keep f l)) ≤ cond u (suc (towers p l)) (towers p l)
+      by true true e h = rw e (omega (arith, h))
+      by true false e h = rw e h
+      by false true e h = omega (arith, h)
+      by false false e h = h
+
+  towers-funding : (holder : ℕ) (ps : List OutPoint) → towers p (map (funding holder) ps) ≡ 0
+  unfolding towers isTowerOn ownerIsTower
+  towers-funding holder [] = refl
+  towers-funding holder (q ∷ ps) = towers-funding holder ps
+
+keep-single : (f : Hold → Bool) (l : List Hold) → Single l → Single (keep f l)
+keep-single f l s p = let a = towers-keep p f l in let b = s p in omega arith
+
+-- ---- a renewed record
+
+on-tower : (q p : OutPoint) (end : Millis) → isTowerOn q (watchtower end p) ≡ eqPoint q p
+unfolding isTowerOn ownerIsTower
+on-tower q p end = refl
+
+-- a watchtower record on p stands for p: on another cell it counts as one on p does
+tower-is : (q p : OutPoint) (r : Hold) → isTowerOn p r ≡ true → isTowerOn q r ≡ eqPoint q p
+unfolding isTowerOn
+tower-is q p r e = by (ownerIsTower (r .owner)) e
+  where
+    by : (t : Bool) → cond t (eqPoint p (r .point)) false ≡ true → cond t (eqPoint q (r .point)) false ≡ eqPoint q p
+    by true e = ap (eqPoint q) (sym (point-same p (r .point) e))
+    by false e = absurd (false-true e)
+
+renew-other : (end : Millis) (q p : OutPoint) (l : List Hold) → eqPoint q p ≡ false → towers q (renew end l p) ≡ towers q l
+unfolding towers renew
+renew-other end q p [] e = rw (on-tower q p end, e)
+renew-other end q p (r ∷ l) e = by (isTowerOn p r) refl (renew-other end q p l e)
+  where
+    by : (t : Bool) → isTowerOn p r ≡ t → towers q (renew end l p) ≡ towers q l
+        → towers q (cond t (watchtower end p ∷ l) (r ∷ renew end l p)) ≡ cond (isTowerOn q r) (suc (towers q l)) (towers q l)
+    by true f h = rw (tower-is q p r f, on-tower q p end)
+    by false f h = ap (λ (n : ℕ). cond (isTowerOn q r) (suc n) n) h
+
+renew-same : (end : Millis) (p : OutPoint) (l : List Hold) → towers p (renew end l p) ≤ max 1 (towers p l)
+unfolding towers renew
+renew-same end p [] = rw (on-tower p p end, point-refl p) (omega arith)
+renew-same end p (r ∷ l) = by (isTowerOn p r) refl (renew-same end p l)
+  where
+    by : (t : Bool) → isTowerOn p r ≡ t → towers p (renew end l p) ≤ max 1 (towers p l)
+        → towers p (cond t (watchtower end p ∷ l) (r ∷ renew end l p)) ≤ max 1 (cond t (suc (towers p l)) (towers p l))
+    by true f h = rw (on-tower p p end, point-refl p) (omega arith)
+    by false f h = rw f h
+
+renew-single : (end : Millis) (p : OutPoint) (l : List Hold) → Single l → Single (renew end l p)
+renew-single end p l s q = by (eqPoint q p) refl
+  where
+    by : (t : Bool) → eqPoint q p ≡ t → towers q (renew end l p) ≤ 1
+    by true e = subst (λ (x : OutPoint). towers x (renew end l p) ≤ 1) (sym (point-same q p e)) (let a = renew-same end p l in let b = s p in omega arith)
+    by false e = let a = renew-other end q p l e in let b = s q in omega arith
+
+renew-all : (end : Millis) (ps : List OutPoint) (l : List Hold) → Single l → Single (renewAll end l ps)
+unfolding renewAll
+renew-all end [] l s = s
+renew-all end (p ∷ ps) l s = renew-all end ps (renew end l p) (renew-single end p l s)
+
+-- ---- taken picks
+
+-- how often a cell stands in a list
+times : OutPoint → List OutPoint → ℕ
+times p [] = 0
+times p (q ∷ l) = cond (eqPoint p q) (suc (times p l)) (times p l)
+
+-- none that stood before, and each once
+firsts-once : (f : OutPoint → Bool) (p : OutPoint) (before l : List OutPoint)
+    → (has p before ≡ true → times p (firsts f before l) ≡ 0) × (times p (firsts f before l) ≤ 1)
+unfolding firsts isNew has times
+firsts-once f p before [] = (λ _. refl, omega arith)
+firsts-once f p before (q ∷ l) = by (f q) (has q before) refl (firsts-once f p before l) (firsts-once f p (q ∷ before) l)
+  where
+    Once : List OutPoint → Type 0
+    Once ps = (has p before ≡ true → times p ps ≡ 0) × (times p ps ≤ 1)
+
+    same : (b : Bool) → eqPoint p q ≡ b → has q before ≡ false
+        → (has p (q ∷ before) ≡ true → times p (firsts f (q ∷ before) l) ≡ 0) × (times p (firsts f (q ∷ before) l) ≤ 1)
+        → (has p before ≡ true → cond b (suc (times p (firsts f (q ∷ before) l))) (times p (firsts f (q ∷ before) l)) ≡ 0)
+        × (cond b (suc (times p (firsts f (q ∷ before) l))) (times p (firsts f (q ∷ before) l)) ≤ 1)
+    same true k e (u, v) =
+        let z : times p (firsts f (q ∷ before) l) ≡ 0 = u (rw k) in
+        (λ h. absurd (false-true (sym (subst (λ (x : OutPoint). has x before ≡ false) (sym (point-same p q k)) e) ∙ h)), omega (arith, z))
+    same false k e (u, v) = (λ h. u (rw k h), v)
+
+    by : (t w : Bool) → has q before ≡ w → Once (firsts f before l)
+        → (has p (q ∷ before) ≡ true → times p (firsts f (q ∷ before) l) ≡ 0) × (times p (firsts f (q ∷ before) l) ≤ 1)
+        → Once (cond (cond t (not w) false) (q ∷ firsts f (q ∷ before) l) (firsts f before l))
+    by true true e a b = a
+    by false w e a b = a
+    by true false e a b = same (eqPoint p q) refl e b
+
+-- one that fails the test is not among them
+firsts-not : (f : OutPoint → Bool) (p : OutPoint) (before l : List OutPoint) → f p ≡ false → times p (firsts f before l) ≡ 0
+unfolding firsts isNew times
+firsts-not f p before [] e = refl
+firsts-not f p before (q ∷ l) e = by (f q) (not (has q before)) (eqPoint p q) refl refl (firsts-not f p before l e) (firsts-not f p (q ∷ before) l e)
+  where
+    by : (t u b : Bool) → f q ≡ t → eqPoint p q ≡ b → times p (firsts f before l) ≡ 0 → times p (firsts f (q ∷ before) l) ≡ 0
+        → times p (cond (cond t u false) (q ∷ firsts f (q ∷ before) l) (firsts f before l)) ≡ 0
+    by true true true ft k x y = absurd (false-true (sym e ∙ ap f (point-same p q k) ∙ ft))
+    by true true false ft k x y = rw k y
+    by true false b ft k x y = x
+    by false u b ft k x y = x
+
+none-there : (p : OutPoint) (l : List Hold) → has p (cellsOf l) ≡ false → towers p l ≡ 0
+unfolding towers has isTowerOn
+none-there p [] e = refl
+none-there p (r ∷ l) e = by (eqPoint p (r .point)) (ownerIsTower (r .owner)) e (none-there p l)
+  where
+    by : (b t : Bool) → cond b true (has p (cellsOf l)) ≡ false → (has p (cellsOf l) ≡ false → towers p l ≡ 0)
+        → cond (cond t b false) (suc (towers p l)) (towers p l) ≡ 0
+    by true t e ih = absurd (false-true (sym e))
+    by false true e ih = ih e
+    by false false e ih = ih e
+
+-- not busy: no record is on it
+free : (left : List Hold) (spent : List OutPoint) (p : OutPoint) → isBusy left spent p ≡ false → has p (cellsOf left) ≡ false
+unfolding isBusy
+free left spent p e = by (has p (cellsOf left)) e
+  where
+    by : (b : Bool) → cond b true (has p spent) ≡ false → b ≡ false
+    by true e = e
+    by false e = refl
+
+towers-held : (p : OutPoint) (owner : Owner) (ps : List OutPoint) → towers p (map (heldBy owner) ps) ≤ times p ps
+unfolding towers times isTowerOn
+towers-held p owner [] = omega arith
+towers-held p owner (q ∷ ps) = by (ownerIsTower owner) (eqPoint p q) (towers-held p owner ps)
+  where
+    by : (t b : Bool) → towers p (map (heldBy owner) ps) ≤ times p ps
+        → cond (cond t b false) (suc (towers p (map (heldBy owner) ps))) (towers p (map (heldBy owner) ps)) ≤ cond b (suc (times p ps)) (times p ps)
+    by true true h = omega (arith, h)
+    by true false h = h
+    by false true h = omega (arith, h)
+    by false false h = h
+
+take-single : (left : List Hold) (spent picks : List OutPoint) (owner : Owner) → Single left
+    → Single (left ++ map (heldBy owner) (firsts (λ p. not (isBusy left spent p)) [] picks))
+take-single left spent picks owner s p = by (isBusy left spent p) refl
+  where
+    taken : List OutPoint
+    taken = firsts (λ (q : OutPoint). not (isBusy left spent q)) [] picks
+
+    sum : towers p (left ++ map (heldBy owner) taken) ≤ towers p left + times p taken
+    sum = let a = towers-append p left (map (heldBy owner) taken) in let b = towers-held p owner taken in omega arith
+
+    by : (t : Bool) → isBusy left spent p ≡ t → towers p (left ++ map (heldBy owner) taken) ≤ 1
+    by true e =
+        let z : times p taken ≡ 0 = firsts-not (λ (q : OutPoint). not (isBusy left spent q)) p [] picks (ap not e) in
+        let a = s p in let b = sum in omega arith
+    by false e =
+        let z : towers p left ≡ 0 = none-there p left (free left spent p e) in
+        let a = firsts-once (λ (q : OutPoint). not (isBusy left spent q)) p [] picks .1 in let b = sum in omega arith
+
+-- ---- the calls
+
+-- an answer leaves at most one on each, or the table that it was given
+abbrev Fine : Held → Outcome → Type 0
+Fine h (done l) = Single l
+Fine h (refused n g) = g ≡ h
+
+either : (h : Held) (c : Bool) (a b : Outcome) → Fine h a → Fine h b → Fine h (cond c a b)
+either h true a b g k = g
+either h false a b g k = k
+
+-- the same of an answer with the lent buffers
+either₂ : (h : Held) (c : Bool) (a b : Outcome × List ℕ) → Fine h (a .0) → Fine h (b .0) → Fine h ((cond {A = Outcome × List ℕ} c a b) .0)
+either₂ h true a b g k = g
+either₂ h false a b g k = k
+
+either₃ : (h : Held) (c : Bool) (a b : Outcome × List ℕ × List ℕ) → Fine h (a .0) → Fine h (b .0) → Fine h ((cond {A = Outcome × List ℕ × List ℕ} c a b) .0)
+either₃ h true a b g k = g
+either₃ h false a b g k = k
+
+-- what a call answered, read back from the table that it returned
+back : (h : Held) (r : Holds) (a : Outcome) → told r ≡ a → Fine h a → Single (recordsOf h) → Single (recordsOf (r .held))
+unfolding told outcome
+back h r a e g s = by (r .answer) (subst (Fine h) (sym e) g)
+  where
+    by : (v : Answer) → Fine h (outcome v (r .held)) → Single (recordsOf (r .held))
+    by Answer.Done g = g
+    by (Answer.Refused x) g = subst (λ (k : Held). Single (recordsOf k)) (sym g) s
+
+funding-single : (holder : ℕ) (f : Hold → Bool) (l : List Hold) (ps : List OutPoint) → Single l → Single (keep f l ++ map (funding holder) ps)
+funding-single holder f l ps s p =
+    let a = towers-append p (keep f l) (map (funding holder) ps) in
+    let b = towers-keep p f l in
+    let c = towers-funding p holder ps in
+    let d = s p in
+    omega arith
+
+at-most : (h : Held) (l : List Hold) → Single l → Fine h (atMost256 h l)
+unfolding atMost256
+at-most h l s = either h (leb (length l) 256) (done l) (refused 14 h) s refl
+
+hold-fine : (h : Held) (holder : ℕ) (cells : List ℕ) → Single (recordsOf h) → Fine h (holdFunding h holder cells)
+unfolding holdFunding
+hold-fine h holder cells s =
+    either h (readable OutPoints cells) (atMost256 h (keep (isNotOf holder) (recordsOf h) ++ map (funding holder) (points cells))) (refused 3 h)
+    (at-most h _ (funding-single holder (isNotOf holder) (recordsOf h) (points cells) s)) refl
+
+watch-fine : (h : Held) (cells : List ℕ) (now : Millis) → Single (recordsOf h) → Fine h (holdForWatchtower h cells now)
+unfolding holdForWatchtower
+watch-fine h cells now s =
+    either h (readable OutPoints cells) (atMost256 h (renewAll (later now (record { 0 = 1800000 })) (recordsOf h) (points cells))) (refused 3 h)
+    (at-most h _ (renew-all (later now (record { 0 = 1800000 })) (points cells) (recordsOf h) s)) refl
+
+release-fine : (h : Held) (cells : List ℕ) → Single (recordsOf h) → Fine h (releaseForWatchtower h cells)
+unfolding releaseForWatchtower
+release-fine h cells s =
+    either h (readable OutPoints cells) (done (keep (isUnnamed (points cells)) (recordsOf h))) (refused 3 h) (keep-single (isUnnamed (points cells)) (recordsOf h) s) refl
+
+locked-fine : (h : Held) (now : Millis) (out : List ℕ) → Single (recordsOf h) → Fine h (lockHeld h now out .0)
+unfolding lockHeld
+locked-fine h now out s =
+    let left : List Hold = keep (isLive now) (recordsOf h) in
+    either₂ h (hasRoom (cellsOf left) out) (done left, written (cellsOf left) out) (refused 13 h, out) (keep-single (isLive now) (recordsOf h) s) refl
+
+from-fine : (h : Held) (left : List Hold) (picks spent : List OutPoint) (owner : Owner) (out₁ out₂ : List ℕ) → Single left
+    → Fine h (takeFrom h left picks spent owner out₁ out₂ .0)
+unfolding takeFrom
+from-fine h left picks spent owner out₁ out₂ s =
+    let taken : List OutPoint = firsts (λ (p : OutPoint). not (isBusy left spent p)) [] picks in
+    let rest : List OutPoint = others (λ (p : OutPoint). not (isBusy left spent p)) [] picks in
+    let all : Outcome × List ℕ × List ℕ = (done (left ++ map (heldBy owner) taken), written taken out₁, written rest out₂) in
+    let few : Outcome × List ℕ × List ℕ = cond (leb (length left + length taken) 256) all (refused 14 h, out₁, out₂) in
+    let room : Outcome × List ℕ × List ℕ = cond (hasRoom rest out₂) few (refused 13 h, out₁, out₂) in
+    either₃ h (hasRoom taken out₁) room (refused 13 h, out₁, out₂)
+    (either₃ h (hasRoom rest out₂) few (refused 13 h, out₁, out₂)
+    (either₃ h (leb (length left + length taken) 256) all (refused 14 h, out₁, out₂) (take-single left spent picks owner s) refl) refl) refl
+
+take-fine : (h : Held) (picked spent : List ℕ) (taker : Taker) (now : Millis) (out₁ out₂ : List ℕ) → Single (recordsOf h)
+    → Fine h (takeCells h picked spent taker now out₁ out₂ .0)
+unfolding takeCells
+take-fine h picked spent taker now out₁ out₂ s =
+    let a : Outcome × List ℕ × List ℕ = takeFrom h (keep (isLive now) (recordsOf h)) (points picked) (points spent) (ownerFor taker now) out₁ out₂ in
+    let b : Outcome × List ℕ × List ℕ = cond (readable OutPoints spent) a (refused 3 h, out₁, out₂) in
+    either₃ h (readable OutPoints picked) b (refused 3 h, out₁, out₂)
+    (either₃ h (readable OutPoints spent) a (refused 3 h, out₁, out₂)
+    (from-fine h (keep (isLive now) (recordsOf h)) (points picked) (points spent) (ownerFor taker now) out₁ out₂ (keep-single (isLive now) (recordsOf h) s)) refl) refl
+
+step : {g h : Held} → Called g h → Single (recordsOf g) → Single (recordsOf h)
+step (run.hold {h} r holder cells e) s = back h r _ e (hold-fine h holder cells s) s
+step (run.watch {h} r cells now e) s = back h r _ e (watch-fine h cells now s) s
+step (run.release {h} r cells e) s = back h r _ e (release-fine h cells s) s
+step (run.locked {h} r now out after e) s = back h r _ (ap (λ (x : Outcome × List ℕ). x .0) e) (locked-fine h now out s) s
+step (run.take {h} r picked spent taker now out₁ out₂ after₁ after₂ e) s =
+    back h r _ (ap (λ (x : Outcome × List ℕ × List ℕ). x .0) e) (take-fine h picked spent taker now out₁ out₂ s) s
+
+single : {h : Held} → Reached h → Single (recordsOf h)
+unfolding towers
+single (run.empty e) = subst Single (sym e) (λ p. omega arith)
+single (run.next r c) = step c (single r)
+
+pub one-each : {h : Held} → Reached h → OneEach h
+one-each r = single r
+
+-- ---- who gets a cell
+
+has-times : (p : OutPoint) (l : List OutPoint) → times p l ≡ 0 → has p l ≡ false
+unfolding has times
+has-times p [] e = refl
+has-times p (q ∷ l) e = by (eqPoint p q) e (has-times p l)
+  where
+    by : (b : Bool) → cond b (suc (times p l)) (times p l) ≡ 0 → (times p l ≡ 0 → has p l ≡ false) → cond b true (has p l) ≡ false
+    by true e ih = absurd (omega (arith, e))
+    by false e ih = ih e
+
+busy-held : (left : List Hold) (spent : List OutPoint) (p : OutPoint) → has p (cellsOf left) ≡ true → isBusy left spent p ≡ true
+unfolding isBusy
+busy-held left spent p e = rw e
+
+pub held-refused : HeldRefused
+held-refused h now spent picks p e =
+    has-times p (given h now spent picks)
+    (firsts-not (λ (q : OutPoint). not (isBusy (unended h now) spent q)) p [] picks (ap not (busy-held (unended h now) spent p e)))
+
+has-held : (p : OutPoint) (owner : Owner) (left : List Hold) (ps : List OutPoint) → has p ps ≡ true → has p (cellsOf (left ++ map (heldBy owner) ps)) ≡ true
+unfolding has
+has-held p owner [] [] e = e
+has-held p owner [] (q ∷ ps) e = by (eqPoint p q) e (has-held p owner [] ps)
+  where
+    by : (b : Bool) → cond b true (has p ps) ≡ true → (has p ps ≡ true → has p (cellsOf (map (heldBy owner) ps)) ≡ true)
+        → cond b true (has p (cellsOf (map (heldBy owner) ps))) ≡ true
+    by true e ih = refl
+    by false e ih = ih e
+has-held p owner (r ∷ left) ps e = by (eqPoint p (r .point)) (has-held p owner left ps e)
+  where
+    by : (b : Bool) → has p (cellsOf (left ++ map (heldBy owner) ps)) ≡ true → cond b true (has p (cellsOf (left ++ map (heldBy owner) ps))) ≡ true
+    by true h = refl
+    by false h = h
+
+pub given-held : GivenHeld
+given-held h now spent picks owner p e = has-held p owner (unended h now) (given h now spent picks) e
+
+pub locked-refused : LockedRefused
+unfolding firsts isNew isBusy has
+locked-refused h now p = by (has p (cellsOf (unended h now)))
+  where
+    by : (b : Bool) → b ≡ not (has p (cond (cond (not (cond b true false)) true false) (p ∷ []) []))
+    by true = refl
+    by false = rw (point-refl p)
