@@ -2,27 +2,27 @@
 use mathlib.Core.Path.{_≡_, refl, sym, ap, ap₂, _∙_}
 use Prim.Native.Nat.{ℕ, zero, suc, _+_, _-_, _≤_, _<_, min}
 use mathlib.Core.Bool.{Bool, true, false, not, cond}
-use mathlib.Core.List.{List, [], _∷_, _++_, map, append-nil, append-assoc}
+use mathlib.Core.List.{List, [], _∷_, _++_, map, append-assoc}
 use native.Mathlib.Omega.{arith}
 use native.Mathlib.Numerals.{add-one}
 use borrow.Author.Tests.{not-true, not-false, le-leb, lt-leb, leb-true, eq-eqb, ne-eqb}
-use lib.Dec.{leb, eqb}
+use lib.Dec.{leb}
 use lib.ListN.{length, take, drop, length-append, length-map, length-take, length-drop}
 use lib.Seq.{take-take, append-snoc}
 use Rattle.molecule.specs.Molecule.{readable, option}
 use Rattle.molecule.specs.Layout.{span, fixCount, fixItem}
 use Rattle.transaction.specs.Ckb.{Transaction}
-use Rattle.transaction.specs.Tx.{rawField, txAt}
-use Rattle.units.specs.declared.BlockNumber.{BlockNumber}
+use Rattle.transaction.specs.Tx.{rawField, txAt, previousOutputOf}
 use Rattle.error.specs.Refusal.{number}
 use Rattle.error.specs.declared.Refusal.{Refusal}
-use Rattle.out_points.specs.OutPoints.{byte32At}
+use Rattle.out_points.specs.OutPoints.{byte32At, outPointAt}
 use Rattle.out_points.specs.declared.{Byte32.Byte32, OutPoint.OutPoint}
 use Rattle.exclusions.specs.declared.{Row.Row, Slot.Slot, Rule.Rule, LiveCellsExclusionMap.LiveCellsExclusionMap}
-use Rattle.exclusions.specs.Table.{Entry, rowsOf, loose, entriesAt, entries, entriesOf, After, left, kept}
-use Rattle.exclusions.specs.Calls.{excluded, pending, renew, ifFits, withHash, withTx, ifTx, addCall}
-use Rattle.exclusions.specs.Rows.{sift, inputAt, inputs, isOf, placeOf, run, spentRow, spentRows, roomFor, hasRoom}
-use Rattle.exclusions.proofs.InputLaws.{inputs-split, tidy-entries, tidy-loose}
+use Rattle.exclusions.specs.Table.{Entry, rowsOf, looseAt, loose, entriesAt, entries, entriesOf, After, left, kept}
+use Rattle.exclusions.specs.Calls.{excluded, spent, pending, renew, ifFits, withHash, withTx, ifTx, addCall}
+use Rattle.exclusions.specs.Rows.{sift, inputs, isOf, placeOf, inputRow, spentRows, roomFor}
+use Rattle.exclusions.proofs.PlaceLaws.{run}
+use Rattle.exclusions.proofs.InputLaws.{tidy-entries, tidy-loose}
 use Rattle.exclusions.proofs.RenewLaws.{fresh, renewRows, renewed-place, renewed-loose, renewed-entries}
 use Rattle.exclusions.proofs.CallLaws.{hash-bad, hash-good}
 
@@ -30,29 +30,29 @@ use Rattle.exclusions.proofs.CallLaws.{hash-bad, hash-good}
 
 -- a row is an entry's or an out point
 rows-counted : (l : List Slot) → length l ≡ length (entries l) + length (inputs l)
-unfolding entries entriesAt inputs inputAt
+unfolding inputs loose looseAt entries entriesAt excluded
 rows-counted [] = refl
 rows-counted (x ∷ l) = by (rows-counted l) (x .row)
   where
-    by : length l ≡ length (entries l) + length (inputs l) → (r : Row) → suc (length l) ≡ length (entriesAt r (loose l) (entries l)) + length (inputAt r (inputs l))
+    by : length l ≡ length (entries l) + length (inputs l) → (r : Row) → suc (length l) ≡ length (entriesAt r (loose l) (entries l)) + length (looseAt r (loose l) ++ excluded (entriesAt r (loose l) (entries l)))
     by e (Row.Pending h) = omega arith
     by e (Row.Committed h b) = omega arith
     by e (Row.Input p) = omega arith
 
 inputs-append : (a b : List Slot) → length (inputs (a ++ b)) ≡ length (inputs a) + length (inputs b)
-unfolding inputs inputAt
+unfolding inputs loose looseAt entries entriesAt excluded
 inputs-append [] b = omega arith
 inputs-append (x ∷ a) b = by (inputs-append a b) (x .row)
   where
-    by : length (inputs (a ++ b)) ≡ length (inputs a) + length (inputs b) → (r : Row) → length (inputAt r (inputs (a ++ b))) ≡ length (inputAt r (inputs a)) + length (inputs b)
+    by : length (inputs (a ++ b)) ≡ length (inputs a) + length (inputs b) → (r : Row) → length (looseAt r (loose (a ++ b)) ++ excluded (entriesAt r (loose (a ++ b)) (entries (a ++ b)))) ≡ length (looseAt r (loose a) ++ excluded (entriesAt r (loose a) (entries a))) + length (inputs b)
     by e (Row.Pending h) = e
     by e (Row.Committed h c) = e
     by e (Row.Input p) = omega arith
 
-inputs-spent : (is : List (List ℕ)) → length (inputs (map spentRow is)) ≡ length is
-unfolding inputs inputAt spentRow
+inputs-spent : (ps : List OutPoint) → length (inputs (map inputRow ps)) ≡ length ps
+unfolding inputs loose looseAt entries entriesAt excluded inputRow
 inputs-spent [] = refl
-inputs-spent (i ∷ is) = ap suc (inputs-spent is)
+inputs-spent (p ∷ ps) = ap suc (inputs-spent ps)
 
 length-span : {A : Type 0} (f : ℕ → A) (i k : ℕ) → length (span f i k) ≡ k
 unfolding span
@@ -62,7 +62,7 @@ length-span f i (suc k) = ap suc (length-span f (suc i) k)
 place-within : (hash : Byte32) (l : List Slot) → placeOf hash l ≤ length l
 unfolding placeOf
 place-within hash [] = omega arith
-place-within hash (x ∷ l) = by (place-within hash l) (isOf hash x)
+place-within hash (x ∷ l) = by (place-within hash l) (isOf hash (x .row))
   where
     by : placeOf hash l ≤ length l → (b : Bool) → cond b 0 (suc (placeOf hash l)) ≤ suc (length l)
     by h true = omega arith
@@ -71,12 +71,12 @@ place-within hash (x ∷ l) = by (place-within hash l) (isOf hash x)
 -- ---- has_room, put_in_place
 
 module _ (m : LiveCellsExclusionMap) (i j n : ℕ) {a b : ℕ} (ea : a ≡ length (inputs (drop 0 (take i (m .rows))))) (eb : b ≡ length (inputs (drop j (take (m .count) (m .rows))))) where
-  pub room-points : 512 < a + n + b → false ≡ hasRoom m i j n
-  unfolding hasRoom roomFor
+  pub room-points : 512 < a + n + b → false ≡ roomFor i (length (inputs (drop 0 (take i (m .rows))))) n (min (m .count) 576) j (length (inputs (drop j (rowsOf m))))
+  unfolding roomFor
   room-points h = rw (← ea, ← eb, lt-leb (a + n + b) 512 h)
 
-  pub room-transactions : {rows u v w : ℕ} → a + n + b ≤ 512 → rows ≡ min (m .count) 576 → u ≡ i - a → v ≡ rows - j → w ≡ v - b → leb (u + 1 + w) 64 ≡ hasRoom m i j n
-  unfolding hasRoom roomFor
+  pub room-transactions : {rows u v w : ℕ} → a + n + b ≤ 512 → rows ≡ min (m .count) 576 → u ≡ i - a → v ≡ rows - j → w ≡ v - b → leb (u + 1 + w) 64 ≡ roomFor i (length (inputs (drop 0 (take i (m .rows))))) n (min (m .count) 576) j (length (inputs (drop j (rowsOf m))))
+  unfolding roomFor
   room-transactions h er eu ev ew = rw (← ea, ← eb, le-leb (a + n + b) 512 h, ew, ev, eu, er)
 
 roomy : (i a n rows j b : ℕ) → roomFor i a n rows j b ≡ true → i + 1 + n + (rows - j) ≤ 576
@@ -140,21 +140,22 @@ module _ (m given g : LiveCellsExclusionMap) (hash : Byte32) (tx : List ℕ) {n 
   whole-entries = ap entries whole-is ∙ (renewed-entries hash tx rows ∙ ap (renew (pending hash tx)) (tidy-entries m g e))
 
   whole-points : length (inputs whole) ≡ length (excluded after)
+  unfolding inputs
   whole-points =
       let l : loose whole ≡ [] = ap loose whole-is ∙ (renewed-loose hash tx rows ∙ tidy-loose m g e) in
-      let s : inputs whole ≡ excluded after = inputs-split whole ∙ ap₂ (λ (ps : List OutPoint) (es : List Entry). ps ++ excluded es) l whole-entries in
+      let s : inputs whole ≡ excluded after = ap₂ (λ (ps : List OutPoint) (es : List Entry). ps ++ excluded es) l whole-entries in
       ap length s
 
   length-spent : length (spentRows tx) ≡ n
-  unfolding spentRows
-  length-spent = length-map (txAt tx .inputs) spentRow ∙ (length-span (fixItem (rawField tx 3) 44) 0 (fixCount (rawField tx 3)) ∙ sym en)
+  unfolding spentRows spent
+  length-spent = length-map (spent tx) inputRow ∙ (length-map (txAt tx .inputs) (λ i. outPointAt (previousOutputOf i) 0) ∙ (length-span (fixItem (rawField tx 3) 44) 0 (fixCount (rawField tx 3)) ∙ sym en))
 
   points-spent : length (inputs (spentRows tx)) ≡ n
-  unfolding spentRows
-  points-spent = inputs-spent (txAt tx .inputs) ∙ (length-span (fixItem (rawField tx 3) 44) 0 (fixCount (rawField tx 3)) ∙ sym en)
+  unfolding spentRows spent
+  points-spent = inputs-spent (spent tx) ∙ (length-map (txAt tx .inputs) (λ i. outPointAt (previousOutputOf i) 0) ∙ (length-span (fixItem (rawField tx 3) 44) 0 (fixCount (rawField tx 3)) ∙ sym en))
 
   point-none : length (inputs (record { row = Row.Pending hash } ∷ [])) ≡ 0
-  unfolding inputs inputAt
+  unfolding inputs loose looseAt entries entriesAt excluded
   point-none = refl
 
   abbrev before-points : ℕ
@@ -190,11 +191,11 @@ module _ (m given g : LiveCellsExclusionMap) (hash : Byte32) (tx : List ℕ) {n 
       let f : length (drop j rows) ≡ min (g .count) 576 - j = rw (length-drop, count-rows) in
       omega (arith, a, b, c, d, f, rows-are, whole-points, points-are)
 
-  room-is : hasRoom g i j n ≡ cond (leb (length (excluded after)) 512) (leb (length after) 64) false
-  unfolding hasRoom roomFor
+  room-is : roomFor i before-points n (min (g .count) 576) j after-points ≡ cond (leb (length (excluded after)) 512) (leb (length after) 64) false
+  unfolding roomFor
   room-is = rw (points-are, transactions-are)
 
-  module _ {r : Bool} (er : r ≡ hasRoom g i j n) where
+  module _ {r : Bool} (er : r ≡ roomFor i before-points n (min (g .count) 576) j after-points) where
     pub enter-full : {t : After} → not r ≡ true → t ≡ kept given (number Refusal.TooManyExclusions) → t ≡ ifFits given after
     unfolding ifFits number
     enter-full h k =
@@ -202,7 +203,6 @@ module _ (m given g : LiveCellsExclusionMap) (hash : Byte32) (tx : List ℕ) {n 
         k ∙ sym (fit-no (leb (length (excluded after)) 512) (leb (length after) 64) (left after) (kept given 15) f)
 
     pub enter-room : not r ≡ false → i + 1 + n + (min (g .count) 576 - j) ≤ 576
-    unfolding hasRoom
     enter-room h = roomy i before-points n (min (g .count) 576) j after-points (sym er ∙ not-false r h)
 
     pub enter-done : (f : LiveCellsExclusionMap) {t : After} → not r ≡ false → rowsOf f ≡ whole → t ≡ left (entriesOf f) → t ≡ ifFits given after

@@ -1,7 +1,7 @@
 -- The ways out of the calls.
-use mathlib.Core.Path.{_≡_, refl, sym, ap, _∙_}
+use mathlib.Core.Path.{_≡_, ap, _∙_}
 use Prim.Native.Nat.{ℕ}
-use mathlib.Core.Bool.{Bool, true, false, cond}
+use mathlib.Core.Bool.{false}
 use mathlib.Core.List.{List, map}
 use borrow.Author.Tests.{eq-eqb, ne-eqb}
 use lib.ListN.{length}
@@ -11,8 +11,8 @@ use Rattle.error.specs.declared.Refusal.{Refusal}
 use Rattle.out_points.specs.OutPoints.{byte32At}
 use Rattle.out_points.specs.declared.Byte32.{Byte32}
 use Rattle.exclusions.specs.declared.{Rule.Rule, LiveCellsExclusionMap.LiveCellsExclusionMap}
-use Rattle.exclusions.specs.Table.{Entry, rowsOf, entries, entriesOf, After, left, kept}
-use Rattle.exclusions.specs.Calls.{filterB, withHash, committedAt, commitCall, isOther, without, removeCall, isRecent, truncated}
+use Rattle.exclusions.specs.Table.{rowsOf, entries, entriesOf, After, left, kept}
+use Rattle.exclusions.specs.Calls.{withHash, committedAt, commitCall, without, removeCall, truncated}
 use Rattle.exclusions.specs.Rows.{marked, keeps, sift}
 use Rattle.exclusions.proofs.EntryLaws.{entries-marked, entries-sift}
 
@@ -42,13 +42,13 @@ module _ (m : LiveCellsExclusionMap) (s : List ℕ) where
 
   pub remove-done : {h : Byte32} (g : LiveCellsExclusionMap) {r : After} → length s ≡ 32 → h ≡ byte32At s 0
       → rowsOf g ≡ sift (Rule.Except h) false (rowsOf m) → r ≡ left (entriesOf g) → r ≡ removeCall m s
-  unfolding removeCall entriesOf without isOther keeps
+  unfolding removeCall entriesOf without keeps
   remove-done {h} g {r} n e k t =
       rw (hash-good m s (λ h. left (without h (entries (rowsOf m)))) n, ← e) (t ∙ ap left (ap entries k ∙ entries-sift (Rule.Except h) (rowsOf m) false))
 
 -- what a rule that leaves one hash out leaves
 pub without-is : (m : LiveCellsExclusionMap) (h : Byte32) (g : LiveCellsExclusionMap) → rowsOf g ≡ sift (Rule.Except h) false (rowsOf m) → entriesOf g ≡ without h (entriesOf m)
-unfolding entriesOf without isOther keeps
+unfolding entriesOf without keeps
 without-is m h g k = ap entries k ∙ entries-sift (Rule.Except h) (rowsOf m) false
 
 pub truncate-done : (m : LiveCellsExclusionMap) (tip : BlockNumber) (g : LiveCellsExclusionMap) → rowsOf g ≡ sift (Rule.Fresh tip) false (rowsOf m)

@@ -1,5 +1,5 @@
 -- What is done to the rows of a map is done to its entries.
-use mathlib.Core.Path.{_≡_, refl, sym, ap, ap₂, _∙_}
+use mathlib.Core.Path.{_≡_, refl, ap, ap₂, _∙_}
 use mathlib.Core.Bool.{Bool, true, false, cond}
 use mathlib.Core.List.{List, [], _∷_, map}
 use mathlib.Core.Option.{none, some}
@@ -9,21 +9,21 @@ use Rattle.out_points.specs.declared.{Byte32.Byte32, OutPoint.OutPoint}
 use Rattle.exclusions.specs.declared.{Row.Row, Slot.Slot, Rule.Rule}
 use Rattle.exclusions.specs.Table.{Entry, looseAt, loose, entriesAt, entries}
 use Rattle.exclusions.specs.Calls.{filterB, committedAt}
-use Rattle.exclusions.specs.Rows.{markedRow, marked, keeps, keepsAs, keepsRow, sift}
+use Rattle.exclusions.specs.Rows.{isOf, marked, keeps, keepsRow, sift}
 
 -- ---- commit
 
 module _ (hash : Byte32) (block : BlockNumber) where
-  loose-one : (x : Slot) (r : Row) → x .row ≡ r → (ps : List OutPoint) → looseAt (markedRow hash block x r .row) ps ≡ looseAt r ps
-  unfolding looseAt markedRow
+  loose-one : (x : Slot) (r : Row) → x .row ≡ r → (ps : List OutPoint) → looseAt (cond (isOf hash r) (record { row = Row.Committed hash block }) x .row) ps ≡ looseAt r ps
+  unfolding looseAt isOf
   loose-one x (Row.Pending h) e ps = by (eqHash h hash)
     where
-      by : (b : Bool) → looseAt (cond b (record { row = Row.Committed h block }) x .row) ps ≡ []
+      by : (b : Bool) → looseAt (cond b (record { row = Row.Committed hash block }) x .row) ps ≡ []
       by true = refl
       by false = rw e
   loose-one x (Row.Committed h c) e ps = by (eqHash h hash)
     where
-      by : (b : Bool) → looseAt (cond b (record { row = Row.Committed h block }) x .row) ps ≡ []
+      by : (b : Bool) → looseAt (cond b (record { row = Row.Committed hash block }) x .row) ps ≡ []
       by true = refl
       by false = rw e
   loose-one x (Row.Input p) e ps = rw e
@@ -34,18 +34,18 @@ module _ (hash : Byte32) (block : BlockNumber) where
   loose-marked (x ∷ l) = loose-one x (x .row) refl (loose (map (marked hash block) l)) ∙ ap (looseAt (x .row)) (loose-marked l)
 
   entry-one : (x : Slot) (r : Row) → x .row ≡ r → (ps : List OutPoint) (es : List Entry)
-      → entriesAt (markedRow hash block x r .row) ps (map (committedAt hash block) es) ≡ map (committedAt hash block) (entriesAt r ps es)
-  unfolding entriesAt markedRow committedAt
+      → entriesAt (cond (isOf hash r) (record { row = Row.Committed hash block }) x .row) ps (map (committedAt hash block) es) ≡ map (committedAt hash block) (entriesAt r ps es)
+  unfolding entriesAt isOf committedAt
   entry-one x (Row.Pending h) e ps es = by (eqHash h hash)
     where
-      by : (b : Bool) → entriesAt (cond b (record { row = Row.Committed h block }) x .row) ps (map (committedAt hash block) es)
-          ≡ cond b (record { hash = h; committed = some block; points = ps }) (record { hash = h; committed = none; points = ps }) ∷ map (committedAt hash block) es
+      by : (b : Bool) → entriesAt (cond b (record { row = Row.Committed hash block }) x .row) ps (map (committedAt hash block) es)
+          ≡ cond b (record { hash = hash; committed = some block; points = ps }) (record { hash = h; committed = none; points = ps }) ∷ map (committedAt hash block) es
       by true = refl
       by false = rw e
   entry-one x (Row.Committed h c) e ps es = by (eqHash h hash)
     where
-      by : (b : Bool) → entriesAt (cond b (record { row = Row.Committed h block }) x .row) ps (map (committedAt hash block) es)
-          ≡ cond b (record { hash = h; committed = some block; points = ps }) (record { hash = h; committed = some c; points = ps }) ∷ map (committedAt hash block) es
+      by : (b : Bool) → entriesAt (cond b (record { row = Row.Committed hash block }) x .row) ps (map (committedAt hash block) es)
+          ≡ cond b (record { hash = hash; committed = some block; points = ps }) (record { hash = h; committed = some c; points = ps }) ∷ map (committedAt hash block) es
       by true = refl
       by false = rw e
   entry-one x (Row.Input p) e ps es = rw e
@@ -54,7 +54,7 @@ module _ (hash : Byte32) (block : BlockNumber) where
   unfolding entries marked
   entries-marked [] = refl
   entries-marked (x ∷ l) =
-      ap₂ (entriesAt (markedRow hash block x (x .row) .row)) (loose-marked l) (entries-marked l) ∙ entry-one x (x .row) refl (loose l) (entries l)
+      ap₂ (entriesAt (cond (isOf hash (x .row)) (record { row = Row.Committed hash block }) x .row)) (loose-marked l) (entries-marked l) ∙ entry-one x (x .row) refl (loose l) (entries l)
 
 -- ---- the entries that a rule keeps
 
@@ -63,7 +63,7 @@ module _ (rule : Rule) where
   kind e = keeps rule (e .hash) (e .committed)
 
   pub loose-sift : (l : List Slot) (above : Bool) → loose (sift rule above l) ≡ cond above (loose l) []
-  unfolding loose sift keepsRow keepsAs looseAt
+  unfolding loose sift keepsRow looseAt
   loose-sift [] true = refl
   loose-sift [] false = refl
   loose-sift (x ∷ l) above = by (loose-sift l true) (loose-sift l false) (x .row) refl above
@@ -76,14 +76,14 @@ module _ (rule : Rule) where
       gone f e false false = f
 
       by : loose (sift rule true l) ≡ loose l → loose (sift rule false l) ≡ [] → (r : Row) → x .row ≡ r → (above : Bool)
-          → loose (cond (keepsAs rule above r) (x ∷ sift rule (keepsAs rule above r) l) (sift rule (keepsAs rule above r) l)) ≡ cond above (looseAt r (loose l)) []
+          → loose (cond (keepsRow rule above r) (x ∷ sift rule (keepsRow rule above r) l) (sift rule (keepsRow rule above r) l)) ≡ cond above (looseAt r (loose l)) []
       by t f (Row.Pending h) e above = gone f (λ ps. rw e) (keeps rule h none) above
       by t f (Row.Committed h b) e above = gone f (λ ps. rw e) (keeps rule h (some b)) above
       by t f (Row.Input p) e true = rw (e, t)
       by t f (Row.Input p) e false = f
 
   pub entries-sift : (l : List Slot) (above : Bool) → entries (sift rule above l) ≡ filterB kind (entries l)
-  unfolding entries sift keepsRow filterB keepsAs entriesAt
+  unfolding entries sift keepsRow filterB entriesAt
   entries-sift [] above = refl
   entries-sift (x ∷ l) above = by (entries-sift l true) (entries-sift l false) (x .row) refl above
     where
@@ -94,7 +94,7 @@ module _ (rule : Rule) where
       one t f e q false = f
 
       by : entries (sift rule true l) ≡ filterB kind (entries l) → entries (sift rule false l) ≡ filterB kind (entries l) → (r : Row) → x .row ≡ r → (above : Bool)
-          → entries (cond (keepsAs rule above r) (x ∷ sift rule (keepsAs rule above r) l) (sift rule (keepsAs rule above r) l)) ≡ filterB kind (entriesAt r (loose l) (entries l))
+          → entries (cond (keepsRow rule above r) (x ∷ sift rule (keepsRow rule above r) l) (sift rule (keepsRow rule above r) l)) ≡ filterB kind (entriesAt r (loose l) (entries l))
       by t f (Row.Pending h) e above = one t f (record { hash = h; committed = none; points = loose l }) (rw e) (keeps rule h none)
       by t f (Row.Committed h b) e above = one t f (record { hash = h; committed = some b; points = loose l }) (rw e) (keeps rule h (some b))
       by t f (Row.Input p) e true = rw (e, t)

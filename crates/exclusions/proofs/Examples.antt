@@ -3,14 +3,12 @@ use mathlib.Core.Path.{_≡_, refl}
 use Prim.Native.Nat.{ℕ, _-_, _^_}
 use mathlib.Core.List.{List, [], _∷_, map}
 use mathlib.Core.Option.{Option, none, some}
-use mathlib.Core.Bool.{true, false, not, cond}
-use lib.Dec.{leb}
 use Rattle.units.specs.Units.{isAtLeast}
 use Rattle.units.specs.declared.BlockNumber.{BlockNumber}
 use Rattle.out_points.specs.OutPoints.{eqHash}
 use Rattle.out_points.specs.declared.Byte32.{Byte32}
 use Rattle.exclusions.specs.Table.{Entry}
-use Rattle.exclusions.specs.Calls.{filterB, committedAt, isOther, without, isRecent, truncated, renew}
+use Rattle.exclusions.specs.Calls.{filterB, committedAt, without, isRecent, truncated, renew}
 
 abbrev hash : ℕ → Byte32
 hash n = record { a = n; b = 0; c = 0; d = 0 }
@@ -49,5 +47,5 @@ unfolding renew eqHash
 again-in-place = refl
 
 pub itself-last : renew (entry 7 none) (without (hash 7) (entry 7 (some (block 1)) ∷ entry 5 none ∷ [])) ≡ entry 5 none ∷ entry 7 none ∷ []
-unfolding renew without isOther filterB eqHash
+unfolding renew without filterB eqHash
 itself-last = refl

@@ -1,9 +1,8 @@
 -- The out points among the rows: counted and written.
 use mathlib.Core.Path.{_≡_, refl, sym, ap, ap₂, _∙_}
-use Prim.Native.Nat.{ℕ, zero, suc, _+_, _-_, _*_, _≤_, _<_, min}
+use Prim.Native.Nat.{ℕ, _+_, _-_, _*_, _≤_, _<_, min}
 use mathlib.Core.Bool.{Bool, true, false, cond}
-use mathlib.Core.List.{List, [], _∷_, _++_, map, append-nil, append-assoc}
-use mathlib.Core.Option.{Option, none, some}
+use mathlib.Core.List.{List, [], _∷_, _++_, append-nil, append-assoc}
 use native.Mathlib.Omega.{arith}
 use native.Mathlib.Nat.{add-zero}
 use borrow.Author.Tests.{le-leb, lt-leb}
@@ -20,25 +19,25 @@ use Rattle.out_points.specs.OutPoints.{pointBytes, bytesOf, pointList}
 use Rattle.out_points.specs.declared.{Byte32.Byte32, OutPoint.OutPoint}
 use Rattle.out_points.proofs.PointLaws.{length-point}
 use Rattle.exclusions.specs.declared.{Row.Row, Slot.Slot, Rule.Rule, LiveCellsExclusionMap.LiveCellsExclusionMap, Answer.Answer}
-use Rattle.exclusions.specs.Table.{Entry, rowsOf, looseAt, loose, entriesAt, entries, entriesOf, Wrote, wrote, unwritten, wroteOf}
+use Rattle.exclusions.specs.Table.{Entry, rowsOf, looseAt, loose, entriesAt, entries, entriesOf, numberOf}
 use Rattle.exclusions.specs.Calls.{filterB, excluded, putFirst, applyCall}
-use Rattle.exclusions.specs.Rows.{keeps, sift, isInputRow, isInput, inputAt, inputs}
+use Rattle.exclusions.specs.Rows.{keeps, sift, isInput, inputs}
 use Rattle.exclusions.proofs.LoopLaws.{take-used, rows-on, rows-end}
 use Rattle.exclusions.proofs.EntryLaws.{loose-sift, entries-sift}
 
 -- ---- is_input, put_row
 
 module _ (x : Slot) where
-  pub input-pending : {h : Byte32} → x .row ≡ Row.Pending h → false ≡ isInput x
-  unfolding isInput isInputRow
+  pub input-pending : {h : Byte32} → x .row ≡ Row.Pending h → false ≡ isInput (x .row)
+  unfolding isInput
   input-pending e = rw e
 
-  pub input-committed : {h : Byte32} {b : BlockNumber} → x .row ≡ Row.Committed h b → false ≡ isInput x
-  unfolding isInput isInputRow
+  pub input-committed : {h : Byte32} {b : BlockNumber} → x .row ≡ Row.Committed h b → false ≡ isInput (x .row)
+  unfolding isInput
   input-committed e = rw e
 
-  pub input-is : {p : OutPoint} → x .row ≡ Row.Input p → true ≡ isInput x
-  unfolding isInput isInputRow
+  pub input-is : {p : OutPoint} → x .row ≡ Row.Input p → true ≡ isInput (x .row)
+  unfolding isInput
   input-is e = rw e
 
 put-nothing : (out : List ℕ) (at : ℕ) → out ≡ putAt out at []
@@ -58,47 +57,47 @@ end-nothing out at = by (leb (at + 0) (length out))
     by false = refl
 
 module _ (out : List ℕ) (at : ℕ) (x : Slot) where
-  pub put-pending : {h : Byte32} → x .row ≡ Row.Pending h → out ≡ putAt out at (bytesOf (inputAt (x .row) []))
-  unfolding inputAt bytesOf
+  pub put-pending : {h : Byte32} → x .row ≡ Row.Pending h → out ≡ putAt out at (bytesOf (looseAt (x .row) []))
+  unfolding looseAt bytesOf
   put-pending e = rw e (put-nothing out at)
 
-  pub end-pending : {h : Byte32} → x .row ≡ Row.Pending h → at ≡ putEnd out at (bytesOf (inputAt (x .row) []))
-  unfolding inputAt bytesOf
+  pub end-pending : {h : Byte32} → x .row ≡ Row.Pending h → at ≡ putEnd out at (bytesOf (looseAt (x .row) []))
+  unfolding looseAt bytesOf
   end-pending e = rw e (end-nothing out at)
 
-  pub put-committed : {h : Byte32} {b : BlockNumber} → x .row ≡ Row.Committed h b → out ≡ putAt out at (bytesOf (inputAt (x .row) []))
-  unfolding inputAt bytesOf
+  pub put-committed : {h : Byte32} {b : BlockNumber} → x .row ≡ Row.Committed h b → out ≡ putAt out at (bytesOf (looseAt (x .row) []))
+  unfolding looseAt bytesOf
   put-committed e = rw e (put-nothing out at)
 
-  pub end-committed : {h : Byte32} {b : BlockNumber} → x .row ≡ Row.Committed h b → at ≡ putEnd out at (bytesOf (inputAt (x .row) []))
-  unfolding inputAt bytesOf
+  pub end-committed : {h : Byte32} {b : BlockNumber} → x .row ≡ Row.Committed h b → at ≡ putEnd out at (bytesOf (looseAt (x .row) []))
+  unfolding looseAt bytesOf
   end-committed e = rw e (end-nothing out at)
 
-  pub put-input : {p : OutPoint} {after : List ℕ} → x .row ≡ Row.Input p → after ≡ putAt out at (pointBytes p) → after ≡ putAt out at (bytesOf (inputAt (x .row) []))
-  unfolding inputAt bytesOf
+  pub put-input : {p : OutPoint} {after : List ℕ} → x .row ≡ Row.Input p → after ≡ putAt out at (pointBytes p) → after ≡ putAt out at (bytesOf (looseAt (x .row) []))
+  unfolding looseAt bytesOf
   put-input {p} e h = h ∙ rw (e, append-nil)
 
-  pub end-input : {p : OutPoint} {r : ℕ} → x .row ≡ Row.Input p → r ≡ putEnd out at (pointBytes p) → r ≡ putEnd out at (bytesOf (inputAt (x .row) []))
-  unfolding inputAt bytesOf
+  pub end-input : {p : OutPoint} {r : ℕ} → x .row ≡ Row.Input p → r ≡ putEnd out at (pointBytes p) → r ≡ putEnd out at (bytesOf (looseAt (x .row) []))
+  unfolding looseAt bytesOf
   end-input {p} e h = h ∙ rw (e, append-nil)
 
 -- ---- counted
 
-module _ (x : Slot) (l : List Slot) {r : Bool} (e : r ≡ isInput x) where
+module _ (x : Slot) (l : List Slot) {r : Bool} (e : r ≡ isInput (x .row)) where
   input-one : r ≡ true → length (inputs (x ∷ l)) ≡ 1 + length (inputs l)
-  unfolding isInput inputs isInputRow inputAt
+  unfolding isInput inputs loose looseAt entries entriesAt excluded
   input-one t = by (x .row) (sym e ∙ t)
     where
-      by : (r : Row) → isInputRow r ≡ true → length (inputAt r (inputs l)) ≡ 1 + length (inputs l)
+      by : (r : Row) → isInput r ≡ true → length (looseAt r (loose l) ++ excluded (entriesAt r (loose l) (entries l))) ≡ 1 + length (inputs l)
       by (Row.Pending h) e = cc
       by (Row.Committed h b) e = cc
       by (Row.Input p) e = omega arith
 
   input-none : r ≡ false → length (inputs (x ∷ l)) ≡ length (inputs l)
-  unfolding isInput inputs isInputRow inputAt
+  unfolding isInput inputs loose looseAt entries entriesAt excluded
   input-none t = by (x .row) (sym e ∙ t)
     where
-      by : (r : Row) → isInputRow r ≡ false → length (inputAt r (inputs l)) ≡ length (inputs l)
+      by : (r : Row) → isInput r ≡ false → length (looseAt r (loose l) ++ excluded (entriesAt r (loose l) (entries l))) ≡ length (inputs l)
       by (Row.Pending h) e = refl
       by (Row.Committed h b) e = refl
       by (Row.Input p) e = cc
@@ -115,7 +114,7 @@ count-start l from to {n} e k =
     record { below = omega arith; within = omega arith; fits = omega arith; source = e; rest = rw (take-used l n to e k) (omega arith) }
 
 module _ {l : List Slot} {n c i R : ℕ} (k : Counting l n c i R) where
-  module _ (d : Slot) {r : Bool} (h : i < n) (e : r ≡ isInput (getD l i d)) where
+  module _ (d : Slot) {r : Bool} (h : i < n) (e : r ≡ isInput (getD l i d .row)) where
     here : drop i (take n l) ≡ getD l i d ∷ drop (i + 1) (take n l)
     here = rows-on l n i d (omega (arith, k .source, k .fits)) h
 
@@ -132,7 +131,7 @@ module _ {l : List Slot} {n c i R : ℕ} (k : Counting l n c i R) where
         record { below = omega (arith, k .below); within = k .within; fits = k .fits; source = k .source; rest = omega (arith, same, was) }
 
   pub count-end : n ≤ i → c ≡ R
-  unfolding inputs
+  unfolding inputs loose entries excluded
   count-end h =
       let z : length (inputs (drop i (take n l))) ≡ 0 = rw (rows-end l n i (omega (arith, k .source, k .fits)) h) in
       omega (arith, z, k .rest)
@@ -159,11 +158,11 @@ putting-end {whole} {out₀} {rest} {out} {at₀} {at} p e =
     let w : p .done ≡ whole = sym (append-nil (p .done)) ∙ (ap (λ (t : List ℕ). p .done ++ t) (sym e) ∙ p .all) in
     p .put .bytes ∙ ap (splice out₀ at₀) w
 
-bytes-one : (x : Slot) (l : List Slot) → bytesOf (inputs (x ∷ l)) ≡ bytesOf (inputAt (x .row) []) ++ bytesOf (inputs l)
-unfolding inputs inputAt bytesOf
+bytes-one : (x : Slot) (l : List Slot) → bytesOf (inputs (x ∷ l)) ≡ bytesOf (looseAt (x .row) []) ++ bytesOf (inputs l)
+unfolding inputs loose looseAt entries entriesAt excluded bytesOf
 bytes-one x l = by (x .row)
   where
-    by : (r : Row) → bytesOf (inputAt r (inputs l)) ≡ bytesOf (inputAt r []) ++ bytesOf (inputs l)
+    by : (r : Row) → bytesOf (looseAt r (loose l) ++ excluded (entriesAt r (loose l) (entries l))) ≡ bytesOf (looseAt r []) ++ bytesOf (loose l ++ excluded (entries l))
     by (Row.Pending h) = refl
     by (Row.Committed h b) = refl
     by (Row.Input p) = rw append-nil
@@ -188,31 +187,21 @@ write-none out at l count {n} h e k =
     }
 
 module _ {out₀ : List ℕ} {at₀ : ℕ} {l : List Slot} {n : ℕ} {out : List ℕ} {at i : ℕ} (w : Writing out₀ at₀ l n out at i) where
-  pub write-more : (d : Slot) {after : List ℕ} {next : ℕ} → i < n → after ≡ putAt out at (bytesOf (inputAt (getD l i d .row) []))
-      → next ≡ putEnd out at (bytesOf (inputAt (getD l i d .row) [])) → Writing out₀ at₀ l n after next (i + 1)
+  pub write-more : (d : Slot) {after : List ℕ} {next : ℕ} → i < n → after ≡ putAt out at (bytesOf (looseAt (getD l i d .row) []))
+      → next ≡ putEnd out at (bytesOf (looseAt (getD l i d .row) [])) → Writing out₀ at₀ l n after next (i + 1)
   write-more d h e f =
-      let here : bytesOf (inputs (drop i (take n l))) ≡ bytesOf (inputAt (getD l i d .row) []) ++ bytesOf (inputs (drop (i + 1) (take n l)))
+      let here : bytesOf (inputs (drop i (take n l))) ≡ bytesOf (looseAt (getD l i d .row) []) ++ bytesOf (inputs (drop (i + 1) (take n l)))
       = rw (rows-on l n i d (omega (arith, w .source, w .fits)) h) (bytes-one (getD l i d) (drop (i + 1) (take n l))) in
-      let p = putting-next (bytesOf (inputAt (getD l i d .row) [])) (rw here at (w .putting)) e f in
+      let p = putting-next (bytesOf (looseAt (getD l i d .row) [])) (rw here at (w .putting)) e f in
       record { within = omega arith; fits = w .fits; source = w .source; long = length-kept (p .put); putting = p }
 
   pub write-end : (count : ℕ) → n ≤ i → n ≡ min count 576 → out ≡ splice out₀ at₀ (bytesOf (inputs (take count l)))
-  unfolding inputs bytesOf
+  unfolding inputs loose entries excluded bytesOf
   write-end count h k =
       let z : bytesOf (inputs (drop i (take n l))) ≡ [] = rw (rows-end l n i (omega (arith, w .source, w .fits)) h) in
       putting-end (w .putting) z ∙ ap (λ (t : List Slot). splice out₀ at₀ (bytesOf (inputs t))) (take-used l n count (w .source) k)
 
 -- ---- apply
-
-pub inputs-split : (l : List Slot) → inputs l ≡ loose l ++ excluded (entries l)
-unfolding inputs inputAt loose looseAt entries entriesAt excluded
-inputs-split [] = refl
-inputs-split (x ∷ l) = by (inputs-split l) (x .row)
-  where
-    by : inputs l ≡ loose l ++ excluded (entries l) → (r : Row) → inputAt r (inputs l) ≡ looseAt r (loose l) ++ excluded (entriesAt r (loose l) (entries l))
-    by e (Row.Pending h) = e
-    by e (Row.Committed h b) = e
-    by e (Row.Input p) = ap (λ (t : List OutPoint). p ∷ t) e
 
 all-kept : (l : List Entry) → filterB (λ e. keeps Rule.All (e .hash) (e .committed)) l ≡ l
 unfolding filterB keeps
@@ -229,7 +218,8 @@ module _ (m g : LiveCellsExclusionMap) (e : rowsOf g ≡ sift Rule.All false (ro
   tidy-loose = ap loose e ∙ loose-sift Rule.All (rowsOf m) false
 
   pub tidy-inputs : inputs (rowsOf g) ≡ excluded (entriesOf m)
-  tidy-inputs = inputs-split (rowsOf g) ∙ rw (tidy-loose, tidy-entries)
+  unfolding inputs
+  tidy-inputs = ap₂ (λ (ps : List OutPoint) (es : List Entry). ps ++ excluded es) tidy-loose tidy-entries
 
 pub length-bytes : (ps : List OutPoint) → length (bytesOf ps) ≡ 36 * length ps
 unfolding bytesOf
@@ -253,8 +243,8 @@ module _ (m : LiveCellsExclusionMap) (out : List ℕ) (g : LiveCellsExclusionMap
   unfolding pointList
   listed = ap₂ (λ (k : ℕ) (ps : List OutPoint). toLe 4 k ++ bytesOf ps) counted (tidy-inputs m g e)
 
-  pub apply-short : length out < 4 + 36 * n → wroteOf (Answer.Refused Refusal.BufferTooShort) out ≡ applyCall m out
-  unfolding wroteOf applyCall putFirst number
+  pub apply-short : length out < 4 + 36 * n → _≡_ {A = ℕ × List ℕ} (numberOf (Answer.Refused Refusal.BufferTooShort), out) (applyCall m out)
+  unfolding numberOf applyCall putFirst number
   apply-short h =
       let k : length out < length (pointList (excluded (entriesOf m))) = rw (length-list, ← counted) h in
       rw (lt-leb (length (pointList (excluded (entriesOf m)))) (length out) k)
@@ -271,12 +261,12 @@ module _ (m : LiveCellsExclusionMap) (out : List ℕ) (g : LiveCellsExclusionMap
         let k : length (bytesOf (inputs (rowsOf g))) ≡ 36 * n = length-bytes (inputs (rowsOf g)) ∙ ap (λ (j : ℕ). 36 * j) (sym c) in
         omega (arith, a, b, l, k, h)
 
-    pub apply-done : {o₂ : List ℕ} → o₂ ≡ splice o₁ at (bytesOf (inputs (rowsOf g))) → wroteOf Answer.Done o₂ ≡ applyCall m out
-    unfolding wroteOf applyCall putFirst
+    pub apply-done : {o₂ : List ℕ} → o₂ ≡ splice o₁ at (bytesOf (inputs (rowsOf g))) → _≡_ {A = ℕ × List ℕ} (numberOf Answer.Done, o₂) (applyCall m out)
+    unfolding numberOf applyCall putFirst
     apply-done {o₂} r =
         let rest : Put o₁ at (bytesOf (inputs (rowsOf g))) o₂ (at + length (bytesOf (inputs (rowsOf g)))) = record { bytes = r; end = refl; room = apply-room } in
         let both = then first rest in
         let xs : toLe 4 n ++ bytesOf (inputs (rowsOf g)) ≡ pointList (excluded (entriesOf m)) = listed in
         let k : length (pointList (excluded (entriesOf m))) ≤ length out = rw (length-list, ← counted) h in
         rw (le-leb (length (pointList (excluded (entriesOf m)))) (length out) k)
-        (ap wrote (both .bytes ∙ (ap (splice out 0) xs ∙ splice-zero out (pointList (excluded (entriesOf m))))))
+        (ap (λ (t : List ℕ). (0, t)) (both .bytes ∙ (ap (splice out 0) xs ∙ splice-zero out (pointList (excluded (entriesOf m))))))

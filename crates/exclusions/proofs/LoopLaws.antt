@@ -1,7 +1,7 @@
 -- What the loops over a map's rows know: what was written, and what is still to come, make the whole. One law for each way out of a turn.
 use mathlib.Core.Path.{_≡_, refl, sym, ap, _∙_}
 use Prim.Native.Nat.{ℕ, zero, suc, _+_, _-_, _≤_, _<_, min}
-use mathlib.Core.Bool.{Bool, true, false, cond}
+use mathlib.Core.Bool.{Bool, true, false}
 use mathlib.Core.List.{List, [], _∷_, _++_, map, append-nil}
 use native.Mathlib.Omega.{arith}
 use native.Mathlib.Numerals.{add-one}
@@ -91,11 +91,11 @@ pub sift-none : (rule : Rule) (l : List Slot) (count : ℕ) {n : ℕ} → length
 sift-none rule l count {n} e k = record { within = omega arith; below = omega arith; fits = omega arith; source = e; building = record { long = e; built = refl } }
 
 module _ {rule : Rule} {l g : List Slot} {n to i : ℕ} {above : Bool} (m : Sifting rule l n g to above i) where
-  module _ (d : Slot) {r : Bool} (h : i < n) (e : r ≡ keepsRow rule above (getD l i d)) where
+  module _ (d : Slot) {r : Bool} (h : i < n) (e : r ≡ keepsRow rule above (getD l i d .row)) where
     pub sift-keep : r ≡ true → Sifting rule l n (set g to (getD l i d)) (to + 1) r (i + 1)
     unfolding sift
     sift-keep t =
-        let k : keepsRow rule above (getD l i d) ≡ true = sym e ∙ t in
+        let k : keepsRow rule above (getD l i d .row) ≡ true = sym e ∙ t in
         let rest : sift rule above (drop i (take n l)) ≡ getD l i d ∷ sift rule r (drop (i + 1) (take n l)) = rw (rows-on l n i d (omega (arith, m .source, m .fits)) h, k, t) in
         record {
           within = omega arith;
@@ -108,7 +108,7 @@ module _ {rule : Rule} {l g : List Slot} {n to i : ℕ} {above : Bool} (m : Sift
     pub sift-drop : r ≡ false → Sifting rule l n g to r (i + 1)
     unfolding sift
     sift-drop t =
-        let k : keepsRow rule above (getD l i d) ≡ false = sym e ∙ t in
+        let k : keepsRow rule above (getD l i d .row) ≡ false = sym e ∙ t in
         let rest : sift rule above (drop i (take n l)) ≡ sift rule r (drop (i + 1) (take n l)) = rw (rows-on l n i d (omega (arith, m .source, m .fits)) h, k, t) in
         record { within = omega arith; below = omega (arith, m .below); fits = m .fits; source = m .source; building = rw rest at (m .building) }
 

@@ -1,22 +1,22 @@
 -- The ways out of `new`, `is_entered` and `migrate_funding_tx`.
 use mathlib.Core.Path.{_≡_, refl, sym, ap, ap₂, _∙_}
-use Prim.Native.Nat.{ℕ, zero, suc, _+_, _-_, _≤_, _<_, min}
+use Prim.Native.Nat.{ℕ, suc, _-_, min}
 use mathlib.Core.Bool.{Bool, true, false, not, cond}
 use mathlib.Core.List.{List, [], _∷_}
 use native.Mathlib.Omega.{arith}
 use borrow.Author.Tests.{not-true, not-false, eq-eqb, ne-eqb, lt-ltb, le-ltb, ltb-true, ltb-false}
-use lib.Dec.{ltb, eqb}
-use lib.ListN.{length, take, length-take}
+use lib.Dec.{ltb}
+use lib.ListN.{length, length-take}
 use Rattle.molecule.specs.Molecule.{readable, option}
 use Rattle.transaction.specs.Ckb.{Transaction}
 use Rattle.error.specs.Refusal.{number}
 use Rattle.error.specs.declared.Refusal.{Refusal}
 use Rattle.out_points.specs.OutPoints.{eqHash, byte32At}
-use Rattle.out_points.specs.declared.{Byte32.Byte32, OutPoint.OutPoint}
+use Rattle.out_points.specs.declared.{Byte32.Byte32}
 use Rattle.exclusions.specs.declared.{Row.Row, Slot.Slot, Rule.Rule, LiveCellsExclusionMap.LiveCellsExclusionMap}
 use Rattle.exclusions.specs.Table.{Entry, rowsOf, loose, entriesAt, entries, entriesOf, After, left, kept}
-use Rattle.exclusions.specs.Calls.{pending, renew, ifFits, withHash, withTx, ifTx, without, entered, migrateCall}
-use Rattle.exclusions.specs.Rows.{sift, isOfRow, isOf, placeOf}
+use Rattle.exclusions.specs.Calls.{pending, renew, ifFits, withHash, ifTx, without, entered, migrateCall}
+use Rattle.exclusions.specs.Rows.{sift, isOf, placeOf}
 use Rattle.exclusions.proofs.CallLaws.{hash-bad, hash-good, without-is}
 use Rattle.exclusions.proofs.AddLaws.{tx-bad, tx-good}
 
@@ -34,7 +34,7 @@ below a b = by (ltb a b) refl
     by false e = let h = ltb-false a b e in le-ltb (suc a) (suc b) (omega (arith, h)) ∙ sym e
 
 entered-at : (hash : Byte32) (l : List Slot) → ltb (placeOf hash l) (length l) ≡ entered hash (entries l)
-unfolding placeOf isOf isOfRow entries entriesAt entered
+unfolding placeOf isOf entries entriesAt entered
 entered-at hash [] = le-ltb 0 0 (omega arith)
 entered-at hash (x ∷ l) = by (entered-at hash l) (x .row)
   where
@@ -43,7 +43,7 @@ entered-at hash (x ∷ l) = by (entered-at hash l) (x .row)
     head false h = below (placeOf hash l) (length l) ∙ h
 
     by : ltb (placeOf hash l) (length l) ≡ entered hash (entries l) → (r : Row)
-        → ltb (cond (isOfRow hash r) 0 (suc (placeOf hash l))) (suc (length l)) ≡ entered hash (entriesAt r (loose l) (entries l))
+        → ltb (cond (isOf hash r) 0 (suc (placeOf hash l))) (suc (length l)) ≡ entered hash (entriesAt r (loose l) (entries l))
     by h (Row.Pending a) = head (eqHash a hash) h
     by h (Row.Committed a b) = head (eqHash a hash) h
     by h (Row.Input p) = below (placeOf hash l) (length l) ∙ h

@@ -13,7 +13,7 @@ use Rattle.transaction.specs.Ckb.{Transaction}
 use Rattle.transaction.specs.Tx.{txAt, previousOutputOf}
 use Rattle.out_points.specs.declared.{Byte32.Byte32, OutPoint.OutPoint}
 use Rattle.exclusions.specs.declared.LiveCellsExclusionMap.{LiveCellsExclusionMap}
-use Rattle.exclusions.specs.Table.{Entry, entriesOf, After, left, kept, Wrote, wrote, unwritten}
+use Rattle.exclusions.specs.Table.{Entry, entriesOf, After, left, kept}
 
 -- the elements of the kind f, in order
 unfoldable pub filterB : {A : Type 0} → (A → Bool) → List A → List A
@@ -27,18 +27,15 @@ withHash m s f = cond (eqb (length s) 32) (f (byte32At s 0)) (kept m 3)
 -- ---- commit: the entry of the hash gets the block; an unknown hash changes nothing
 
 unfoldable pub committedAt : Byte32 → BlockNumber → Entry → Entry
-committedAt hash block e = cond (eqHash (e .hash) hash) (record { hash = e .hash; committed = some block; points = e .points }) e
+committedAt hash block e = cond (eqHash (e .hash) hash) (record { hash = hash; committed = some block; points = e .points }) e
 
 unfoldable pub commitCall : LiveCellsExclusionMap → List ℕ → BlockNumber → After
 commitCall m hash block = withHash m hash (λ h. left (map (committedAt h block) (entriesOf m)))
 
 -- ---- remove: the entry of the hash goes
 
-unfoldable pub isOther : Byte32 → Entry → Bool
-isOther hash e = not (eqHash (e .hash) hash)
-
 unfoldable pub without : Byte32 → List Entry → List Entry
-without hash l = filterB (isOther hash) l
+without hash l = filterB (λ e. not (eqHash (e .hash) hash)) l
 
 unfoldable pub removeCall : LiveCellsExclusionMap → List ℕ → After
 removeCall m hash = withHash m hash (λ h. left (without h (entriesOf m)))
@@ -58,10 +55,11 @@ unfoldable pub excluded : List Entry → List OutPoint
 excluded [] = []
 excluded (e ∷ l) = e .points ++ excluded l
 
-unfoldable pub putFirst : List ℕ → List ℕ → Wrote
-putFirst xs out = cond (leb (length xs) (length out)) (wrote (xs ++ drop (length xs) out)) (unwritten 13 out)
+-- the answer's number and the buffer
+unfoldable pub putFirst : List ℕ → List ℕ → ℕ × List ℕ
+putFirst xs out = cond (leb (length xs) (length out)) (0, xs ++ drop (length xs) out) (13, out)
 
-unfoldable pub applyCall : LiveCellsExclusionMap → List ℕ → Wrote
+unfoldable pub applyCall : LiveCellsExclusionMap → List ℕ → ℕ × List ℕ
 applyCall m out = putFirst (pointList (excluded (entriesOf m))) out
 
 -- ---- add: an entry with this hash is replaced in its place, uncommitted; a new one goes last; no transaction adds nothing

@@ -6,7 +6,7 @@ use lib.ListN.{take}
 use Rattle.error.specs.Refusal.{number}
 use Rattle.units.specs.declared.BlockNumber.{BlockNumber}
 use Rattle.out_points.specs.declared.{Byte32.Byte32, OutPoint.OutPoint}
-use Rattle.exclusions.specs.declared.{Row.Row, Slot.Slot, LiveCellsExclusionMap.LiveCellsExclusionMap, Answer.Answer, Excluded.Excluded}
+use Rattle.exclusions.specs.declared.{Row.Row, Slot.Slot, LiveCellsExclusionMap.LiveCellsExclusionMap, Answer.Answer}
 
 pub record Entry : Type 0 where
   pub hash : Byte32
@@ -44,18 +44,11 @@ pub data After : Type 0 where
   left : List Entry → After
   kept : LiveCellsExclusionMap → ℕ → After
 
-unfoldable pub toldOf : LiveCellsExclusionMap → Answer → After
-toldOf m Answer.Done = left (entriesOf m)
-toldOf m (Answer.Refused e) = kept m (number e)
+unfoldable pub told : LiveCellsExclusionMap → Answer → After
+told m Answer.Done = left (entriesOf m)
+told m (Answer.Refused e) = kept m (number e)
 
-unfoldable pub told : Excluded → After
-told r = toldOf (r .map) (r .answer)
-
--- what a call that writes leaves: the buffer, and a refusal's number
-pub data Wrote : Type 0 where
-  wrote : List ℕ → Wrote
-  unwritten : ℕ → List ℕ → Wrote
-
-unfoldable pub wroteOf : Answer → List ℕ → Wrote
-wroteOf Answer.Done out = wrote out
-wroteOf (Answer.Refused e) out = unwritten (number e) out
+-- an answer's number: 0 where it is done
+unfoldable pub numberOf : Answer → ℕ
+numberOf Answer.Done = 0
+numberOf (Answer.Refused e) = number e

@@ -6,31 +6,31 @@ use out_points::OutPoint;
 use transaction::fields;
 use units::BlockNumber;
 ghost use mathlib.Core.Path.{_≡_};
+ghost use mathlib.Core.Bool.{true, false};
 ghost use mathlib.Core.List.{[], _∷_, _++_, map};
+ghost use mathlib.Core.Option.{none, some};
 ghost use Prim.Native.Nat.{_+_, _-_, _<_, _≤_, min};
 ghost use lib.ListN.{length, take, drop};
-ghost use mathlib.Core.Bool.{true, false};
-ghost use mathlib.Core.Option.{none, some};
 ghost use Rattle.error.specs.Refusal.{number};
-ghost use Rattle.exclusions.specs.Table.{rowsOf, entriesOf, After, left, kept, told, wroteOf};
-ghost use Rattle.exclusions.specs.Rows.{keeps, keepsRow, sift, marked, isInput, inputAt, inputs, isOf, placeOf, run, spentRow, spentRows, hasRoom};
-ghost use Rattle.exclusions.specs.declared.Row.{Row};
 ghost use Rattle.molecule.specs.Layout.{fixCount, fixItem};
-ghost use Rattle.transaction.specs.Tx.{rawField};
-ghost use Rattle.exclusions.specs.Calls.{commitCall, removeCall, truncated, applyCall, pending, renew, ifFits, addCall, entered, migrateCall};
 ghost use Rattle.molecule.specs.Write.{splice, putAt, putEnd};
-ghost use Rattle.out_points.specs.OutPoints.{bytesOf};
+ghost use Rattle.transaction.specs.Tx.{rawField, previousOutputOf};
+ghost use Rattle.out_points.specs.OutPoints.{outPointAt, bytesOf};
+ghost use Rattle.exclusions.specs.declared.Row.{Row};
+ghost use Rattle.exclusions.specs.Table.{rowsOf, looseAt, loose, entriesOf, left, kept, told, numberOf};
+ghost use Rattle.exclusions.specs.Calls.{commitCall, removeCall, truncated, applyCall, pending, renew, ifFits, addCall, entered, migrateCall};
+ghost use Rattle.exclusions.specs.Rows.{keeps, keepsRow, sift, marked, isInput, inputs, isOf, placeOf, inputRow, spentRows, roomFor};
 
 // Number of blocks to keep the committed funding tx in the exclusion map.
 // It is the same with the value used in the CKB SDK.
 const KEEP_BLOCK_PERIOD: u64 = 13;
 
-// The most rows that a table has: 64 transactions and 512 out points.
-const MOST_ROWS: usize = 576;
-
 const MOST_TRANSACTIONS: usize = 64;
 
 const MOST_OUT_POINTS: usize = 512;
+
+// A row for each of them: one array, so that an entry and its out points are dropped or replaced in one pass.
+const MOST_ROWS: usize = 576;
 
 // A transaction, or an out point that the nearest transaction above it spends.
 pub enum Row {
@@ -44,7 +44,7 @@ pub struct Slot {
     pub row: Row,
 }
 
-// The first `count` rows count, as far as the array holds them; out points above the first transaction belong to none.
+// The rows are the first `count`, as far as the array holds them. Out points above the first transaction belong to none.
 pub struct LiveCellsExclusionMap {
     pub rows: [Slot; 576],
     pub count: usize,
@@ -62,14 +62,14 @@ pub struct Excluded {
 }
 
 fn done(m: LiveCellsExclusionMap) -> Excluded
-    ensures { λ r. ⌜ told r ≡ left (entriesOf m) ⌝ }
+    ensures { λ r. ⌜ told (r .map) (r .answer) ≡ left (entriesOf m) ⌝ }
 {
     let answer = Answer::Done;
     Excluded { map: m, answer }
 }
 
 fn refused(m: LiveCellsExclusionMap, e: Refusal) -> Excluded
-    ensures { λ r. ⌜ told r ≡ kept m (number e) ⌝ }
+    ensures { λ r. ⌜ told (r .map) (r .answer) ≡ kept m (number e) ⌝ }
 {
     let answer = Answer::Refused(e);
     Excluded { map: m, answer }
@@ -94,32 +94,8 @@ fn less(a: usize, b: usize) -> usize
 
 // ---- one row
 
-// The row, and the transaction's row with its block if it is `hash`.
-fn mark_row(x: Slot, hash: Byte32, block: BlockNumber) -> Slot
-    ensures { λ r. ⌜ r ≡ marked hash block x ⌝ }
-{
-    let row = x.row;
-    match row {
-        Row::Pending(h) => {
-            if out_points::same_hash(h, hash) {
-                let row = Row::Committed(h, block);
-                return Slot { row };
-            }
-            x
-        }
-        Row::Committed(h, _) => {
-            if out_points::same_hash(h, hash) {
-                let row = Row::Committed(h, block);
-                return Slot { row };
-            }
-            x
-        }
-        Row::Input(_) => x,
-    }
-}
-
 // Which transactions a table is to keep.
-pub enum Rule {
+enum Rule {
     All,
     // All but this one.
     Except(Byte32),
@@ -149,7 +125,7 @@ fn keeps_committed(rule: Rule, hash: Byte32, block: BlockNumber) -> bool
 
 // Whether the row stays: an out point does if the transaction above it does.
 fn keeps_row(rule: Rule, above: bool, x: Slot) -> bool
-    ensures { λ r. ⌜ r ≡ keepsRow rule above x ⌝ }
+    ensures { λ r. ⌜ r ≡ keepsRow rule above (x .row) ⌝ }
 {
     let row = x.row;
     match row {
@@ -161,7 +137,7 @@ fn keeps_row(rule: Rule, above: bool, x: Slot) -> bool
 
 // Whether the row is an out point.
 fn is_input(x: Slot) -> bool
-    ensures { λ r. ⌜ r ≡ isInput x ⌝ }
+    ensures { λ r. ⌜ r ≡ isInput (x .row) ⌝ }
 {
     let row = x.row;
     match row {
@@ -173,7 +149,7 @@ fn is_input(x: Slot) -> bool
 
 // Whether the row is the transaction `hash`.
 fn is_of(x: Slot, hash: Byte32) -> bool
-    ensures { λ r. ⌜ r ≡ isOf hash x ⌝ }
+    ensures { λ r. ⌜ r ≡ isOf hash (x .row) ⌝ }
 {
     let row = x.row;
     match row {
@@ -183,9 +159,20 @@ fn is_of(x: Slot, hash: Byte32) -> bool
     }
 }
 
+// The row, and the transaction's row with its block if it is `hash`.
+fn mark_row(x: Slot, hash: Byte32, block: BlockNumber) -> Slot
+    ensures { λ r. ⌜ r ≡ marked hash block x ⌝ }
+{
+    if is_of(x, hash) {
+        let row = Row::Committed(hash, block);
+        return Slot { row };
+    }
+    x
+}
+
 // The out point that an input of the transaction spends, as a row.
 fn input_row(tx: &[u8], k: usize) -> Slot
-    ensures { λ r. ⌜ r ≡ spentRow (fixItem (rawField (now (tx .entry)) 3) 44 k) ⌝ }
+    ensures { λ r. ⌜ r ≡ inputRow (outPointAt (previousOutputOf (fixItem (rawField (now (tx .entry)) 3) 44 k)) 0) ⌝ }
 {
     let input = fields::input(tx, k);
     let bytes = fields::previous_output(input);
@@ -196,8 +183,8 @@ fn input_row(tx: &[u8], k: usize) -> Slot
 
 // Puts the row's out point at `at`, if it is one.
 fn put_row(out: &mut [u8], at: usize, x: Slot) -> usize
-    ensures { λ _. ⌜ now (out .exit) ≡ putAt (now (out .entry)) at (bytesOf (inputAt (x .row) [])) ⌝ }
-    ensures { λ r. ⌜ r ≡ putEnd (now (out .entry)) at (bytesOf (inputAt (x .row) [])) ⌝ }
+    ensures { λ _. ⌜ now (out .exit) ≡ putAt (now (out .entry)) at (bytesOf (looseAt (x .row) [])) ⌝ }
+    ensures { λ r. ⌜ r ≡ putEnd (now (out .entry)) at (bytesOf (looseAt (x .row) [])) ⌝ }
 {
     let row = x.row;
     match row {
@@ -285,7 +272,7 @@ fn place_of(m: LiveCellsExclusionMap, hash: Byte32) -> usize
 
 // The place after the out points that stand from `from` on.
 fn skip_inputs(m: LiveCellsExclusionMap, from: usize) -> usize
-    ensures { λ r. ⌜ r ≡ from + run (drop from (rowsOf m)) ⌝ }
+    ensures { λ r. ⌜ r ≡ from + length (loose (drop from (rowsOf m))) ⌝ }
 {
     let n = used(m.count);
     let mut i = from;
@@ -383,7 +370,7 @@ fn put_inputs(out: &mut [u8], at: usize, m: LiveCellsExclusionMap)
 // Whether at most 64 transactions and 512 out points are left where a transaction with n out points takes the place of the rows from i up to j.
 fn has_room(m: LiveCellsExclusionMap, i: usize, j: usize, n: u32) -> bool
     requires { ⌜ i ≤ 576 ⌝ }
-    ensures { λ r. ⌜ r ≡ hasRoom m i j n ⌝ }
+    ensures { λ r. ⌜ r ≡ roomFor i (length (inputs (drop 0 (take i (m .rows))))) n (min (m .count) 576) j (length (inputs (drop j (rowsOf m)))) ⌝ }
 {
     let before = count_inputs(m, 0, i);
     let after = count_inputs(m, j, m.count);
@@ -422,8 +409,9 @@ fn enter(
     hash: Byte32,
     tx: &[u8],
 ) -> Excluded
-    ensures { λ r. ⌜ told r ≡ ifFits given (renew (pending hash (now (tx .entry))) (entriesOf m)) ⌝ }
+    ensures { λ r. ⌜ told (r .map) (r .answer) ≡ ifFits given (renew (pending hash (now (tx .entry))) (entriesOf m)) ⌝ }
 {
+    // Out points that belong to no transaction go first, so that they are not counted.
     let rule = Rule::All;
     let g = keep(m, rule);
     let n = fields::input_count(tx);
@@ -465,7 +453,7 @@ pub fn new() -> LiveCellsExclusionMap
 
 // The transaction with this hash is committed in this block.
 pub fn commit(m: LiveCellsExclusionMap, hash: &[u8], block: BlockNumber) -> Excluded
-    ensures { λ r. ⌜ told r ≡ commitCall m (now (hash .entry)) block ⌝ }
+    ensures { λ r. ⌜ told (r .map) (r .answer) ≡ commitCall m (now (hash .entry)) block ⌝ }
 {
     if hash.len() != 32 {
         return refused(m, Refusal::LentBytesUnreadable);
@@ -477,7 +465,7 @@ pub fn commit(m: LiveCellsExclusionMap, hash: &[u8], block: BlockNumber) -> Excl
 
 // The table without the transaction of this hash.
 pub fn remove(m: LiveCellsExclusionMap, hash: &[u8]) -> Excluded
-    ensures { λ r. ⌜ told r ≡ removeCall m (now (hash .entry)) ⌝ }
+    ensures { λ r. ⌜ told (r .map) (r .answer) ≡ removeCall m (now (hash .entry)) ⌝ }
 {
     if hash.len() != 32 {
         return refused(m, Refusal::LentBytesUnreadable);
@@ -498,8 +486,9 @@ pub fn truncate(m: LiveCellsExclusionMap, tip: BlockNumber) -> LiveCellsExclusio
 
 // Writes the out points of all transactions, in their order, as a list.
 pub fn apply(m: LiveCellsExclusionMap, out: &mut [u8]) -> Answer
-    ensures { λ r. ⌜ wroteOf r (now (out .exit)) ≡ applyCall m (now (out .entry)) ⌝ }
+    ensures { λ r. ⌜ (numberOf r, now (out .exit)) ≡ applyCall m (now (out .entry)) ⌝ }
 {
+    // Out points that belong to no transaction are not written.
     let rule = Rule::All;
     let g = keep(m, rule);
     let n = count_inputs(g, 0, g.count);
@@ -513,7 +502,7 @@ pub fn apply(m: LiveCellsExclusionMap, out: &mut [u8]) -> Answer
 
 // Enters a transaction, uncommitted, under its hash; empty bytes are none.
 pub fn add(m: LiveCellsExclusionMap, hash: &[u8], tx: &[u8]) -> Excluded
-    ensures { λ r. ⌜ told r ≡ addCall m (now (hash .entry)) (now (tx .entry)) ⌝ }
+    ensures { λ r. ⌜ told (r .map) (r .answer) ≡ addCall m (now (hash .entry)) (now (tx .entry)) ⌝ }
 {
     if !transaction::is_optional_transaction(tx) {
         return refused(m, Refusal::OurTransactionUnreadable);
@@ -530,7 +519,7 @@ pub fn add(m: LiveCellsExclusionMap, hash: &[u8], tx: &[u8]) -> Excluded
 
 // Move the exclusion entry for a funding tx that a peer replaced: the old entry goes, and the new transaction, if any, is entered.
 pub fn migrate_funding_tx(m: LiveCellsExclusionMap, old: &[u8], new: &[u8], tx: &[u8]) -> Excluded
-    ensures { λ r. ⌜ told r ≡ migrateCall m (now (old .entry)) (now (new .entry)) (now (tx .entry)) ⌝ }
+    ensures { λ r. ⌜ told (r .map) (r .answer) ≡ migrateCall m (now (old .entry)) (now (new .entry)) (now (tx .entry)) ⌝ }
 {
     if !transaction::is_optional_transaction(tx) {
         return refused(m, Refusal::OurTransactionUnreadable);

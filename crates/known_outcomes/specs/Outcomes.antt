@@ -1,7 +1,8 @@
 -- The known outcomes (01-scope.md, "Case file and known outcomes", the starred ones), as one table: what the definitions compute, and what the
 -- paper says. proofs/KnownOutcomes.antt proves all rows at once.
 use Prim.Native.Nat.{ℕ, _+_, _-_, _^_}
-use mathlib.Core.List.{List, [], _∷_}
+use mathlib.Core.Bool.{Bool, not}
+use mathlib.Core.List.{List, [], _∷_, map}
 use mathlib.Core.Option.{none, some}
 use lib.ListN.{length, replicate}
 use Rattle.units.specs.declared.{Shannons.Shannons, CheckedShannons.CheckedShannons}
@@ -11,6 +12,9 @@ use Rattle.molecule.specs.Molecule.{encode}
 use Rattle.transaction.specs.Ckb.{CellOutput}
 use Rattle.rules.specs.Outcome as verdict
 use Rattle.rules.specs.Judge.{Figures}
+use Rattle.units.specs.Units.{later}
+use Rattle.out_points.specs.declared.OutPoint.{OutPoint}
+use Rattle.held_cells.specs.Held.{keep, isLive, renewAll, isBusy, firsts, others}
 use Rattle.exclusions.specs.Calls.{truncated}
 use Rattle.case_file.specs.CaseFile.{caseLine}
 use Rattle.known_outcomes.specs.CaseFiles.{ascii, file, fileAt, firstFile}
@@ -68,6 +72,21 @@ inputsTx n = spending (inputs n) (plain 100 ∷ []) ([] ∷ [])
 abbrev pub tokensTx : List ℕ
 tokensTx = spending (inputs 2) (token 100 ∷ []) (amount 5 ∷ [])
 
+-- two cells, of index 0 and 1
+abbrev cellA : OutPoint
+cellA = record { hash = record { a = 0; b = 0; c = 0; d = 0 }; index = 0 }
+
+abbrev cellB : OutPoint
+cellB = record { hash = record { a = 0; b = 0; c = 0; d = 0 }; index = 1 }
+
+-- how many records are left at a time, of one that the watchtower got at 1,000
+abbrev holdsAt : ℕ → List ℕ
+holdsAt time = length (keep (isLive (record { 0 = time })) (renewAll (later (record { 0 = 1000 }) (record { 0 = 1800000 })) [] (cellA ∷ []))) ∷ []
+
+-- held by nobody and not spent
+abbrev isFree : OutPoint → Bool
+isFree p = not (isBusy [] [] p)
+
 -- how many entries are left at a tip, of one that was committed at 100
 abbrev entriesAt : ℕ → List ℕ
 entriesAt tip =
@@ -115,6 +134,12 @@ outcomes =
     ∷ (caseLine (file [] tokenType tokensTx (cell (token 1000) (amount (2 ^ 128 - 1)) ∷ cell (token 1000) (amount 1) ∷ [])) gives ascii "7\n")
     -- lock args 20, type args 32: change capacity 14,200,000,000
     ∷ (ifFits (changeCapacity 20 32) gives 14200000000 ∷ [])
+    -- held by watchtower at 1,000: busy at 1,800,999, free at 1,801,000
+    ∷ (holdsAt 1800999 gives 1 ∷ [])
+    ∷ (holdsAt 1801000 gives 0 ∷ [])
+    -- free A, B; pick A, A, B: taken A, B; refused A
+    ∷ (map (λ p. p .index) (firsts isFree [] (cellA ∷ cellA ∷ cellB ∷ [])) gives 0 ∷ 1 ∷ [])
+    ∷ (map (λ p. p .index) (others isFree [] (cellA ∷ cellA ∷ cellB ∷ [])) gives 0 ∷ [])
     -- committed 100: kept at tip 99 and 112, dropped at 113
     ∷ (entriesAt 99 gives 1 ∷ [])
     ∷ (entriesAt 112 gives 1 ∷ [])

@@ -1,14 +1,13 @@
 use Prim.Native.Nat.{_+_, _-_}
-use lib.ListN.{drop}
-use Rattle.exclusions.specs.Table.{rowsOf}
-use Rattle.exclusions.specs.Rows.{run}
+use lib.ListN.{length, drop}
+use Rattle.exclusions.specs.Table.{rowsOf, loose}
 use Rattle.exclusions.proofs.PlaceLaws.{Skipping}
 use Rattle.exclusions.proofs.Ways.{ways}
 use Rattle.exclusions.proofs.skip_inputs.Statement.{statement}
 use Rattle.exclusions.proofs.skip_inputs.Tie as tie
 
 abbrev Inv-loop : tie.InvT-loop
-Inv-loop from m n i₀ i = Skipping (m .rows) n i (from + run (drop from (rowsOf m)))
+Inv-loop from m n i₀ i = Skipping (m .rows) n i (from + length (loose (drop from (rowsOf m))))
 
 abbrev μ-loop : tie.MeasureT-loop
 μ-loop from m n i₀ i = n - i
