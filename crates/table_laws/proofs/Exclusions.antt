@@ -2,7 +2,7 @@
 use mathlib.Core.Path.{_≡_, refl, sym, ap, _∙_, subst}
 use Prim.Native.Nat.{ℕ, zero, suc, _+_, _≤_}
 use mathlib.Core.List.{List, [], _∷_, _++_, map}
-use mathlib.Core.Bool.{Bool, true, false, cond}
+use mathlib.Core.Bool.{Bool, true, false, cond, not}
 use mathlib.Core.Option.{Option, none, some}
 use native.Mathlib.Omega.{arith}
 use borrow.Author.Tests.{leb-true}
@@ -15,8 +15,8 @@ use Rattle.out_points.specs.declared.{Byte32.Byte32, OutPoint.OutPoint}
 use Rattle.out_points.specs.OutPoints.{eqHash, byte32At}
 use Rattle.error.specs.Refusal.{number}
 use Rattle.exclusions.specs.declared.{LiveCellsExclusionMap.LiveCellsExclusionMap, Excluded.Excluded, Answer.Answer}
-use Rattle.exclusions.specs.Table.{Entry, entriesOf, After, left, kept, told, toldOf}
-use Rattle.exclusions.specs.Calls.{filterB, withHash, committedAt, commitCall, isOther, without, removeCall, isRecent, truncated, excluded, spent, pending, renew, ifFits, withTx, ifTx, addCall, entered, migrateCall}
+use Rattle.exclusions.specs.Table.{Entry, entriesOf, After, left, kept, told}
+use Rattle.exclusions.specs.Calls.{filterB, withHash, committedAt, commitCall, without, removeCall, isRecent, truncated, excluded, spent, pending, renew, ifFits, withTx, ifTx, addCall, entered, migrateCall}
 use Rattle.table_laws.specs.Exclusions as run
 use Rattle.table_laws.specs.Exclusions.{Called, Reached, Within}
 
@@ -46,7 +46,7 @@ marked : (hash : Byte32) (block : BlockNumber) (e : Entry) → committedAt hash 
 unfolding committedAt
 marked hash block e = by (eqHash (e .hash) hash)
   where
-    by : (b : Bool) → cond b (record { hash = e .hash; committed = some block; points = e .points }) e .points ≡ e .points
+    by : (b : Bool) → cond b (record { hash = hash; committed = some block; points = e .points }) e .points ≡ e .points
     by true = refl
     by false = refl
 
@@ -95,11 +95,11 @@ either m true a b g h = g
 either m false a b g h = h
 
 -- what a call answered, read back from the map that it returned
-back : (m : LiveCellsExclusionMap) (r : Excluded) (a : After) → told r ≡ a → Fine m a → Small (entriesOf m) → Small (entriesOf (r .map))
-unfolding told toldOf
+back : (m : LiveCellsExclusionMap) (r : Excluded) (a : After) → told (r .map) (r .answer) ≡ a → Fine m a → Small (entriesOf m) → Small (entriesOf (r .map))
+unfolding told
 back m r a e g s = by (r .answer) (subst (Fine m) (sym e) g)
   where
-    by : (v : Answer) → Fine m (toldOf (r .map) v) → Small (entriesOf (r .map))
+    by : (v : Answer) → Fine m (told (r .map) v) → Small (entriesOf (r .map))
     by Answer.Done g = g
     by (Answer.Refused x) g = subst (λ (n : LiveCellsExclusionMap). Small (entriesOf n)) (sym g) s
 
@@ -107,7 +107,7 @@ step : {m n : LiveCellsExclusionMap} → Called m n → Small (entriesOf m) → 
 unfolding commitCall removeCall truncated without addCall migrateCall
 step (run.commit {m} r hash block e) s =
     back m r _ e (with-hash m hash _ (λ h. (let (p, q) = marked-all h block (entriesOf m) in (omega (arith, p, s .0), omega (arith, ap length q, s .1))))) s
-step (run.remove {m} r hash e) s = back m r _ e (with-hash m hash _ (λ h. sifted-small (isOther h) (entriesOf m) s)) s
+step (run.remove {m} r hash e) s = back m r _ e (with-hash m hash _ (λ h. sifted-small (λ (x : Entry). not (eqHash (x .hash) h)) (entriesOf m) s)) s
 step (run.truncate {m} {n} tip e) s = subst Small (sym e) (sifted-small (λ (x : Entry). isRecent tip (x .committed)) (entriesOf m) s)
 step (run.add {m} r hash tx e) s = back m r _ e (with-tx m tx _ (with-hash m hash _ (λ h. if-tx m tx _ _ (fits m _) s))) s
 step (run.migrate {m} r old new tx e) s =
@@ -115,7 +115,7 @@ step (run.migrate {m} r old new tx e) s =
     (with-tx m tx _
     (with-hash m old _ (λ o.
     with-hash m new _ (λ h.
-    either m (entered o (entriesOf m)) _ _ (if-tx m tx _ _ (fits m _) (sifted-small (isOther o) (entriesOf m) s)) s))))
+    either m (entered o (entriesOf m)) _ _ (if-tx m tx _ _ (fits m _) (sifted-small (λ (x : Entry). not (eqHash (x .hash) o)) (entriesOf m) s)) s))))
     s
 
 small : {m : LiveCellsExclusionMap} → Reached m → Small (entriesOf m)
