@@ -318,10 +318,13 @@ busy-held : (left : List Hold) (spent : List OutPoint) (p : OutPoint) → has p 
 unfolding isBusy
 busy-held left spent p e = rw e
 
+pub busy-not-given : (left : List Hold) (spent : List OutPoint) (p : OutPoint) (picks : List OutPoint) → isBusy left spent p ≡ true
+    → has p (firsts (λ q. not (isBusy left spent q)) [] picks) ≡ false
+busy-not-given left spent p picks e =
+    has-times p (firsts (λ (q : OutPoint). not (isBusy left spent q)) [] picks) (firsts-not (λ (q : OutPoint). not (isBusy left spent q)) p [] picks (ap not e))
+
 pub held-refused : HeldRefused
-held-refused h now spent picks p e =
-    has-times p (given h now spent picks)
-    (firsts-not (λ (q : OutPoint). not (isBusy (unended h now) spent q)) p [] picks (ap not (busy-held (unended h now) spent p e)))
+held-refused h now spent picks p e = busy-not-given (unended h now) spent p picks (busy-held (unended h now) spent p e)
 
 has-held : (p : OutPoint) (owner : Owner) (left : List Hold) (ps : List OutPoint) → has p ps ≡ true → has p (cellsOf (left ++ map (heldBy owner) ps)) ≡ true
 unfolding has
