@@ -53,6 +53,7 @@ import os
 import subprocess
 import sys
 
+import replayed
 import table_cases as cases
 from molecule_vectors import join, number, split, u32
 from table_kinds import EXCLUSION_KINDS, HOLD_KINDS
@@ -458,10 +459,7 @@ def main():
     print('kinds without a case: %d' % missing)
     if missing:
         sys.exit(1)
-    for crate, data, lines in made:
-        os.makedirs('crates/' + crate, exist_ok=True)
-        open('crates/%s/stdin' % crate, 'wb').write(data)
-        open('crates/%s/stdout' % crate, 'w').write('\n'.join(lines) + '\n')
+    replayed.write(made)
 
 
 if __name__ == '__main__':

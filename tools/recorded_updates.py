@@ -34,6 +34,7 @@ import subprocess
 import sys
 
 import cases as proved
+import replayed
 import update_cases as cases
 from molecule_vectors import join, u32
 from update_model import PLACES, Case, amount, judge, judge_file, read_case, read_records, read_tx, surplus, u64, Shape, Tx
@@ -513,10 +514,7 @@ def main():
     if a.fresh is not None:
         return fresh(a.oracle, a.fresh, a.seed, a.program, a.out)
     made = [('recorded_updates',) + record_updates(a.oracle), ('recorded_negotiations',) + record_negotiations(a.oracle)]
-    for crate, data, lines in made:
-        os.makedirs('crates/' + crate, exist_ok=True)
-        open('crates/%s/stdin' % crate, 'wb').write(data)
-        open('crates/%s/stdout' % crate, 'w').write('\n'.join(lines) + '\n')
+    replayed.write(made)
 
 
 if __name__ == '__main__':

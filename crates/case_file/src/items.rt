@@ -23,21 +23,21 @@ pub struct Places {
 const LENGTHS: u32 = 268_435_456;
 
 // The kind that the word at a place has, and 0 where no word stands there.
-pub fn kind_at(s: &[u8], at: usize) -> u32
+pub(crate) fn kind_at(s: &[u8], at: usize) -> u32
     ensures { λ r. ⌜ r ≡ kindAt (now (s .entry)) at ⌝ }
 {
     little_endian::u32_at(s, at) / LENGTHS
 }
 
 // The length of a body that the word at a place has.
-pub fn length_at(s: &[u8], at: usize) -> u32
+pub(crate) fn length_at(s: &[u8], at: usize) -> u32
     ensures { λ r. ⌜ r ≡ lengthAt (now (s .entry)) at ⌝ }
 {
     little_endian::u32_at(s, at) % LENGTHS
 }
 
 // The body of the item at a place, as much of it as there is.
-pub fn body(s: &[u8], at: usize) -> &[u8]
+pub(crate) fn body(s: &[u8], at: usize) -> &[u8]
     requires { ⌜ length (now s) ≤ 65536 ⌝ }
     ensures { λ r. ⌜ now r ≡ bodyAt (now (s .entry)) at ⌝ }
     ensures { λ r. ⌜ length (now r) ≤ 65536 ⌝ }
@@ -64,7 +64,7 @@ fn all_zero(s: &[u8]) -> bool
 }
 
 // The place after the item of a kind at a place: its word, its body, and its padding, which is zero.
-pub fn item_end(s: &[u8], kind: u32, at: usize) -> usize
+pub(crate) fn item_end(s: &[u8], kind: u32, at: usize) -> usize
     ensures { λ r. ⌜ r ≡ endOf (itemAt (now (s .entry)) kind at) ⌝ }
 {
     if s.len() < 4 {
@@ -90,7 +90,7 @@ pub fn item_end(s: &[u8], kind: u32, at: usize) -> usize
 }
 
 // The same for an item that may be missing.
-pub fn optional_end(s: &[u8], kind: u32, at: usize) -> usize
+pub(crate) fn optional_end(s: &[u8], kind: u32, at: usize) -> usize
     ensures { λ r. ⌜ r ≡ endOf (optionalAt (now (s .entry)) kind at) ⌝ }
 {
     if kind_at(s, at) != kind {
@@ -100,7 +100,7 @@ pub fn optional_end(s: &[u8], kind: u32, at: usize) -> usize
 }
 
 // The body of an item that may be missing: then it is empty.
-pub fn optional_body(s: &[u8], kind: u32, at: usize) -> &[u8]
+pub(crate) fn optional_body(s: &[u8], kind: u32, at: usize) -> &[u8]
     requires { ⌜ length (now s) ≤ 65536 ⌝ }
     ensures { λ r. ⌜ now r ≡ optionalBody (now (s .entry)) kind at ⌝ }
 {
@@ -121,7 +121,7 @@ fn rate_end(s: &[u8], at: usize) -> usize
 }
 
 // The places of a file. Past the end no item stands, so where one is not in its shape the records are nowhere.
-pub fn find_places(s: &[u8]) -> Places
+pub(crate) fn find_places(s: &[u8]) -> Places
     ensures { λ r. ⌜ r ≡ placesOf (now (s .entry)) ⌝ }
 {
     let peer = optional_end(s, 1, 0);

@@ -62,7 +62,7 @@ fn entry_len(s: &[u8], at: usize) -> usize
 }
 
 // Measures the records from a place up to the end of the file. Each takes up at most 5 bytes in the list for 2 in the file.
-pub fn measure(s: &[u8], from: usize) -> Measured
+pub(crate) fn measure(s: &[u8], from: usize) -> Measured
     requires { ⌜ (length (now s) ≤ 65536) × (0 < from) × (from ≤ length (now s)) ⌝ }
     ensures { λ r. ⌜ r ≡ measured (recordsFrom (length (now (s .entry))) (now (s .entry)) from) ⌝ }
     ensures { λ r. ⌜ r .size ≤ 163844 ⌝ }
@@ -154,7 +154,7 @@ fn put_entries(out: &mut [u8], to: usize, s: &[u8], from: usize, n: usize) -> us
 }
 
 // Puts the list of n records at the start of out.
-pub fn put_list(out: &mut [u8], s: &[u8], from: usize, n: usize, size: usize) -> usize
+pub(crate) fn put_list(out: &mut [u8], s: &[u8], from: usize, n: usize, size: usize) -> usize
     requires { ⌜ (length (now s) ≤ 65536) × (size ≡ length (join (walk n (now s) from))) × (4 * n + 4 ≤ size) × (size ≤ length (now out)) × (size < 2 ^ 32) ⌝ }
     ensures { λ r. ⌜ Put (now (out .entry)) 0 (join (walk n (now (s .entry)) from)) (now (out .exit)) r ⌝ }
 {
