@@ -18,7 +18,7 @@ ghost use Rattle.case_file.specs.Walk.{verdictAt};
 pub const FILE_BYTES: usize = 65_536;
 
 // Room for the list of the records of any case file: 4 bytes, and 5 for every 2 of the file.
-pub const RECORD_BYTES: usize = 163_844;
+const RECORD_BYTES: usize = 163_844;
 
 // Judges the update whose bodies stand at these places of a file, over a list of records.
 fn judge_at(s: &[u8], places: Places, records: &[u8]) -> Update
@@ -55,16 +55,12 @@ fn judge_case(s: &[u8], records: &mut [u8]) -> Update
     judge_at(s, places, &records[0..n])
 }
 
-// Writes the verdict line of a case file to the start of `line`, and answers its length; the bytes behind it keep their value. `records` is room to
-// work in: what stands there afterwards has no meaning.
-pub fn check_case(
-    file: &[u8],
-    records: &mut [u8; RECORD_BYTES],
-    line: &mut [u8; verdict_line::LINE_BYTES],
-) -> usize
+// Writes the verdict line of a case file to the start of `line`, and answers its length; the bytes behind it keep their value.
+pub fn check_case(file: &[u8], line: &mut [u8; verdict_line::LINE_BYTES]) -> usize
     ensures { λ _. ⌜ now (line .exit) ≡ splice (now (line .entry)) 0 (caseLine (now (file .entry))) ⌝ }
     ensures { λ r. ⌜ r ≡ length (caseLine (now (file .entry))) ⌝ }
 {
-    let update = judge_case(file, records);
+    let mut records = [0u8; RECORD_BYTES];
+    let update = judge_case(file, &mut records);
     verdict_line::write_line(update, line)
 }

@@ -7,8 +7,7 @@ fn main() {
     // one byte more than the longest case file, so that a longer one is seen to be too long
     let mut file = [0u8; case_file::FILE_BYTES + 1];
     let n = io::read_full(STDIN_FILENO, &mut file);
-    let mut records = [0u8; case_file::RECORD_BYTES];
     let mut line = [0u8; verdict_line::LINE_BYTES];
-    let length = case_file::check_case(&file[0..n], &mut records, &mut line);
+    let length = case_file::check_case(&file[0..n], &mut line);
     io::write_all(STDOUT_FILENO, &line[0..length]);
 }
