@@ -1,7 +1,7 @@
 -- The refusals of the table in 01-scope.md, "A peer's update arrives": the number of each, and the values that it carries, in their order.
 use Prim.Native.Nat.{ℕ}
 use mathlib.Core.List.{List, [], _∷_}
-use Rattle.error.specs.declared.Refusal.{Refusal}
+use Rattle.error.specs.declared.{Refusal.Refusal, Answer.Answer}
 
 unfoldable pub number : Refusal → ℕ
 -- entry: our bytes unreadable
@@ -53,3 +53,8 @@ values Refusal.TokenCellDataTooShort = []
 values Refusal.BufferTooShort = []
 values Refusal.TooManyHolds = []
 values Refusal.TooManyExclusions = []
+
+-- an answer's number: 0 where the call is done
+unfoldable pub answered : Answer → ℕ
+answered Answer.Done = 0
+answered (Answer.Refused why) = number why

@@ -1,7 +1,7 @@
 // Why a request is refused: the numbers 1 to 15, with the values that each carries.
 ghost use mathlib.Core.Path.{_≡_};
 ghost use lib.ListN.{length, getD};
-ghost use Rattle.error.specs.Refusal.{number, values};
+ghost use Rattle.error.specs.Refusal.{number, values, answered};
 
 // A refusal. The comment on each case is its sentence for people.
 pub enum Refusal {
@@ -137,6 +137,24 @@ impl Refusal {
             Refusal::BufferTooShort => 0,
             Refusal::TooManyHolds => 0,
             Refusal::TooManyExclusions => 0,
+        }
+    }
+}
+
+// What a call answers that changes a table or fills a lent buffer.
+pub enum Answer {
+    Done,
+    Refused(Refusal),
+}
+
+impl Answer {
+    // Its number for programs, 0 where the call is done.
+    pub fn number(self) -> u8
+        ensures { λ r. ⌜ r ≡ answered self ⌝ }
+    {
+        match self {
+            Answer::Done => 0,
+            Answer::Refused(why) => why.number(),
         }
     }
 }

@@ -10,11 +10,12 @@ use Rattle.molecule.specs.Molecule.{size, chunks, pieces, oneByte, decode, read
 use Rattle.molecule.specs.Layout.{part, word, span, fixItem}
 use Rattle.out_points.specs.declared.{OutPoint.OutPoint}
 use Rattle.out_points.specs.OutPoints.{eqHash, eqPoint, has, byte32At, outPointAt, pointOf, hashBytes, pointBytes, bytesOf, pointList}
-use Rattle.held_cells.specs.declared.{Owner.Owner, Hold.Hold, Held.Held, Taker.Taker}
-use Rattle.held_cells.specs.Held.{recordsOf, keep, funding, watchtower, done, refused, atMost256, isLive, ownerLives, ownerIsTower, isTowerOn, renew, renewAll, holdForWatchtower, written, hasRoom, isBusy, isNew, firsts, others, ownerFor, takeFrom, takeCells}
+use Rattle.out_points.specs.Tables.{keep, renew, done, refused, hasRoom, written}
+use Rattle.hold_records.specs.declared.{Owner.Owner, Hold.Hold, Held.Held, Taker.Taker}
+use Rattle.hold_records.specs.Holds.{recordsOf, heldBy, byOwner, atMost256, isLive, isTowerOn, renewAll, holdForWatchtower, isBusy, isNew, firsts, others, ownerFor, takeCells}
 
 unfoldable computing : Unit {0}
-unfolding le toLe numAt later only there both each size chunks pieces oneByte decode readable part word span fixItem eqHash eqPoint has byte32At outPointAt pointOf hashBytes pointBytes bytesOf pointList recordsOf keep atMost256 isLive ownerLives ownerIsTower isTowerOn renew renewAll holdForWatchtower written hasRoom isBusy isNew firsts others ownerFor takeFrom takeCells
+unfolding le toLe numAt later only there both each size chunks pieces oneByte decode readable part word span fixItem eqHash eqPoint has byte32At outPointAt pointOf hashBytes pointBytes bytesOf pointList recordsOf keep renew byOwner atMost256 isLive isTowerOn renewAll holdForWatchtower written hasRoom isBusy isNew firsts others ownerFor takeCells
 computing = tt
 
 abbrev A : OutPoint
@@ -28,6 +29,12 @@ table l n = record { records = l; count = n }
 
 abbrev ms : ℕ → Millis
 ms n = record { 0 = n }
+
+abbrev funding : ℕ → OutPoint → Hold
+funding holder p = heldBy (Owner.Funding holder) p
+
+abbrev watchtower : Millis → OutPoint → Hold
+watchtower end p = heldBy (Owner.Watchtower end) p
 
 -- held by the watchtower at 1,000
 pub held-at-1000 : holdForWatchtower (table [] 0) (pointList (A ∷ [])) (ms 1000) ≡ done (watchtower (ms 1801000) A ∷ [])

@@ -1,12 +1,6 @@
+pub mod AddLaws
 pub mod CallLaws
 pub mod Examples
-pub mod FirstLaws
-pub mod ListLaws
-pub mod LoopLaws
-pub mod PickLaws
 pub mod RenewLaws
-pub mod TakeLaws
-pub mod TakenLaws
 pub mod TestLaws
 pub mod Ways
-pub mod WriteLaws

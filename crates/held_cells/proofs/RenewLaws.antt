@@ -12,10 +12,11 @@ use Rattle.molecule.specs.Layout.{span, fixCount}
 use Rattle.lists.proofs.SpanLaws.{span-on, span-end, span-whole}
 use Rattle.out_points.specs.declared.{OutPoint.OutPoint}
 use Rattle.out_points.specs.OutPoints.{pointOf, points}
-use Rattle.held_cells.specs.declared.{Hold.Hold, Held.Held}
-use Rattle.held_cells.specs.Held.{recordsOf, watchtower, isTowerOn, renew, renewAll}
+use Rattle.out_points.specs.Tables.{renew}
+use Rattle.hold_records.specs.declared.{Owner.Owner, Hold.Hold, Held.Held}
+use Rattle.hold_records.specs.Holds.{recordsOf, heldBy, isTowerOn, renewAll}
 use Rattle.held_cells.specs.Places.{placeOf}
-use Rattle.held_cells.proofs.ListLaws.{take-used}
+use Rattle.hold_records.proofs.LoopLaws.{drop-record, drop-none}
 
 -- ---- the search: what is left decides
 
@@ -24,19 +25,6 @@ pub record Placing (p : OutPoint) (h : Held) (n i R : ℕ) : Type 0 where
   pub whole : length (h .records) ≡ 256
   pub within : i ≤ n
   pub rest : R ≡ i + placeOf p (drop i (recordsOf h))
-
--- the record at a place that stands
-pub drop-record : (h : Held) (i : ℕ) (d : Hold) → length (h .records) ≡ 256 → i < min (h .count) 256 → drop i (recordsOf h) ≡ getD (h .records) i d ∷ drop (i + 1) (recordsOf h)
-unfolding recordsOf
-drop-record h i d e l =
-    let b : i < length (take (h .count) (h .records)) = simp length-take (omega arith) in
-    rw add-one (drop-cons (take (h .count) (h .records)) i d b ∙ ap (λ (x : Hold). x ∷ drop (suc i) (take (h .count) (h .records))) (getD-take (h .count) (h .records) i d (omega arith)))
-
-pub drop-none : (h : Held) (i : ℕ) → length (h .records) ≡ 256 → min (h .count) 256 ≤ i → drop i (recordsOf h) ≡ []
-unfolding recordsOf
-drop-none h i e l =
-    let b : length (take (h .count) (h .records)) ≤ i = simp length-take (omega arith) in
-    drop-of-length-le (take (h .count) (h .records)) b
 
 pub place-start : (p : OutPoint) (h : Held) {n : ℕ} → n ≡ min (h .count) 256 → length (h .records) ≡ 256 → Placing p h n 0 (placeOf p (recordsOf h))
 place-start p h e l = record { most = e; whole = l; within = omega arith; rest = omega arith }
@@ -66,21 +54,24 @@ module _ {p : OutPoint} {h : Held} {n i R : ℕ} (k : Placing p h n i R) where
 
 -- ---- a record put at its place
 
+abbrev pub tower : Millis → OutPoint → Hold
+tower t p = heldBy (Owner.Watchtower t) p
+
 put-place : (t : Millis) (p : OutPoint) (a : List Hold) (c : ℕ) → c ≤ length a → placeOf p (take c a) < length a
-    → take (c + (placeOf p (take c a) + 1 - c)) (set a (placeOf p (take c a)) (watchtower t p)) ≡ renew t (take c a) p
+    → take (c + (placeOf p (take c a) + 1 - c)) (set a (placeOf p (take c a)) (tower t p)) ≡ renew (isTowerOn p) (tower t p) (take c a)
 unfolding placeOf renew
 put-place t p [] c h l = absurd (omega arith)
 put-place t p (y ∷ a) zero h l = refl
 put-place t p (y ∷ a) (suc c) h l = by (isTowerOn p y) l (λ b. put-place t p a c (omega arith) b)
   where
     by : (b : Bool) → cond b 0 (suc (placeOf p (take c a))) < suc (length a)
-        → (placeOf p (take c a) < length a → take (c + (placeOf p (take c a) + 1 - c)) (set a (placeOf p (take c a)) (watchtower t p)) ≡ renew t (take c a) p)
-        → take (suc c + (cond b 0 (suc (placeOf p (take c a))) + 1 - suc c)) (set (y ∷ a) (cond b 0 (suc (placeOf p (take c a)))) (watchtower t p))
-        ≡ cond b (watchtower t p ∷ take c a) (y ∷ renew t (take c a) p)
-    by true l f = let e : suc c + (0 + 1 - suc c) ≡ suc c = omega arith in ap (λ (n : ℕ). take n (watchtower t p ∷ a)) e
+        → (placeOf p (take c a) < length a → take (c + (placeOf p (take c a) + 1 - c)) (set a (placeOf p (take c a)) (tower t p)) ≡ renew (isTowerOn p) (tower t p) (take c a))
+        → take (suc c + (cond b 0 (suc (placeOf p (take c a))) + 1 - suc c)) (set (y ∷ a) (cond b 0 (suc (placeOf p (take c a)))) (tower t p))
+        ≡ cond b (tower t p ∷ take c a) (y ∷ renew (isTowerOn p) (tower t p) (take c a))
+    by true l f = let e : suc c + (0 + 1 - suc c) ≡ suc c = omega arith in ap (λ (n : ℕ). take n (tower t p ∷ a)) e
     by false l f =
         let e : suc c + (suc (placeOf p (take c a)) + 1 - suc c) ≡ suc (c + (placeOf p (take c a) + 1 - c)) = omega arith in
-        ap (λ (n : ℕ). take n (y ∷ set a (placeOf p (take c a)) (watchtower t p))) e
+        ap (λ (n : ℕ). take n (y ∷ set a (placeOf p (take c a)) (tower t p))) e
         ∙ ap (λ (x : List Hold). y ∷ x) (f (omega arith))
 
 place-below : (p : OutPoint) (l : List Hold) → placeOf p l ≤ length l
@@ -92,20 +83,20 @@ place-below p (y ∷ l) = by (isTowerOn p y) (place-below p l)
     by true h = omega arith
     by false h = omega arith
 
-renew-length : (t : Millis) (l : List Hold) (p : OutPoint) → length (renew t l p) ≡ length l + (placeOf p l + 1 - length l)
+renew-length : (t : Millis) (l : List Hold) (p : OutPoint) → length (renew (isTowerOn p) (tower t p) l) ≡ length l + (placeOf p l + 1 - length l)
 unfolding placeOf renew
 renew-length t [] p = refl
 renew-length t (y ∷ l) p = by (isTowerOn p y) (renew-length t l p)
   where
-    by : (b : Bool) → length (renew t l p) ≡ length l + (placeOf p l + 1 - length l)
-        → length (cond b (watchtower t p ∷ l) (y ∷ renew t l p)) ≡ suc (length l) + (cond b 0 (suc (placeOf p l)) + 1 - suc (length l))
+    by : (b : Bool) → length (renew (isTowerOn p) (tower t p) l) ≡ length l + (placeOf p l + 1 - length l)
+        → length (cond b (tower t p ∷ l) (y ∷ renew (isTowerOn p) (tower t p) l)) ≡ suc (length l) + (cond b 0 (suc (placeOf p l)) + 1 - suc (length l))
     by true h = omega arith
     by false h = omega arith
 
 renew-grows : (t : Millis) (ps : List OutPoint) (l : List Hold) → length l ≤ length (renewAll t l ps)
 unfolding renewAll
 renew-grows t [] l = omega arith
-renew-grows t (p ∷ ps) l = omega (arith, renew-length t l p, renew-grows t ps (renew t l p))
+renew-grows t (p ∷ ps) l = omega (arith, renew-length t l p, renew-grows t ps (renew (isTowerOn p) (tower t p) l))
 
 -- ---- the loop over the cells
 
@@ -124,19 +115,19 @@ renew-start t s h g {n} e eg m l = record {
 }
 
 module _ {t : Millis} {s : List ℕ} {h g : Held} {n i : ℕ} (k : Renewing t s h g n i) where
-  next : i < n → renewAll t (renew t (recordsOf g) (pointOf s i)) (span (pointOf s) (i + 1) (n - (i + 1))) ≡ renewAll t (recordsOf h) (points s)
+  next : i < n → renewAll t (renew (isTowerOn (pointOf s i)) (tower t (pointOf s i)) (recordsOf g)) (span (pointOf s) (i + 1) (n - (i + 1))) ≡ renewAll t (recordsOf h) (points s)
   unfolding renewAll
   next l = sym (ap (renewAll t (recordsOf g)) (span-on (pointOf s) i n l)) ∙ k .rest
 
   module _ {p : OutPoint} {a : ℕ} (l : i < n) (ep : p ≡ pointOf s i) (ea : a ≡ placeOf p (recordsOf g)) where
-    pub renew-more : {c : ℕ} → a < 256 → c ≡ g .count + (a + 1 - g .count) → Renewing t s h (record { records = set (g .records) a (watchtower t p); count = c }) n (i + 1)
+    pub renew-more : {c : ℕ} → a < 256 → c ≡ g .count + (a + 1 - g .count) → Renewing t s h (record { records = set (g .records) a (tower t p); count = c }) n (i + 1)
     unfolding recordsOf
     renew-more {c} b ec =
         let m = k .most in
         let w = k .long in
         let at : placeOf p (take (g .count) (g .records)) < length (g .records) = rw (← ea) (omega arith) in
-        let put : take c (set (g .records) a (watchtower t p)) ≡ renew t (take (g .count) (g .records)) p = rw (ec, ea) (put-place t p (g .records) (g .count) (omega arith) at) in
-        let y : renewAll t (renew t (take (g .count) (g .records)) p) (span (pointOf s) (i + 1) (n - (i + 1))) ≡ renewAll t (take (h .count) (h .records)) (points s) = rw ep (next l) in
+        let put : take c (set (g .records) a (tower t p)) ≡ renew (isTowerOn p) (tower t p) (take (g .count) (g .records)) = rw (ec, ea) (put-place t p (g .records) (g .count) (omega arith) at) in
+        let y : renewAll t (renew (isTowerOn p) (tower t p) (take (g .count) (g .records))) (span (pointOf s) (i + 1) (n - (i + 1))) ≡ renewAll t (take (h .count) (h .records)) (points s) = rw ep (next l) in
         record {
           within = omega arith;
           most = omega arith;
@@ -151,8 +142,8 @@ module _ {t : Millis} {s : List ℕ} {h g : Held} {n i : ℕ} (k : Renewing t s 
         let w = k .long in
         let u : length (take (g .count) (g .records)) ≡ g .count = simp length-take (omega arith) in
         let v = renew-length t (take (g .count) (g .records)) p in
-        let x = renew-grows t (span (pointOf s) (i + 1) (n - (i + 1))) (renew t (take (g .count) (g .records)) p) in
-        let y : renewAll t (renew t (take (g .count) (g .records)) p) (span (pointOf s) (i + 1) (n - (i + 1))) ≡ renewAll t (take (h .count) (h .records)) (points s) = rw ep (next l) in
+        let x = renew-grows t (span (pointOf s) (i + 1) (n - (i + 1))) (renew (isTowerOn p) (tower t p) (take (g .count) (g .records))) in
+        let y : renewAll t (renew (isTowerOn p) (tower t p) (take (g .count) (g .records))) (span (pointOf s) (i + 1) (n - (i + 1))) ≡ renewAll t (take (h .count) (h .records)) (points s) = rw ep (next l) in
         omega (arith, x, v, u, ea, ap length y)
 
   pub renew-end : n ≤ i → recordsOf g ≡ renewAll t (recordsOf h) (points s)

@@ -14,7 +14,8 @@ use Rattle.rules.specs.Outcome as verdict
 use Rattle.rules.specs.Judge.{Figures}
 use Rattle.units.specs.Units.{later}
 use Rattle.out_points.specs.declared.OutPoint.{OutPoint}
-use Rattle.held_cells.specs.Held.{keep, isLive, renewAll, isBusy, firsts, others}
+use Rattle.out_points.specs.Tables.{keep}
+use Rattle.hold_records.specs.Holds.{isLive, renewAll, isBusy, firsts, others}
 use Rattle.exclusions.specs.Calls.{truncated}
 use Rattle.case_file.specs.CaseFile.{caseLine}
 use Rattle.known_outcomes.specs.CaseFiles.{ascii, file, fileAt, firstFile}

@@ -1,1 +1,2 @@
 pub mod OutPoints
+pub mod Tables

@@ -2,12 +2,12 @@
 // describes, in sequences that each start from the empty table. A call is wrong if the library answers it by another number than is recorded, writes other
 // lists, touches a lent byte behind them, or leaves another table.
 use arithmetic::little_endian;
-use held_cells::Answer;
-use held_cells::Held;
-use held_cells::Hold;
-use held_cells::Holds;
-use held_cells::Owner;
-use held_cells::Taker;
+use error::Answer;
+use hold_records::Held;
+use hold_records::Hold;
+use hold_records::Holds;
+use hold_records::Owner;
+use hold_records::Taker;
 use libc::STDIN_FILENO;
 use libc::STDOUT_FILENO;
 use units::Millis;
@@ -144,7 +144,7 @@ fn run_plain(held: Held, call: &[u8]) -> Holds {
     if k == 5 {
         return held_cells::release_for_watchtower(held, field(call, 1));
     }
-    answered(held_cells::empty(), Answer::Done)
+    answered(hold_records::empty(), Answer::Done)
 }
 
 // The calls that write lists.
@@ -182,14 +182,6 @@ fn run(held: Held, call: &[u8], a: &mut [u8], b: &mut [u8]) -> Holds {
 }
 
 // ---- what it comes to
-
-// The number of an answer, and 0 for done.
-fn number(answer: Answer) -> u8 {
-    match answer {
-        Answer::Done => 0,
-        Answer::Refused(refusal) => refusal.number(),
-    }
-}
 
 fn is_filled(s: &[u8]) -> bool {
     let mut i = 0;
@@ -263,7 +255,7 @@ fn is_table(held: Held, owners: &[u8], points: &[u8]) -> bool {
 
 fn is_right(after: Holds, call: &[u8], a: &[u8], b: &[u8]) -> bool {
     let answer = after.answer;
-    if number(answer) != answer_number(call) {
+    if answer.number() != answer_number(call) {
         return false;
     }
     if !is_written(a, first_room(call), field(call, 4)) {
@@ -356,7 +348,7 @@ fn step(counts: &mut [u64], held: Held, call: &[u8]) -> Held {
 
 fn judge_part(counts: &mut [u64], part: &[u8]) {
     let n = molecule::item_count(part) as usize;
-    let mut held = held_cells::empty();
+    let mut held = hold_records::empty();
     let mut i = 0;
     while i < n {
         held = step(counts, held, molecule::item(part, i));

@@ -1,23 +1,20 @@
 -- Laws over any list of calls on a table of holds: a watchtower cell has at most one record.
-use mathlib.Core.Path.{_≡_, refl, sym, ap, ap₂, _∙_, subst}
-use Prim.Native.Nat.{ℕ, zero, suc, _+_, _≤_, max}
+use mathlib.Core.Path.{_≡_, refl, sym, ap, _∙_, subst}
+use Prim.Native.Nat.{ℕ, suc, _+_, _≤_, max}
 use mathlib.Core.List.{List, [], _∷_, _++_, map}
 use mathlib.Core.Bool.{Bool, true, false, cond, not}
 use native.Mathlib.Omega.{arith}
-use lib.Dec.{leb}
-use lib.ListN.{length}
 use Rattle.units.specs.declared.Millis.{Millis}
 use Rattle.units.specs.Units.{later}
-use Rattle.molecule.specs.Molecule.{readable}
-use Rattle.transaction.specs.Ckb.{OutPoints}
-use Rattle.error.specs.Refusal.{number}
 use Rattle.out_points.specs.declared.OutPoint.{OutPoint}
 use Rattle.out_points.specs.OutPoints.{eqPoint, has, points}
 use Rattle.out_points.proofs.EqualLaws.{point-same, point-refl}
-use Rattle.held_cells.specs.declared.{Owner.Owner, Hold.Hold, Held.Held, Answer.Answer, Holds.Holds, Taker.Taker}
-use Rattle.held_cells.specs.Held.{recordsOf, funding, watchtower, keep, Outcome, done, refused, outcome, told, atMost256, isNotOf, holdFunding, ownerIsTower, isUnnamed, releaseForWatchtower, isTowerOn, renew, renewAll, holdForWatchtower, isLive, cellsOf, written, hasRoom, lockHeld, isBusy, isNew, firsts, others, ownerFor, heldBy, takeFrom, takeCells}
+use Rattle.out_points.specs.Tables.{keep, renew}
+use Rattle.hold_records.specs.declared.{Owner.Owner, Hold.Hold, Held.Held}
+use Rattle.hold_records.specs.Holds.{recordsOf, heldBy, byOwner, cellsOf, isNotOf, isUnnamed, isTowerOn, renewAll, isLive, isBusy, isNew, firsts, ownerFor}
 use Rattle.table_laws.specs.Holds as run
 use Rattle.table_laws.specs.Holds.{Called, Reached, towers, OneEach, unended, given, HeldRefused, GivenHeld, LockedRefused}
+use Rattle.table_laws.proofs.Calls.{After, back, hold-fine, watch-fine, release-fine, locked-fine, take-fine}
 
 abbrev Single : List Hold → Type 0
 Single l = (p : OutPoint) → towers p l ≤ 1
@@ -49,8 +46,8 @@ module _ (p : OutPoint) where
       by false true e h = omega (arith, h)
       by false false e h = h
 
-  towers-funding : (holder : ℕ) (ps : List OutPoint) → towers p (map (funding holder) ps) ≡ 0
-  unfolding towers isTowerOn ownerIsTower
+  towers-funding : (holder : ℕ) (ps : List OutPoint) → towers p (map (heldBy (Owner.Funding holder)) ps) ≡ 0
+  unfolding towers isTowerOn byOwner
   towers-funding holder [] = refl
   towers-funding holder (q ∷ ps) = towers-funding holder ps
 
@@ -59,50 +56,50 @@ keep-single f l s p = let a = towers-keep p f l in let b = s p in omega arith
 
 -- ---- a renewed record
 
-on-tower : (q p : OutPoint) (end : Millis) → isTowerOn q (watchtower end p) ≡ eqPoint q p
-unfolding isTowerOn ownerIsTower
+on-tower : (q p : OutPoint) (end : Millis) → isTowerOn q (heldBy (Owner.Watchtower end) p) ≡ eqPoint q p
+unfolding isTowerOn byOwner
 on-tower q p end = refl
 
 -- a watchtower record on p stands for p: on another cell it counts as one on p does
 tower-is : (q p : OutPoint) (r : Hold) → isTowerOn p r ≡ true → isTowerOn q r ≡ eqPoint q p
-unfolding isTowerOn
-tower-is q p r e = by (ownerIsTower (r .owner)) e
+unfolding isTowerOn byOwner
+tower-is q p r e = by (r .owner) e
   where
-    by : (t : Bool) → cond t (eqPoint p (r .point)) false ≡ true → cond t (eqPoint q (r .point)) false ≡ eqPoint q p
-    by true e = ap (eqPoint q) (sym (point-same p (r .point) e))
-    by false e = absurd (false-true e)
+    by : (o : Owner) → byOwner (λ n. false) (λ end. eqPoint p (r .point)) o ≡ true → byOwner (λ n. false) (λ end. eqPoint q (r .point)) o ≡ eqPoint q p
+    by (Owner.Funding n) e = absurd (false-true e)
+    by (Owner.Watchtower end) e = ap (eqPoint q) (sym (point-same p (r .point) e))
 
-renew-other : (end : Millis) (q p : OutPoint) (l : List Hold) → eqPoint q p ≡ false → towers q (renew end l p) ≡ towers q l
+renew-other : (end : Millis) (q p : OutPoint) (l : List Hold) → eqPoint q p ≡ false → towers q (renew (isTowerOn p) (heldBy (Owner.Watchtower end) p) l) ≡ towers q l
 unfolding towers renew
 renew-other end q p [] e = rw (on-tower q p end, e)
 renew-other end q p (r ∷ l) e = by (isTowerOn p r) refl (renew-other end q p l e)
   where
-    by : (t : Bool) → isTowerOn p r ≡ t → towers q (renew end l p) ≡ towers q l
-        → towers q (cond t (watchtower end p ∷ l) (r ∷ renew end l p)) ≡ cond (isTowerOn q r) (suc (towers q l)) (towers q l)
+    by : (t : Bool) → isTowerOn p r ≡ t → towers q (renew (isTowerOn p) (heldBy (Owner.Watchtower end) p) l) ≡ towers q l
+        → towers q (cond t (heldBy (Owner.Watchtower end) p ∷ l) (r ∷ renew (isTowerOn p) (heldBy (Owner.Watchtower end) p) l)) ≡ cond (isTowerOn q r) (suc (towers q l)) (towers q l)
     by true f h = rw (tower-is q p r f, on-tower q p end)
     by false f h = ap (λ (n : ℕ). cond (isTowerOn q r) (suc n) n) h
 
-renew-same : (end : Millis) (p : OutPoint) (l : List Hold) → towers p (renew end l p) ≤ max 1 (towers p l)
+renew-same : (end : Millis) (p : OutPoint) (l : List Hold) → towers p (renew (isTowerOn p) (heldBy (Owner.Watchtower end) p) l) ≤ max 1 (towers p l)
 unfolding towers renew
 renew-same end p [] = rw (on-tower p p end, point-refl p) (omega arith)
 renew-same end p (r ∷ l) = by (isTowerOn p r) refl (renew-same end p l)
   where
-    by : (t : Bool) → isTowerOn p r ≡ t → towers p (renew end l p) ≤ max 1 (towers p l)
-        → towers p (cond t (watchtower end p ∷ l) (r ∷ renew end l p)) ≤ max 1 (cond t (suc (towers p l)) (towers p l))
+    by : (t : Bool) → isTowerOn p r ≡ t → towers p (renew (isTowerOn p) (heldBy (Owner.Watchtower end) p) l) ≤ max 1 (towers p l)
+        → towers p (cond t (heldBy (Owner.Watchtower end) p ∷ l) (r ∷ renew (isTowerOn p) (heldBy (Owner.Watchtower end) p) l)) ≤ max 1 (cond t (suc (towers p l)) (towers p l))
     by true f h = rw (on-tower p p end, point-refl p) (omega arith)
     by false f h = rw f h
 
-renew-single : (end : Millis) (p : OutPoint) (l : List Hold) → Single l → Single (renew end l p)
+renew-single : (end : Millis) (p : OutPoint) (l : List Hold) → Single l → Single (renew (isTowerOn p) (heldBy (Owner.Watchtower end) p) l)
 renew-single end p l s q = by (eqPoint q p) refl
   where
-    by : (t : Bool) → eqPoint q p ≡ t → towers q (renew end l p) ≤ 1
-    by true e = subst (λ (x : OutPoint). towers x (renew end l p) ≤ 1) (sym (point-same q p e)) (let a = renew-same end p l in let b = s p in omega arith)
+    by : (t : Bool) → eqPoint q p ≡ t → towers q (renew (isTowerOn p) (heldBy (Owner.Watchtower end) p) l) ≤ 1
+    by true e = subst (λ (x : OutPoint). towers x (renew (isTowerOn p) (heldBy (Owner.Watchtower end) p) l) ≤ 1) (sym (point-same q p e)) (let a = renew-same end p l in let b = s p in omega arith)
     by false e = let a = renew-other end q p l e in let b = s q in omega arith
 
 renew-all : (end : Millis) (ps : List OutPoint) (l : List Hold) → Single l → Single (renewAll end l ps)
 unfolding renewAll
 renew-all end [] l s = s
-renew-all end (p ∷ ps) l s = renew-all end ps (renew end l p) (renew-single end p l s)
+renew-all end (p ∷ ps) l s = renew-all end ps (renew (isTowerOn p) (heldBy (Owner.Watchtower end) p) l) (renew-single end p l s)
 
 -- ---- taken picks
 
@@ -151,15 +148,15 @@ firsts-not f p before (q ∷ l) e = by (f q) (not (has q before)) (eqPoint p q) 
     by false u b ft k x y = x
 
 none-there : (p : OutPoint) (l : List Hold) → has p (cellsOf l) ≡ false → towers p l ≡ 0
-unfolding towers has isTowerOn
+unfolding towers has isTowerOn byOwner
 none-there p [] e = refl
-none-there p (r ∷ l) e = by (eqPoint p (r .point)) (ownerIsTower (r .owner)) e (none-there p l)
+none-there p (r ∷ l) e = by (eqPoint p (r .point)) (r .owner) e (none-there p l)
   where
-    by : (b t : Bool) → cond b true (has p (cellsOf l)) ≡ false → (has p (cellsOf l) ≡ false → towers p l ≡ 0)
-        → cond (cond t b false) (suc (towers p l)) (towers p l) ≡ 0
-    by true t e ih = absurd (false-true (sym e))
-    by false true e ih = ih e
-    by false false e ih = ih e
+    by : (b : Bool) (o : Owner) → cond b true (has p (cellsOf l)) ≡ false → (has p (cellsOf l) ≡ false → towers p l ≡ 0)
+        → cond (byOwner (λ n. false) (λ end. b) o) (suc (towers p l)) (towers p l) ≡ 0
+    by true o e ih = absurd (false-true (sym e))
+    by false (Owner.Funding n) e ih = ih e
+    by false (Owner.Watchtower end) e ih = ih e
 
 -- not busy: no record is on it
 free : (left : List Hold) (spent : List OutPoint) (p : OutPoint) → isBusy left spent p ≡ false → has p (cellsOf left) ≡ false
@@ -171,16 +168,16 @@ free left spent p e = by (has p (cellsOf left)) e
     by false e = refl
 
 towers-held : (p : OutPoint) (owner : Owner) (ps : List OutPoint) → towers p (map (heldBy owner) ps) ≤ times p ps
-unfolding towers times isTowerOn
+unfolding towers times isTowerOn byOwner
 towers-held p owner [] = omega arith
-towers-held p owner (q ∷ ps) = by (ownerIsTower owner) (eqPoint p q) (towers-held p owner ps)
+towers-held p owner (q ∷ ps) = by owner (eqPoint p q) (towers-held p owner ps)
   where
-    by : (t b : Bool) → towers p (map (heldBy owner) ps) ≤ times p ps
-        → cond (cond t b false) (suc (towers p (map (heldBy owner) ps))) (towers p (map (heldBy owner) ps)) ≤ cond b (suc (times p ps)) (times p ps)
-    by true true h = omega (arith, h)
-    by true false h = h
-    by false true h = omega (arith, h)
-    by false false h = h
+    by : (o : Owner) (b : Bool) → towers p (map (heldBy owner) ps) ≤ times p ps
+        → cond (byOwner (λ n. false) (λ end. b) o) (suc (towers p (map (heldBy owner) ps))) (towers p (map (heldBy owner) ps)) ≤ cond b (suc (times p ps)) (times p ps)
+    by (Owner.Watchtower end) true h = omega (arith, h)
+    by (Owner.Watchtower end) false h = h
+    by (Owner.Funding n) true h = omega (arith, h)
+    by (Owner.Funding n) false h = h
 
 take-single : (left : List Hold) (spent picks : List OutPoint) (owner : Owner) → Single left
     → Single (left ++ map (heldBy owner) (firsts (λ p. not (isBusy left spent p)) [] picks))
@@ -202,98 +199,22 @@ take-single left spent picks owner s p = by (isBusy left spent p) refl
 
 -- ---- the calls
 
--- an answer leaves at most one on each, or the table that it was given
-abbrev Fine : Held → Outcome → Type 0
-Fine h (done l) = Single l
-Fine h (refused n g) = g ≡ h
-
-either : (h : Held) (c : Bool) (a b : Outcome) → Fine h a → Fine h b → Fine h (cond c a b)
-either h true a b g k = g
-either h false a b g k = k
-
--- the same of an answer with the lent buffers
-either₂ : (h : Held) (c : Bool) (a b : Outcome × List ℕ) → Fine h (a .0) → Fine h (b .0) → Fine h ((cond {A = Outcome × List ℕ} c a b) .0)
-either₂ h true a b g k = g
-either₂ h false a b g k = k
-
-either₃ : (h : Held) (c : Bool) (a b : Outcome × List ℕ × List ℕ) → Fine h (a .0) → Fine h (b .0) → Fine h ((cond {A = Outcome × List ℕ × List ℕ} c a b) .0)
-either₃ h true a b g k = g
-either₃ h false a b g k = k
-
--- what a call answered, read back from the table that it returned
-back : (h : Held) (r : Holds) (a : Outcome) → told r ≡ a → Fine h a → Single (recordsOf h) → Single (recordsOf (r .held))
-unfolding told outcome
-back h r a e g s = by (r .answer) (subst (Fine h) (sym e) g)
-  where
-    by : (v : Answer) → Fine h (outcome v (r .held)) → Single (recordsOf (r .held))
-    by Answer.Done g = g
-    by (Answer.Refused x) g = subst (λ (k : Held). Single (recordsOf k)) (sym g) s
-
-funding-single : (holder : ℕ) (f : Hold → Bool) (l : List Hold) (ps : List OutPoint) → Single l → Single (keep f l ++ map (funding holder) ps)
+funding-single : (holder : ℕ) (f : Hold → Bool) (l : List Hold) (ps : List OutPoint) → Single l → Single (keep f l ++ map (heldBy (Owner.Funding holder)) ps)
 funding-single holder f l ps s p =
-    let a = towers-append p (keep f l) (map (funding holder) ps) in
+    let a = towers-append p (keep f l) (map (heldBy (Owner.Funding holder)) ps) in
     let b = towers-keep p f l in
     let c = towers-funding p holder ps in
     let d = s p in
     omega arith
 
-at-most : (h : Held) (l : List Hold) → Single l → Fine h (atMost256 h l)
-unfolding atMost256
-at-most h l s = either h (leb (length l) 256) (done l) (refused 14 h) s refl
-
-hold-fine : (h : Held) (holder : ℕ) (cells : List ℕ) → Single (recordsOf h) → Fine h (holdFunding h holder cells)
-unfolding holdFunding
-hold-fine h holder cells s =
-    either h (readable OutPoints cells) (atMost256 h (keep (isNotOf holder) (recordsOf h) ++ map (funding holder) (points cells))) (refused 3 h)
-    (at-most h _ (funding-single holder (isNotOf holder) (recordsOf h) (points cells) s)) refl
-
-watch-fine : (h : Held) (cells : List ℕ) (now : Millis) → Single (recordsOf h) → Fine h (holdForWatchtower h cells now)
-unfolding holdForWatchtower
-watch-fine h cells now s =
-    either h (readable OutPoints cells) (atMost256 h (renewAll (later now (record { 0 = 1800000 })) (recordsOf h) (points cells))) (refused 3 h)
-    (at-most h _ (renew-all (later now (record { 0 = 1800000 })) (points cells) (recordsOf h) s)) refl
-
-release-fine : (h : Held) (cells : List ℕ) → Single (recordsOf h) → Fine h (releaseForWatchtower h cells)
-unfolding releaseForWatchtower
-release-fine h cells s =
-    either h (readable OutPoints cells) (done (keep (isUnnamed (points cells)) (recordsOf h))) (refused 3 h) (keep-single (isUnnamed (points cells)) (recordsOf h) s) refl
-
-locked-fine : (h : Held) (now : Millis) (out : List ℕ) → Single (recordsOf h) → Fine h (lockHeld h now out .0)
-unfolding lockHeld
-locked-fine h now out s =
-    let left : List Hold = keep (isLive now) (recordsOf h) in
-    either₂ h (hasRoom (cellsOf left) out) (done left, written (cellsOf left) out) (refused 13 h, out) (keep-single (isLive now) (recordsOf h) s) refl
-
-from-fine : (h : Held) (left : List Hold) (picks spent : List OutPoint) (owner : Owner) (out₁ out₂ : List ℕ) → Single left
-    → Fine h (takeFrom h left picks spent owner out₁ out₂ .0)
-unfolding takeFrom
-from-fine h left picks spent owner out₁ out₂ s =
-    let taken : List OutPoint = firsts (λ (p : OutPoint). not (isBusy left spent p)) [] picks in
-    let rest : List OutPoint = others (λ (p : OutPoint). not (isBusy left spent p)) [] picks in
-    let all : Outcome × List ℕ × List ℕ = (done (left ++ map (heldBy owner) taken), written taken out₁, written rest out₂) in
-    let few : Outcome × List ℕ × List ℕ = cond (leb (length left + length taken) 256) all (refused 14 h, out₁, out₂) in
-    let room : Outcome × List ℕ × List ℕ = cond (hasRoom rest out₂) few (refused 13 h, out₁, out₂) in
-    either₃ h (hasRoom taken out₁) room (refused 13 h, out₁, out₂)
-    (either₃ h (hasRoom rest out₂) few (refused 13 h, out₁, out₂)
-    (either₃ h (leb (length left + length taken) 256) all (refused 14 h, out₁, out₂) (take-single left spent picks owner s) refl) refl) refl
-
-take-fine : (h : Held) (picked spent : List ℕ) (taker : Taker) (now : Millis) (out₁ out₂ : List ℕ) → Single (recordsOf h)
-    → Fine h (takeCells h picked spent taker now out₁ out₂ .0)
-unfolding takeCells
-take-fine h picked spent taker now out₁ out₂ s =
-    let a : Outcome × List ℕ × List ℕ = takeFrom h (keep (isLive now) (recordsOf h)) (points picked) (points spent) (ownerFor taker now) out₁ out₂ in
-    let b : Outcome × List ℕ × List ℕ = cond (readable OutPoints spent) a (refused 3 h, out₁, out₂) in
-    either₃ h (readable OutPoints picked) b (refused 3 h, out₁, out₂)
-    (either₃ h (readable OutPoints spent) a (refused 3 h, out₁, out₂)
-    (from-fine h (keep (isLive now) (recordsOf h)) (points picked) (points spent) (ownerFor taker now) out₁ out₂ (keep-single (isLive now) (recordsOf h) s)) refl) refl
-
 step : {g h : Held} → Called g h → Single (recordsOf g) → Single (recordsOf h)
-step (run.hold {h} r holder cells e) s = back h r _ e (hold-fine h holder cells s) s
-step (run.watch {h} r cells now e) s = back h r _ e (watch-fine h cells now s) s
-step (run.release {h} r cells e) s = back h r _ e (release-fine h cells s) s
-step (run.locked {h} r now out after e) s = back h r _ (ap (λ (x : Outcome × List ℕ). x .0) e) (locked-fine h now out s) s
+step (run.hold {h} r holder cells e) s = back Single h r _ e (hold-fine Single h holder cells (funding-single holder (isNotOf holder) (recordsOf h) (points cells) s)) s
+step (run.watch {h} r cells now e) s = back Single h r _ e (watch-fine Single h cells now (renew-all (later now (record { 0 = 1800000 })) (points cells) (recordsOf h) s)) s
+step (run.release {h} r cells e) s = back Single h r _ e (release-fine Single h cells (keep-single (isUnnamed (points cells)) (recordsOf h) s)) s
+step (run.locked {h} r now out after e) s = back Single h r _ (ap (λ (x : After × List ℕ). x .0) e) (locked-fine Single h now out (keep-single (isLive now) (recordsOf h) s)) s
 step (run.take {h} r picked spent taker now out₁ out₂ after₁ after₂ e) s =
-    back h r _ (ap (λ (x : Outcome × List ℕ × List ℕ). x .0) e) (take-fine h picked spent taker now out₁ out₂ s) s
+    back Single h r _ (ap (λ (x : After × List ℕ × List ℕ). x .0) e)
+    (take-fine Single h picked spent taker now out₁ out₂ (take-single (unended h now) (points spent) (points picked) (ownerFor taker now) (keep-single (isLive now) (recordsOf h) s))) s
 
 single : {h : Held} → Reached h → Single (recordsOf h)
 unfolding towers

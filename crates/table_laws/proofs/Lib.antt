@@ -1,3 +1,4 @@
+pub mod Calls
 pub mod Exclusions
 pub mod Holds
 pub mod Stands

@@ -9,9 +9,13 @@ use Rattle.units.specs.declared.{Millis.Millis}
 use Rattle.out_points.specs.declared.{OutPoint.OutPoint}
 use Rattle.out_points.specs.OutPoints.{eqPoint, has}
 use Rattle.out_points.proofs.EqualLaws.{point-same, point-refl}
-use Rattle.held_cells.specs.declared.{Owner.Owner, Hold.Hold}
-use Rattle.held_cells.specs.Held.{keep, watchtower, heldBy, isLive, isTowerOn, renew, cellsOf, isBusy, firsts}
+use Rattle.out_points.specs.Tables.{keep, renew}
+use Rattle.hold_records.specs.declared.{Owner.Owner, Hold.Hold}
+use Rattle.hold_records.specs.Holds.{heldBy, isLive, isTowerOn, cellsOf, isBusy, firsts}
 use Rattle.table_laws.proofs.Holds.{busy-not-given}
+
+abbrev tower : Millis → OutPoint → Hold
+tower t q = heldBy (Owner.Watchtower t) q
 
 pub data Stands (r : Hold) : List Hold → Type 0 where
   here : (l : List Hold) → Stands r (r ∷ l)
@@ -32,24 +36,24 @@ pub stands-append : (r : Hold) (l m : List Hold) → Stands r l → Stands r (l 
 stands-append r l m (here k) = here (k ++ m)
 stands-append r l m (there x k s) = there x (k ++ m) (stands-append r k m s)
 
-pub stands-renew : (t : Millis) (r : Hold) (l : List Hold) (q : OutPoint) → isTowerOn q r ≡ false → Stands r l → Stands r (renew t l q)
+pub stands-renew : (t : Millis) (r : Hold) (l : List Hold) (q : OutPoint) → isTowerOn q r ≡ false → Stands r l → Stands r (renew (isTowerOn q) (tower t q) l)
 unfolding renew
-stands-renew t r l q h (here k) = rw h (here (renew t k q))
+stands-renew t r l q h (here k) = rw h (here (renew (isTowerOn q) (tower t q) k))
 stands-renew t r l q h (there x k s) = by (isTowerOn q x) (stands-renew t r k q h s)
   where
-    by : (b : Bool) → Stands r (renew t k q) → Stands r (cond b (watchtower t q ∷ k) (x ∷ renew t k q))
-    by true n = there (watchtower t q) k s
-    by false n = there x (renew t k q) n
+    by : (b : Bool) → Stands r (renew (isTowerOn q) (tower t q) k) → Stands r (cond b (tower t q ∷ k) (x ∷ renew (isTowerOn q) (tower t q) k))
+    by true n = there (tower t q) k s
+    by false n = there x (renew (isTowerOn q) (tower t q) k) n
 
 -- the renewed one stands in its place
-pub renewed-stands : (t : Millis) (l : List Hold) (q : OutPoint) → Stands (watchtower t q) (renew t l q)
+pub renewed-stands : (t : Millis) (l : List Hold) (q : OutPoint) → Stands (tower t q) (renew (isTowerOn q) (tower t q) l)
 unfolding renew
 renewed-stands t [] q = here []
 renewed-stands t (x ∷ l) q = by (isTowerOn q x) (renewed-stands t l q)
   where
-    by : (b : Bool) → Stands (watchtower t q) (renew t l q) → Stands (watchtower t q) (cond b (watchtower t q ∷ l) (x ∷ renew t l q))
+    by : (b : Bool) → Stands (tower t q) (renew (isTowerOn q) (tower t q) l) → Stands (tower t q) (cond b (tower t q ∷ l) (x ∷ renew (isTowerOn q) (tower t q) l))
     by true n = here l
-    by false n = there x (renew t l q) n
+    by false n = there x (renew (isTowerOn q) (tower t q) l) n
 
 -- ---- what `take` gave stands
 

@@ -6,17 +6,18 @@ use mathlib.Core.List.{List, [], _∷_, _++_, map}
 use Rattle.units.specs.declared.Millis.{Millis}
 use Rattle.out_points.specs.declared.OutPoint.{OutPoint}
 use Rattle.out_points.specs.OutPoints.{has}
-use Rattle.held_cells.specs.declared.{Owner.Owner, Hold.Hold, Held.Held, Holds.Holds, Taker.Taker}
-use Rattle.held_cells.specs.Held.{recordsOf, told, isTowerOn, holdFunding, releaseForWatchtower, holdForWatchtower, lockHeld, takeCells, keep, isLive, cellsOf, isBusy, firsts, heldBy}
+use Rattle.out_points.specs.Tables.{keep, told}
+use Rattle.hold_records.specs.declared.{Owner.Owner, Hold.Hold, Held.Held, Holds.Holds, Taker.Taker}
+use Rattle.hold_records.specs.Holds.{recordsOf, isTowerOn, holdFunding, releaseForWatchtower, holdForWatchtower, lockHeld, takeCells, isLive, cellsOf, isBusy, firsts, heldBy}
 
 -- from one table to the next by a call; `unavailable` changes none
 pub data Called : Held → Held → Type 0 where
-  hold : {h : Held} (r : Holds) (holder : ℕ) (cells : List ℕ) → told r ≡ holdFunding h holder cells → Called h (r .held)
-  watch : {h : Held} (r : Holds) (cells : List ℕ) (now : Millis) → told r ≡ holdForWatchtower h cells now → Called h (r .held)
-  release : {h : Held} (r : Holds) (cells : List ℕ) → told r ≡ releaseForWatchtower h cells → Called h (r .held)
-  locked : {h : Held} (r : Holds) (now : Millis) (out after : List ℕ) → (told r, after) ≡ lockHeld h now out → Called h (r .held)
+  hold : {h : Held} (r : Holds) (holder : ℕ) (cells : List ℕ) → told recordsOf (r .answer) (r .held) ≡ holdFunding h holder cells → Called h (r .held)
+  watch : {h : Held} (r : Holds) (cells : List ℕ) (now : Millis) → told recordsOf (r .answer) (r .held) ≡ holdForWatchtower h cells now → Called h (r .held)
+  release : {h : Held} (r : Holds) (cells : List ℕ) → told recordsOf (r .answer) (r .held) ≡ releaseForWatchtower h cells → Called h (r .held)
+  locked : {h : Held} (r : Holds) (now : Millis) (out after : List ℕ) → (told recordsOf (r .answer) (r .held), after) ≡ lockHeld h now out → Called h (r .held)
   take : {h : Held} (r : Holds) (picked spent : List ℕ) (taker : Taker) (now : Millis) (out₁ out₂ after₁ after₂ : List ℕ)
-      → (told r, after₁, after₂) ≡ takeCells h picked spent taker now out₁ out₂ → Called h (r .held)
+      → (told recordsOf (r .answer) (r .held), after₁, after₂) ≡ takeCells h picked spent taker now out₁ out₂ → Called h (r .held)
 
 -- the tables that calls reach from an empty one
 pub data Reached : Held → Type 0 where

@@ -1,12 +1,13 @@
 use Prim.Native.Nat.{_-_}
-use Rattle.held_cells.specs.Held.{funding}
-use Rattle.held_cells.proofs.LoopLaws.{Adding}
+use Rattle.hold_records.specs.declared.{Owner.Owner}
+use Rattle.hold_records.specs.Holds.{heldBy}
+use Rattle.held_cells.proofs.AddLaws.{Adding}
 use Rattle.held_cells.proofs.Ways.{ways}
 use Rattle.held_cells.proofs.append.Statement.{statement}
 use Rattle.held_cells.proofs.append.Tie as tie
 
 abbrev Inv-loop : tie.InvT-loop
-Inv-loop holder cells n g₀ i₀ g i = Adding (funding holder) cells g₀ g n i
+Inv-loop holder cells n g₀ i₀ g i = Adding (heldBy (Owner.Funding holder)) cells g₀ g n i
 
 abbrev μ-loop : tie.MeasureT-loop
 μ-loop holder cells n g₀ i₀ g i = n - i

@@ -7,7 +7,7 @@ hold-for-watchtower-spec =
     tie.close
     (tie.spec
     (λ c κs. search ways)  -- is-out-points-requires
-    (λ c κs. search ways)  -- refused-requires
+    (λ c κs. search ways)  -- refuse-requires
     (λ c. search ways)  -- returns
     (λ c κs. search ways)  -- saturating-add-requires
     (λ c κs. search ways)  -- renew-all-requires

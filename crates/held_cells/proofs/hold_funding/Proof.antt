@@ -7,13 +7,13 @@ hold-funding-spec =
     tie.close
     (tie.spec
     (λ c κs. search ways)  -- is-out-points-requires
-    (λ c κs. search ways)  -- refused-requires
+    (λ c κs. search ways)  -- refuse-requires
     (λ c. search ways)  -- returns
     (λ c κs. search ways)  -- keep-requires
     (λ c κs. search ways)  -- fix-count-requires
     (λ c. search ways)  -- cast-n
     (λ c. search ways)  -- sub-if2
-    (λ c κs. search ways)  -- refused-requires-2
+    (λ c κs. search ways)  -- refuse-requires-2
     (λ c. search ways)  -- returns-2
     (λ c κs. search ways)  -- append-requires
     (λ c κs. search ways)  -- done-requires

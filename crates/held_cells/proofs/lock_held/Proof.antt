@@ -7,11 +7,10 @@ lock-held-spec =
     tie.close
     (tie.spec
     (λ c κs. search ways)  -- keep-requires
-    (λ c. search ways)  -- mul-if1
-    (λ c. search ways)  -- add-if1
-    (λ c κs. search ways)  -- refused-requires
-    (λ c. search ways)  -- returns
     (λ c κs. search ways)  -- put-cells-requires
-    (λ c κs. search ways)  -- done-requires
+    (λ c κs. search ways)  -- refuse-requires
     (λ c. search ways)  -- same-length
+    (λ c. search ways)  -- returns
+    (λ c κs. search ways)  -- done-requires
+    (λ c. search ways)  -- same-length-2
     (λ c. search ways))  -- returns-2

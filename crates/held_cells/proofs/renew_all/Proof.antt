@@ -22,7 +22,7 @@ renew-all-spec =
     (λ c. search ways)  -- loop-holds
     (λ c κs. search ways)  -- point-of-requires
     (λ c κs. search ways)  -- tower-place-requires
-    (λ c κs. search ways)  -- refused-requires
+    (λ c κs. search ways)  -- refuse-requires
     (λ c. search ways)  -- returns
     (λ c. search ways)  -- mul-t16
     (λ c. search ways)  -- element-set-from-g

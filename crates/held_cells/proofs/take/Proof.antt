@@ -14,7 +14,7 @@ take-spec =
     (λ c. search ways)  -- returns-2
     (λ c κs. search ways)  -- keep-requires
     (λ c κs. search ways)  -- owner-for-requires
-    (λ c κs. search ways)  -- take-live-requires
+    (λ c κs. search ways)  -- take-from-requires
     (λ c. search ways)  -- same-length
     (λ c. search ways)  -- same-length-2
     (λ c. search ways))  -- returns-3

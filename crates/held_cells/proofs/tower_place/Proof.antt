@@ -1,5 +1,5 @@
 use Prim.Native.Nat.{_-_}
-use Rattle.held_cells.specs.Held.{recordsOf}
+use Rattle.hold_records.specs.Holds.{recordsOf}
 use Rattle.held_cells.specs.Places.{placeOf}
 use Rattle.held_cells.proofs.RenewLaws.{Placing}
 use Rattle.held_cells.proofs.Ways.{ways}

@@ -11,12 +11,8 @@ unavailable-spec =
     (λ c κs. search ways)  -- is-out-points-requires-2
     (λ c. search ways)  -- returns-2
     (λ c κs. search ways)  -- keep-requires
-    (λ c κs. search ways)  -- count-busy-requires
-    (λ c. search ways)  -- cast-w
-    (λ c. search ways)  -- mul-if3
-    (λ c. search ways)  -- add-if3
-    (λ c. search ways)  -- returns-3
-    (λ c κs. search ways)  -- put-u32-requires
-    (λ c κs. search ways)  -- put-busy-requires
+    (λ c κs. search ways)  -- put-unavailable-requires
     (λ c. search ways)  -- same-length
+    (λ c. search ways)  -- returns-3
+    (λ c. search ways)  -- same-length-2
     (λ c. search ways))  -- returns-4

@@ -1,7 +1,7 @@
 use Prim.Native.Nat.{_-_}
 use Rattle.out_points.specs.OutPoints.{points}
-use Rattle.held_cells.specs.Held.{isUnnamed}
-use Rattle.held_cells.proofs.LoopLaws.{Keeping}
+use Rattle.hold_records.specs.Holds.{isUnnamed}
+use Rattle.hold_records.proofs.LoopLaws.{Keeping}
 use Rattle.held_cells.proofs.Ways.{ways}
 use Rattle.held_cells.proofs.without.Statement.{statement}
 use Rattle.held_cells.proofs.without.Tie as tie

@@ -1,9 +1,0 @@
-use Rattle.held_cells.proofs.Ways.{ways}
-use Rattle.held_cells.proofs.empty.Statement.{statement}
-use Rattle.held_cells.proofs.empty.Tie as tie
-
-pub empty-spec : {M : Type 1} → statement M
-empty-spec =
-    tie.close
-    (tie.spec
-    (λ c. search ways))  -- returns

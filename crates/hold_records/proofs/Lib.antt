@@ -1,0 +1,5 @@
+pub mod ListLaws
+pub mod LoopLaws
+pub mod TestLaws
+pub mod Ways
+pub mod WriteLaws

@@ -1,0 +1,140 @@
+-- Picks: the code tests each by its index, the definitions by what came before.
+use mathlib.Core.Path.{_≡_, refl, sym, ap, ap₂, _∙_}
+use Prim.Native.Nat.{ℕ, zero, suc, _+_, _-_, _*_, _≤_, _<_, min}
+use native.Mathlib.Nat.{zero-add}
+use native.Mathlib.Omega.{arith}
+use borrow.Author.Tests.{not-true, not-false}
+use mathlib.Core.Bool.{Bool, true, false, not, _||_, cond}
+use mathlib.Core.List.{List, [], _∷_, _++_, map}
+use lib.ListN.{length, getD, take, drop}
+use Rattle.arithmetic.specs.LittleEndian.{toLe}
+use Rattle.molecule.specs.Layout.{span, fixCount}
+use Rattle.molecule.specs.Write.{putAt, putEnd, Put}
+use Rattle.out_points.specs.declared.{OutPoint.OutPoint}
+use Rattle.out_points.specs.OutPoints.{eqPoint, has, pointOf, points, pointBytes, bytesOf}
+use Rattle.out_points.proofs.EqualLaws.{point-same, point-refl}
+use Rattle.hold_records.specs.declared.{Held.Held}
+use Rattle.hold_records.specs.Holds.{recordsOf, isBusy, firsts}
+use Rattle.picks.specs.Places.{asked, isFirst, select}
+use Rattle.out_points.specs.Tables.{hasRoom}
+use Rattle.hold_records.specs.Rules.{putIf}
+use Rattle.hold_records.proofs.WriteLaws.{Listing, list-start, list-more, list-end, list-long, room-no, room-yes, put-no, put-yes, behind-length, list-put}
+use Rattle.picks.proofs.FirstLaws.{firsts-select}
+
+pub asked-yes : {w b c : Bool} → b ≡ c → w ≡ true → b ≡ asked w c
+unfolding asked
+asked-yes {w} {b} {c} e t = e ∙ sym (ap (λ (x : Bool). asked x c) t)
+
+pub asked-no : {w b c : Bool} → b ≡ c → w ≡ false → not b ≡ asked w c
+unfolding asked
+asked-no {w} {b} {c} e t = ap not e ∙ sym (ap (λ (x : Bool). asked x c) t)
+
+module _ (f : OutPoint → Bool) (g : ℕ → OutPoint) (i : ℕ) {p : OutPoint} {a : Bool} (ep : p ≡ g i) (ea : a ≡ f p) where
+  pub first-no : not a ≡ true → false ≡ isFirst f g i
+  unfolding isFirst
+  first-no t = rw (← ep, ← ea, not-true a t)
+
+  pub first-yes : {b : Bool} → not a ≡ false → b ≡ has p (span g 0 i) → not b ≡ isFirst f g i
+  unfolding isFirst
+  first-yes t e = rw (← ep, ← ea, not-false a t, e)
+
+-- ---- what `select` picks out
+
+module _ (f : OutPoint → Bool) (g : ℕ → OutPoint) where
+  pub select-yes : (i n : ℕ) → i < n → isFirst f g i ≡ true → select f g i (n - i) ≡ g i ∷ select f g (i + 1) (n - (i + 1))
+  unfolding select
+  select-yes i n h t =
+      let e : n - i ≡ suc (n - (i + 1)) = omega arith in
+      let z : suc i ≡ i + 1 = omega arith in
+      ap (select f g i) e ∙ rw (t, z)
+
+  pub select-no : (i n : ℕ) → i < n → isFirst f g i ≡ false → select f g i (n - i) ≡ select f g (i + 1) (n - (i + 1))
+  unfolding select
+  select-no i n h t =
+      let e : n - i ≡ suc (n - (i + 1)) = omega arith in
+      let z : suc i ≡ i + 1 = omega arith in
+      ap (select f g i) e ∙ rw (t, z)
+
+  pub select-end : (i n : ℕ) → n ≤ i → select f g i (n - i) ≡ []
+  unfolding select
+  select-end i n h = let e : n - i ≡ 0 = omega arith in ap (select f g i) e
+
+  pub select-whole : (n : ℕ) → select f g 0 n ≡ select f g 0 (n - 0)
+  select-whole n = let e : n ≡ n - 0 = omega arith in ap (select f g 0) e
+
+-- ---- counted
+
+pub record Counting (f : OutPoint → Bool) (g : ℕ → OutPoint) (n i count R : ℕ) : Type 0 where
+  pub within : i ≤ n
+  pub below : count ≤ i
+  pub rest : R ≡ count + length (select f g i (n - i))
+
+pub count-start : (f : OutPoint → Bool) (g : ℕ → OutPoint) {n m : ℕ} → n ≡ m → Counting f g n 0 0 (length (select f g 0 m))
+count-start f g {n} e = record { within = omega arith; below = omega arith; rest = rw (← e) (ap length (select-whole f g n) ∙ sym (zero-add (length (select f g 0 (n - 0))))) }
+
+module _ {f : OutPoint → Bool} {g : ℕ → OutPoint} {n i count R : ℕ} (k : Counting f g n i count R) where
+  pub count-yes : {b : Bool} → i < n → b ≡ isFirst f g i → b ≡ true → Counting f g n (i + 1) (count + 1) R
+  count-yes l e t = let b = k .below in record { within = omega arith; below = omega arith; rest = omega (arith, k .rest, ap length (select-yes f g i n l (sym e ∙ t))) }
+
+  pub count-no : {b : Bool} → i < n → b ≡ isFirst f g i → b ≡ false → Counting f g n (i + 1) count R
+  count-no l e t = let b = k .below in record { within = omega arith; below = omega arith; rest = omega (arith, k .rest, ap length (select-no f g i n l (sym e ∙ t))) }
+
+  pub count-end : n ≤ i → count ≡ R
+  count-end l = omega (arith, k .rest, ap length (select-end f g i n l))
+
+-- ---- put, one after the other
+
+pub record Naming (f : OutPoint → Bool) (g : ℕ → OutPoint) (n m i : ℕ) (out₀ : List ℕ) (at₀ : ℕ) (out : List ℕ) (at : ℕ) : Type 0 where
+  pub listing : Listing (select f g 0 m) (select f g i (n - i)) out₀ at₀ out at
+
+pub name-start : (f : OutPoint → Bool) (g : ℕ → OutPoint) {n m : ℕ} (out : List ℕ) (at : ℕ) → n ≡ m → at + 36 * length (select f g 0 m) ≤ length out → Naming f g n m 0 out at out at
+name-start f g {n} {m} out at e room =
+    let l : Listing (select f g 0 m) (select f g 0 m) out at out at = list-start (select f g 0 m) out at room in
+    let q : select f g 0 m ≡ select f g 0 (n - 0) = ap (select f g 0) (sym e) ∙ select-whole f g n in
+    record { listing = go q l }
+  where
+    go : {x y : List OutPoint} {o₀ o : List ℕ} {a₀ a : ℕ} {all : List OutPoint} → x ≡ y → Listing all x o₀ a₀ o a → Listing all y o₀ a₀ o a
+    go e l = rw e at l
+
+module _ {f : OutPoint → Bool} {g : ℕ → OutPoint} {n m i : ℕ} {out₀ : List ℕ} {at₀ : ℕ} {out : List ℕ} {at : ℕ} (k : Naming f g n m i out₀ at₀ out at) where
+  pub name-yes : {b : Bool} {p : OutPoint} {o : List ℕ} {a : ℕ} → i < n → b ≡ isFirst f g i → b ≡ true → p ≡ g i → o ≡ putAt out at (pointBytes p) → a ≡ putEnd out at (pointBytes p) → Naming f g n m (i + 1) out₀ at₀ o a
+  name-yes l e t ep eo ea = record { listing = list-more (g i) (rw (select-yes f g i n l (sym e ∙ t)) at (k .listing)) (rw ep at eo) (rw ep at ea) }
+
+  pub name-no : {b : Bool} → i < n → b ≡ isFirst f g i → b ≡ false → Naming f g n m (i + 1) out₀ at₀ out at
+  name-no l e t = record { listing = rw (select-no f g i n l (sym e ∙ t)) at (k .listing) }
+
+  pub name-end : n ≤ i → Put out₀ at₀ (bytesOf (select f g 0 m)) out at
+  name-end l = list-end (rw (select-end f g i n l) at (k .listing))
+
+  pub name-long : length out ≡ length out₀
+  name-long = list-long (k .listing)
+
+-- ---- put_unavailable
+
+module _ (h : Held) (picked spent out : List ℕ) {n : ℕ} (en : n ≡ length (select (λ p. asked true (isBusy (recordsOf h) (points spent) p)) (pointOf picked) 0 (fixCount picked))) where
+  abbrev named : List OutPoint
+  named = firsts (isBusy (recordsOf h) (points spent)) [] (points picked)
+
+  named-is : select (λ p. asked true (isBusy (recordsOf h) (points spent) p)) (pointOf picked) 0 (fixCount picked) ≡ named
+  unfolding asked
+  named-is = sym (firsts-select (isBusy (recordsOf h) (points spent)) (pointOf picked) (fixCount picked))
+
+  counted : n ≡ length named
+  counted = en ∙ ap length named-is
+
+  pub named-short : length out < 4 + 36 * n → false ≡ hasRoom (firsts (isBusy (recordsOf h) (points spent)) [] (points picked)) out
+  named-short s = room-no named out counted s
+
+  pub named-kept : length out < 4 + 36 * n → out ≡ putIf (firsts (isBusy (recordsOf h) (points spent)) [] (points picked)) out
+  named-kept s = put-no named out (named-short s)
+
+  module _ (room : 4 + 36 * n ≤ length out) where
+    pub named-fit : true ≡ hasRoom (firsts (isBusy (recordsOf h) (points spent)) [] (points picked)) out
+    named-fit = room-yes named out counted room
+
+    pub named-written : {o₁ o₂ : List ℕ} {at c : ℕ} → o₁ ≡ putAt out 0 (toLe 4 n) → at ≡ putEnd out 0 (toLe 4 n)
+        → Put o₁ at (bytesOf (select (λ p. asked true (isBusy (recordsOf h) (points spent) p)) (pointOf picked) 0 (fixCount picked))) o₂ c
+        → o₂ ≡ putIf (firsts (isBusy (recordsOf h) (points spent)) [] (points picked)) out
+    named-written {o₁} {o₂} {at} {c} e f p =
+        let q : Put o₁ at (bytesOf named) o₂ c = rw named-is at p in
+        list-put named out counted room e f q ∙ sym (put-yes named out named-fit)

@@ -1,0 +1,41 @@
+use Prim.Native.Nat.{_-_}
+use mathlib.Core.Bool.{true, false}
+use Rattle.molecule.specs.Layout.{fixCount}
+use Rattle.out_points.specs.OutPoints.{pointOf, points}
+use Rattle.hold_records.specs.Holds.{recordsOf, isBusy}
+use Rattle.picks.specs.Places.{asked}
+use Rattle.picks.proofs.TakeLaws.{Tallying}
+use Rattle.picks.proofs.Ways.{ways}
+use Rattle.picks.proofs.tally.Statement.{statement}
+use Rattle.picks.proofs.tally.Tie as tie
+
+abbrev Inv-loop : tie.InvT-loop
+Inv-loop h picked spent owner n from g₀ count₀ i₀ g count i = Tallying owner (λ p. asked false (isBusy (recordsOf h) (points spent) p)) (pointOf picked) (fixCount picked) h g n i count
+
+abbrev μ-loop : tie.MeasureT-loop
+μ-loop h picked spent owner n from g₀ count₀ i₀ g count i = n - i
+
+pub tally-spec : {M : Type 1} → statement M
+tally-spec =
+    tie.close
+    (tie.spec
+    Inv-loop
+    μ-loop
+    (λ c κs. search ways)  -- fix-count-requires
+    (λ c. search ways)  -- cast-n
+    (λ c κs. search ways)  -- used-requires
+    (λ c. search ways)  -- loop-holds
+    (λ c. search ways)  -- add-i
+    (λ c κs. search ways)  -- first-requires
+    (λ c. search ways)  -- add-count
+    (λ c κs. search ways)  -- point-of-requires
+    (λ c. search ways)  -- mul-t18
+    (λ c. search ways)  -- element-set-from-g
+    (λ c. search ways)  -- add-g
+    (λ c. search ways)  -- loop-less
+    (λ c. search ways)  -- loop-again
+    (λ c. search ways)  -- loop-less-2
+    (λ c. search ways)  -- loop-again-2
+    (λ c. search ways)  -- loop-less-3
+    (λ c. search ways)  -- loop-again-3
+    (λ c. search ways))  -- returns

@@ -1,0 +1,209 @@
+// Picks against a table of holds: which are busy and which are free, each counted once, and what `take` and `unavailable` make of them.
+use error::Refusal;
+use hold_records::Held;
+use hold_records::Hold;
+use hold_records::Holds;
+use hold_records::Owner;
+use molecule::write;
+use out_points::OutPoint;
+ghost use mathlib.Core.Path.{_≡_};
+ghost use mathlib.Core.Bool.{true, false};
+ghost use mathlib.Core.List.{[]};
+ghost use Prim.Native.Nat.{_+_, _*_, _≤_};
+ghost use lib.ListN.{length, drop};
+ghost use Rattle.molecule.specs.Layout.{fixCount};
+ghost use Rattle.molecule.specs.Write.{Put};
+ghost use Rattle.out_points.specs.OutPoints.{pointOf, points, bytesOf};
+ghost use Rattle.out_points.specs.Tables.{told, hasRoom, written};
+ghost use Rattle.hold_records.specs.Holds.{recordsOf, cellsOf, isBusy, firsts};
+ghost use Rattle.hold_records.specs.Rules.{putIf};
+ghost use Rattle.picks.specs.Places.{asked, isFirst, select, Tallied, headIs, unmatched, takeFrom};
+
+const MOST: usize = 256;
+
+// Whether p is busy, or whether it is free, as wanted.
+fn passes(h: Held, spent: &[u8], want: bool, p: OutPoint) -> bool
+    ensures { λ r. ⌜ r ≡ asked want (isBusy (recordsOf h) (points (now (spent .entry))) p) ⌝ }
+{
+    let b = hold_records::busy(h, spent, p);
+    if want {
+        return b;
+    }
+    !b
+}
+
+// Whether pick i passes, and no pick before it is the same.
+fn first(h: Held, picked: &[u8], spent: &[u8], want: bool, i: usize) -> bool
+    ensures { λ r. ⌜ r ≡ isFirst (λ p. asked want (isBusy (recordsOf h) (points (now (spent .entry))) p)) (pointOf (now (picked .entry))) i ⌝ }
+{
+    let p = out_points::point_of(picked, i);
+    if !passes(h, spent, want, p) {
+        return false;
+    }
+    !out_points::has_before(picked, i, p)
+}
+
+// How many picks are busy, each counted once.
+fn count_busy(h: Held, picked: &[u8], spent: &[u8]) -> u32
+    ensures { λ r. ⌜ r ≡ length (select (λ p. asked true (isBusy (recordsOf h) (points (now (spent .entry))) p)) (pointOf (now (picked .entry))) 0 (fixCount (now (picked .entry)))) ⌝ }
+{
+    let n = molecule::fix_count(picked) as usize;
+    let mut count: u32 = 0;
+    let mut i: usize = 0;
+    while i < n {
+        let k = i;
+        i += 1;
+        if first(h, picked, spent, true, k) {
+            count += 1;
+        }
+    }
+    count
+}
+
+// Puts those picks, one after the other from `at` on.
+fn put_busy(h: Held, picked: &[u8], spent: &[u8], out: &mut [u8], at: usize) -> usize
+    requires { ⌜ at + 36 * length (select (λ p. asked true (isBusy (recordsOf h) (points (now spent)) p)) (pointOf (now picked)) 0 (fixCount (now picked))) ≤ length (now out) ⌝ }
+    ensures { λ r. ⌜ Put (now (out .entry)) at (bytesOf (select (λ p. asked true (isBusy (recordsOf h) (points (now (spent .entry))) p)) (pointOf (now (picked .entry))) 0 (fixCount (now (picked .entry))))) (now (out .exit)) r ⌝ }
+{
+    let n = molecule::fix_count(picked) as usize;
+    let mut to = at;
+    let mut i: usize = 0;
+    while i < n {
+        let k = i;
+        i += 1;
+        if first(h, picked, spent, true, k) {
+            let p = out_points::point_of(picked, k);
+            to = out_points::put_out_point(out, to, p);
+        }
+    }
+    to
+}
+
+// Puts the list of the busy picks at the start of out, and answers whether there is room for all of it: else it puts nothing.
+pub fn put_unavailable(h: Held, picked: &[u8], spent: &[u8], out: &mut [u8]) -> bool
+    ensures { λ r. ⌜ r ≡ hasRoom (firsts (isBusy (recordsOf h) (points (now (spent .entry)))) [] (points (now (picked .entry)))) (now (out .entry)) ⌝ }
+    ensures { λ _. ⌜ now (out .exit) ≡ putIf (firsts (isBusy (recordsOf h) (points (now (spent .entry)))) [] (points (now (picked .entry)))) (now (out .entry)) ⌝ }
+{
+    let n = count_busy(h, picked, spent);
+    let w = n as usize;
+    if out.len() < 4 + 36 * w {
+        return false;
+    }
+    let at = write::put_u32(out, 0, n);
+    put_busy(h, picked, spent, out, at);
+    true
+}
+
+// How many picks are taken, and the table with a record for each, as far as there is room.
+struct Taken {
+    held: Held,
+    count: u32,
+}
+
+fn tally(h: Held, picked: &[u8], spent: &[u8], owner: Owner) -> Taken
+    ensures { λ r. ⌜ Tallied owner (select (λ p. asked false (isBusy (recordsOf h) (points (now (spent .entry))) p)) (pointOf (now (picked .entry))) 0 (fixCount (now (picked .entry)))) h (r .held) (r .count) ⌝ }
+{
+    let n = molecule::fix_count(picked) as usize;
+    let from = hold_records::used(h.count);
+    let mut g = h;
+    g.count = from;
+    let mut count: u32 = 0;
+    let mut i: usize = 0;
+    while i < n {
+        let k = i;
+        i += 1;
+        if first(h, picked, spent, false, k) {
+            count += 1;
+            let last = g.count;
+            if last < MOST {
+                let point = out_points::point_of(picked, k);
+                g.records[last] = Hold { point, owner };
+                g.count = last + 1;
+            }
+        }
+    }
+    Taken { held: g, count }
+}
+
+// Whether p is the cell of record k.
+fn is_cell(h: Held, k: usize, p: OutPoint) -> bool
+    ensures { λ r. ⌜ r ≡ headIs p (cellsOf (drop k (recordsOf h))) ⌝ }
+{
+    let n = hold_records::used(h.count);
+    if n <= k {
+        return false;
+    }
+    let x = h.records[k];
+    let q = x.point;
+    out_points::same_point(p, q)
+}
+
+// Puts the picks that were not taken, one after the other from `at` on: the records from `from` on are the taken ones, in pick order.
+fn put_rest(g: Held, from: usize, picked: &[u8], out: &mut [u8], at: usize) -> usize
+    requires { ⌜ (from ≤ 256) × (at + 36 * length (unmatched (cellsOf (drop from (recordsOf g))) (points (now picked))) ≤ length (now out)) ⌝ }
+    ensures { λ r. ⌜ Put (now (out .entry)) at (bytesOf (unmatched (cellsOf (drop from (recordsOf g))) (points (now (picked .entry))))) (now (out .exit)) r ⌝ }
+{
+    let n = molecule::fix_count(picked) as usize;
+    let mut to = at;
+    let mut k = from;
+    let mut i: usize = 0;
+    while i < n {
+        let p = out_points::point_of(picked, i);
+        i += 1;
+        if is_cell(g, k, p) {
+            k += 1;
+        } else {
+            to = out_points::put_out_point(out, to, p);
+        }
+    }
+    to
+}
+
+// Puts the list of those n picks at the start of out.
+fn put_others(g: Held, from: usize, picked: &[u8], n: u32, out: &mut [u8])
+    requires { ⌜ (from ≤ 256) × (n ≡ length (unmatched (cellsOf (drop from (recordsOf g))) (points (now picked)))) × (4 + 36 * n ≤ length (now out)) ⌝ }
+    ensures { λ _. ⌜ now (out .exit) ≡ written (unmatched (cellsOf (drop from (recordsOf g))) (points (now (picked .entry)))) (now (out .entry)) ⌝ }
+{
+    let at = write::put_u32(out, 0, n);
+    put_rest(g, from, picked, out, at);
+}
+
+// Puts both lists: the cells of the records from `from` on, and the n picks that are not among them.
+fn put_both(g: Held, from: usize, picked: &[u8], n: u32, taken: &mut [u8], refused: &mut [u8])
+    requires { ⌜ (from ≤ 256) × (n ≡ length (unmatched (cellsOf (drop from (recordsOf g))) (points (now picked)))) × (4 + 36 * n ≤ length (now refused)) ⌝ }
+    ensures { λ _. ⌜ now (taken .exit) ≡ putIf (cellsOf (drop from (recordsOf g))) (now (taken .entry)) ⌝ }
+    ensures { λ _. ⌜ now (refused .exit) ≡ written (unmatched (cellsOf (drop from (recordsOf g))) (points (now (picked .entry)))) (now (refused .entry)) ⌝ }
+{
+    hold_records::put_cells(g, from, taken);
+    put_others(g, from, picked, n, refused);
+}
+
+// Takes the picks from the records of `live`; a refusal hands back `held`.
+pub fn take_from(
+    held: Held,
+    live: Held,
+    picked: &[u8],
+    spent: &[u8],
+    owner: Owner,
+    taken: &mut [u8],
+    refused: &mut [u8],
+) -> Holds
+    ensures { λ r. ⌜ (told recordsOf (r .answer) (r .held), now (taken .exit), now (refused .exit)) ≡ takeFrom held (recordsOf live) (points (now (picked .entry))) (points (now (spent .entry))) owner (now (taken .entry)) (now (refused .entry)) ⌝ }
+{
+    let t = tally(live, picked, spent, owner);
+    let count = t.count;
+    let rest = molecule::fix_count(picked) - count;
+    if taken.len() < 4 + 36 * (count as usize) {
+        return hold_records::refuse(held, Refusal::BufferTooShort);
+    }
+    if refused.len() < 4 + 36 * (rest as usize) {
+        return hold_records::refuse(held, Refusal::BufferTooShort);
+    }
+    let from = hold_records::used(live.count);
+    if MOST - from < count as usize {
+        return hold_records::refuse(held, Refusal::TooManyHolds);
+    }
+    let after = t.held;
+    put_both(after, from, picked, rest, taken, refused);
+    hold_records::done(after)
+}
