@@ -18,13 +18,13 @@ use Rattle.error.specs.declared.Refusal.{Refusal}
 use Rattle.out_points.specs.OutPoints.{byte32At, outPointAt}
 use Rattle.out_points.specs.declared.{Byte32.Byte32, OutPoint.OutPoint}
 use Rattle.exclusions.specs.declared.{Row.Row, Slot.Slot, Rule.Rule, LiveCellsExclusionMap.LiveCellsExclusionMap}
-use Rattle.exclusions.specs.Table.{Entry, rowsOf, looseAt, loose, entriesAt, entries, entriesOf, After, left, kept}
-use Rattle.exclusions.specs.Calls.{excluded, spent, pending, renew, ifFits, withHash, withTx, ifTx, addCall}
-use Rattle.exclusions.specs.Rows.{sift, inputs, isOf, placeOf, inputRow, spentRows, roomFor}
+use Rattle.out_points.specs.Tables.{renew, done, refused}
+use Rattle.exclusions.specs.Exclusions.{Entry, entriesOf, hasHash, excluded, pending, entering, addCall}
+use Rattle.exclusions.specs.Rows.{rowsOf, looseAt, loose, entriesAt, entries, sift, inputs, isOf, placeOf, inputRow, spent, spentRows, roomFor}
 use Rattle.exclusions.proofs.PlaceLaws.{run}
 use Rattle.exclusions.proofs.InputLaws.{tidy-entries, tidy-loose}
 use Rattle.exclusions.proofs.RenewLaws.{fresh, renewRows, renewed-place, renewed-loose, renewed-entries}
-use Rattle.exclusions.proofs.CallLaws.{hash-bad, hash-good}
+use Rattle.exclusions.proofs.EntryLaws.{After, entries-of}
 
 -- ---- lengths
 
@@ -113,7 +113,7 @@ module _ (m given g : LiveCellsExclusionMap) (hash : Byte32) (tx : List ℕ) {n 
   whole = take i (g .rows) ++ (record { row = Row.Pending hash } ∷ []) ++ spentRows tx ++ drop j rows
 
   abbrev after : List Entry
-  after = renew (pending hash tx) (entriesOf m)
+  after = renew (hasHash hash) (pending hash tx) (entriesOf m)
 
   count-rows : length rows ≡ min (g .count) 576
   count-rows = rw (length-take, source)
@@ -137,7 +137,7 @@ module _ (m given g : LiveCellsExclusionMap) (hash : Byte32) (tx : List ℕ) {n 
       ∙ (ap (λ (k : ℕ). take k rows ++ (fresh hash tx ++ drop (suc (k + run (drop (suc k) rows))) rows)) ei ∙ renewed-place hash tx rows))))
 
   whole-entries : entries whole ≡ after
-  whole-entries = ap entries whole-is ∙ (renewed-entries hash tx rows ∙ ap (renew (pending hash tx)) (tidy-entries m g e))
+  whole-entries = ap entries whole-is ∙ (renewed-entries hash tx rows ∙ ap (renew (hasHash hash) (pending hash tx)) (tidy-entries m g e))
 
   whole-points : length (inputs whole) ≡ length (excluded after)
   unfolding inputs
@@ -195,57 +195,42 @@ module _ (m given g : LiveCellsExclusionMap) (hash : Byte32) (tx : List ℕ) {n 
   unfolding roomFor
   room-is = rw (points-are, transactions-are)
 
+  fitted : (length tx ≡ 0 → ⊥) → cond (leb (length after) 64) (cond (leb (length (excluded after)) 512) (done after) (refused 15 given)) (refused 15 given) ≡ entering given (entriesOf m) hash tx
+  unfolding entering
+  fitted z = rw (ne-eqb (length tx) 0 z)
+
   module _ {r : Bool} (er : r ≡ roomFor i before-points n (min (g .count) 576) j after-points) where
-    pub enter-full : {t : After} → not r ≡ true → t ≡ kept given (number Refusal.TooManyExclusions) → t ≡ ifFits given after
-    unfolding ifFits number
-    enter-full h k =
+    pub enter-full : {t : After} → (length tx ≡ 0 → ⊥) → not r ≡ true → t ≡ refused (number Refusal.TooManyExclusions) given → t ≡ entering given (entriesOf m) hash tx
+    unfolding number
+    enter-full z h k =
         let f = sym room-is ∙ (sym er ∙ not-true r h) in
-        k ∙ sym (fit-no (leb (length (excluded after)) 512) (leb (length after) 64) (left after) (kept given 15) f)
+        k ∙ (sym (fit-no (leb (length (excluded after)) 512) (leb (length after) 64) (done after) (refused 15 given) f) ∙ fitted z)
 
     pub enter-room : not r ≡ false → i + 1 + n + (min (g .count) 576 - j) ≤ 576
     enter-room h = roomy i before-points n (min (g .count) 576) j after-points (sym er ∙ not-false r h)
 
-    pub enter-done : (f : LiveCellsExclusionMap) {t : After} → not r ≡ false → rowsOf f ≡ whole → t ≡ left (entriesOf f) → t ≡ ifFits given after
-    unfolding ifFits entriesOf
-    enter-done f h k q =
+    pub enter-done : (f : LiveCellsExclusionMap) {t : After} → (length tx ≡ 0 → ⊥) → not r ≡ false → rowsOf f ≡ whole → t ≡ done (entriesOf f) → t ≡ entering given (entriesOf m) hash tx
+    enter-done f z h k q =
         let y = sym room-is ∙ (sym er ∙ not-false r h) in
-        q ∙ (ap left (ap entries k ∙ whole-entries) ∙ sym (fit-yes (leb (length (excluded after)) 512) (leb (length after) 64) (left after) (kept given 15) y))
+        q ∙ (ap done (entries-of f ∙ (ap entries k ∙ whole-entries))
+        ∙ (sym (fit-yes (leb (length (excluded after)) 512) (leb (length after) 64) (done after) (refused 15 given) y) ∙ fitted z))
+
+pub enter-none : (m given : LiveCellsExclusionMap) (hash : Byte32) (tx : List ℕ) {t : After} → length tx ≡ 0 → t ≡ done (entriesOf m) → t ≡ entering given (entriesOf m) hash tx
+unfolding entering
+enter-none m given hash tx z k = k ∙ rw (eq-eqb (length tx) 0 z)
 
 -- ---- add
 
 module _ (m : LiveCellsExclusionMap) (s tx : List ℕ) {r : Bool} (er : r ≡ readable (option Transaction) tx) where
-  pub tx-bad : (then : After) {t : After} → not r ≡ true → t ≡ kept m (number Refusal.OurTransactionUnreadable) → t ≡ withTx m tx then
-  unfolding withTx number
-  tx-bad then h k = k ∙ rw (← er, not-true r h)
-
-  pub tx-good : (then : After) → not r ≡ false → withTx m tx then ≡ then
-  unfolding withTx
-  tx-good then h = rw (← er, not-false r h)
-
-  abbrev entering : Byte32 → After
-  entering h = ifTx tx (ifFits m (renew (pending h tx) (entriesOf m))) (left (entriesOf m))
-
-  pub add-bad-tx : {t : After} → not r ≡ true → t ≡ kept m (number Refusal.OurTransactionUnreadable) → t ≡ addCall m s tx
-  unfolding addCall
-  add-bad-tx h k = tx-bad (withHash m s (λ h. entering h)) h k
+  pub add-bad-tx : {t : After} → not r ≡ true → t ≡ refused (number Refusal.OurTransactionUnreadable) m → t ≡ addCall m s tx
+  unfolding addCall number
+  add-bad-tx h k = k ∙ rw (← er, not-true r h)
 
   module _ (h : not r ≡ false) where
-    pub add-bad-hash : {t : After} → (length s ≡ 32 → ⊥) → t ≡ kept m (number Refusal.LentBytesUnreadable) → t ≡ addCall m s tx
+    pub add-bad-hash : {t : After} → (length s ≡ 32 → ⊥) → t ≡ refused (number Refusal.LentBytesUnreadable) m → t ≡ addCall m s tx
+    unfolding addCall number
+    add-bad-hash n k = k ∙ rw (← er, not-false r h, ne-eqb (length s) 32 n)
+
+    pub add-done : {b : Byte32} {t : After} → length s ≡ 32 → b ≡ byte32At s 0 → t ≡ entering m (entriesOf m) b tx → t ≡ addCall m s tx
     unfolding addCall
-    add-bad-hash n k = hash-bad m s (λ h. entering h) n k ∙ sym (tx-good (withHash m s (λ h. entering h)) h)
-
-    added : length s ≡ 32 → entering (byte32At s 0) ≡ addCall m s tx
-    unfolding addCall
-    added n = sym (tx-good (withHash m s (λ h. entering h)) h ∙ hash-good m s (λ h. entering h) n)
-
-    pub add-none : {t : After} → length s ≡ 32 → length tx ≡ 0 → t ≡ left (entriesOf m) → t ≡ addCall m s tx
-    unfolding ifTx
-    add-none n z k =
-        let y : entering (byte32At s 0) ≡ left (entriesOf m) = rw (eq-eqb (length tx) 0 z) in
-        k ∙ (sym y ∙ added n)
-
-    pub add-done : {b : Byte32} {t : After} → length s ≡ 32 → (length tx ≡ 0 → ⊥) → b ≡ byte32At s 0 → t ≡ ifFits m (renew (pending b tx) (entriesOf m)) → t ≡ addCall m s tx
-    unfolding ifTx
-    add-done n z e k =
-        let y : entering (byte32At s 0) ≡ ifFits m (renew (pending (byte32At s 0) tx) (entriesOf m)) = rw (ne-eqb (length tx) 0 z) in
-        rw e at k ∙ (sym y ∙ added n)
+    add-done n e k = k ∙ rw (← er, not-false r h, eq-eqb (length s) 32 n, e)

@@ -6,10 +6,29 @@ use mathlib.Core.Option.{none, some}
 use Rattle.units.specs.declared.BlockNumber.{BlockNumber}
 use Rattle.out_points.specs.OutPoints.{eqHash}
 use Rattle.out_points.specs.declared.{Byte32.Byte32, OutPoint.OutPoint}
-use Rattle.exclusions.specs.declared.{Row.Row, Slot.Slot, Rule.Rule}
-use Rattle.exclusions.specs.Table.{Entry, looseAt, loose, entriesAt, entries}
-use Rattle.exclusions.specs.Calls.{filterB, committedAt}
-use Rattle.exclusions.specs.Rows.{isOf, marked, keeps, keepsRow, sift}
+use Rattle.exclusions.specs.declared.{Row.Row, Slot.Slot, Rule.Rule, LiveCellsExclusionMap.LiveCellsExclusionMap}
+use Rattle.out_points.specs.Tables.{keep, Outcome}
+use Rattle.exclusions.specs.Exclusions.{Entry, readRow, readRows, entriesOf, hasHash, committedAt}
+use Rattle.exclusions.specs.Rows.{rowsOf, looseAt, loose, entriesAt, entries, keeps, keepsRow, sift, marked, isOf}
+
+abbrev pub After : Type 0
+After = Outcome LiveCellsExclusionMap (List Entry)
+
+-- ---- the entries, by rows from the first to the last
+
+read-is : (l : List Slot) → readRows l ≡ (loose l, entries l)
+unfolding readRows readRow loose looseAt entries entriesAt
+read-is [] = refl
+read-is (x ∷ l) = ap (readRow (x .row)) (read-is l) ∙ by (x .row)
+  where
+    by : (r : Row) → readRow r (loose l, entries l) ≡ (looseAt r (loose l), entriesAt r (loose l) (entries l))
+    by (Row.Pending h) = refl
+    by (Row.Committed h b) = refl
+    by (Row.Input p) = refl
+
+pub entries-of : (m : LiveCellsExclusionMap) → entriesOf m ≡ entries (rowsOf m)
+unfolding entriesOf
+entries-of m = ap (λ (x : List OutPoint × List Entry). x .1) (read-is (rowsOf m))
 
 -- ---- commit
 
@@ -35,7 +54,7 @@ module _ (hash : Byte32) (block : BlockNumber) where
 
   entry-one : (x : Slot) (r : Row) → x .row ≡ r → (ps : List OutPoint) (es : List Entry)
       → entriesAt (cond (isOf hash r) (record { row = Row.Committed hash block }) x .row) ps (map (committedAt hash block) es) ≡ map (committedAt hash block) (entriesAt r ps es)
-  unfolding entriesAt isOf committedAt
+  unfolding entriesAt isOf committedAt hasHash
   entry-one x (Row.Pending h) e ps es = by (eqHash h hash)
     where
       by : (b : Bool) → entriesAt (cond b (record { row = Row.Committed hash block }) x .row) ps (map (committedAt hash block) es)
@@ -82,19 +101,19 @@ module _ (rule : Rule) where
       by t f (Row.Input p) e true = rw (e, t)
       by t f (Row.Input p) e false = f
 
-  pub entries-sift : (l : List Slot) (above : Bool) → entries (sift rule above l) ≡ filterB kind (entries l)
-  unfolding entries sift keepsRow filterB entriesAt
+  pub entries-sift : (l : List Slot) (above : Bool) → entries (sift rule above l) ≡ keep kind (entries l)
+  unfolding entries sift keepsRow keep entriesAt
   entries-sift [] above = refl
   entries-sift (x ∷ l) above = by (entries-sift l true) (entries-sift l false) (x .row) refl above
     where
-      one : entries (sift rule true l) ≡ filterB kind (entries l) → entries (sift rule false l) ≡ filterB kind (entries l)
-          → (e : Entry) → entriesAt (x .row) (loose l) (filterB kind (entries l)) ≡ e ∷ filterB kind (entries l)
-          → (k : Bool) → entries (cond k (x ∷ sift rule k l) (sift rule k l)) ≡ cond k (e ∷ filterB kind (entries l)) (filterB kind (entries l))
+      one : entries (sift rule true l) ≡ keep kind (entries l) → entries (sift rule false l) ≡ keep kind (entries l)
+          → (e : Entry) → entriesAt (x .row) (loose l) (keep kind (entries l)) ≡ e ∷ keep kind (entries l)
+          → (k : Bool) → entries (cond k (x ∷ sift rule k l) (sift rule k l)) ≡ cond k (e ∷ keep kind (entries l)) (keep kind (entries l))
       one t f e q true = rw (loose-sift l true, t) q
       one t f e q false = f
 
-      by : entries (sift rule true l) ≡ filterB kind (entries l) → entries (sift rule false l) ≡ filterB kind (entries l) → (r : Row) → x .row ≡ r → (above : Bool)
-          → entries (cond (keepsRow rule above r) (x ∷ sift rule (keepsRow rule above r) l) (sift rule (keepsRow rule above r) l)) ≡ filterB kind (entriesAt r (loose l) (entries l))
+      by : entries (sift rule true l) ≡ keep kind (entries l) → entries (sift rule false l) ≡ keep kind (entries l) → (r : Row) → x .row ≡ r → (above : Bool)
+          → entries (cond (keepsRow rule above r) (x ∷ sift rule (keepsRow rule above r) l) (sift rule (keepsRow rule above r) l)) ≡ keep kind (entriesAt r (loose l) (entries l))
       by t f (Row.Pending h) e above = one t f (record { hash = h; committed = none; points = loose l }) (rw e) (keeps rule h none)
       by t f (Row.Committed h b) e above = one t f (record { hash = h; committed = some b; points = loose l }) (rw e) (keeps rule h (some b))
       by t f (Row.Input p) e true = rw (e, t)

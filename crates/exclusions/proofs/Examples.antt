@@ -7,8 +7,8 @@ use Rattle.units.specs.Units.{isAtLeast}
 use Rattle.units.specs.declared.BlockNumber.{BlockNumber}
 use Rattle.out_points.specs.OutPoints.{eqHash}
 use Rattle.out_points.specs.declared.Byte32.{Byte32}
-use Rattle.exclusions.specs.Table.{Entry}
-use Rattle.exclusions.specs.Calls.{filterB, committedAt, without, isRecent, truncated, renew}
+use Rattle.out_points.specs.Tables.{keep, renew}
+use Rattle.exclusions.specs.Exclusions.{Entry, hasHash, committedAt, without, isRecent, truncated}
 
 abbrev hash : ℕ → Byte32
 hash n = record { a = n; b = 0; c = 0; d = 0 }
@@ -25,27 +25,27 @@ committed n = map (committedAt (hash 7) (block n)) (entry 5 none ∷ entry 7 non
 
 -- committed 100: kept at tips 99 and 112, dropped at 113
 pub kept-at-99 : truncated (block 99) (committed 100) ≡ entry 5 none ∷ entry 7 (some (block 100)) ∷ []
-unfolding truncated filterB isRecent isAtLeast committedAt eqHash
+unfolding truncated keep isRecent isAtLeast committedAt hasHash eqHash
 kept-at-99 = refl
 
 pub kept-at-112 : truncated (block 112) (committed 100) ≡ entry 5 none ∷ entry 7 (some (block 100)) ∷ []
-unfolding truncated filterB isRecent isAtLeast committedAt eqHash
+unfolding truncated keep isRecent isAtLeast committedAt hasHash eqHash
 kept-at-112 = refl
 
 pub dropped-at-113 : truncated (block 113) (committed 100) ≡ entry 5 none ∷ []
-unfolding truncated filterB isRecent isAtLeast committedAt eqHash
+unfolding truncated keep isRecent isAtLeast committedAt hasHash eqHash
 dropped-at-113 = refl
 
 -- c + 13 is a whole number: committed in the last block there is, it stays
 pub kept-at-last : truncated (block (2 ^ 64 - 1)) (committed (2 ^ 64 - 1)) ≡ committed (2 ^ 64 - 1)
-unfolding truncated filterB isRecent isAtLeast committedAt eqHash
+unfolding truncated keep isRecent isAtLeast committedAt hasHash eqHash
 kept-at-last = refl
 
 -- added again it is uncommitted, in its place; migrated onto itself it goes last
-pub again-in-place : renew (entry 7 none) (entry 7 (some (block 1)) ∷ entry 5 none ∷ []) ≡ entry 7 none ∷ entry 5 none ∷ []
-unfolding renew eqHash
+pub again-in-place : renew (hasHash (hash 7)) (entry 7 none) (entry 7 (some (block 1)) ∷ entry 5 none ∷ []) ≡ entry 7 none ∷ entry 5 none ∷ []
+unfolding renew hasHash eqHash
 again-in-place = refl
 
-pub itself-last : renew (entry 7 none) (without (hash 7) (entry 7 (some (block 1)) ∷ entry 5 none ∷ [])) ≡ entry 5 none ∷ entry 7 none ∷ []
-unfolding renew without filterB eqHash
+pub itself-last : renew (hasHash (hash 7)) (entry 7 none) (without (hash 7) (entry 7 (some (block 1)) ∷ entry 5 none ∷ [])) ≡ entry 5 none ∷ entry 7 none ∷ []
+unfolding renew without keep hasHash eqHash
 itself-last = refl

@@ -13,17 +13,17 @@ use Rattle.arithmetic.proofs.LittleEndianLaws.{length-toLe}
 use Rattle.molecule.specs.Write.{splice, putAt, putEnd, Put}
 use Rattle.molecule.proofs.WriteLaws.{none as no-write, did, and-put, then, splice-zero, length-kept}
 use Rattle.units.specs.declared.BlockNumber.{BlockNumber}
-use Rattle.error.specs.Refusal.{number}
-use Rattle.error.specs.declared.Refusal.{Refusal}
+use Rattle.error.specs.Refusal.{number, answered}
+use Rattle.error.specs.declared.{Refusal.Refusal, Answer.Answer}
 use Rattle.out_points.specs.OutPoints.{pointBytes, bytesOf, pointList}
 use Rattle.out_points.specs.declared.{Byte32.Byte32, OutPoint.OutPoint}
 use Rattle.out_points.proofs.PointLaws.{length-point}
-use Rattle.exclusions.specs.declared.{Row.Row, Slot.Slot, Rule.Rule, LiveCellsExclusionMap.LiveCellsExclusionMap, Answer.Answer}
-use Rattle.exclusions.specs.Table.{Entry, rowsOf, looseAt, loose, entriesAt, entries, entriesOf, numberOf}
-use Rattle.exclusions.specs.Calls.{filterB, excluded, putFirst, applyCall}
-use Rattle.exclusions.specs.Rows.{keeps, sift, isInput, inputs}
+use Rattle.exclusions.specs.declared.{Row.Row, Slot.Slot, Rule.Rule, LiveCellsExclusionMap.LiveCellsExclusionMap}
+use Rattle.out_points.specs.Tables.{keep, hasRoom, written}
+use Rattle.exclusions.specs.Exclusions.{Entry, entriesOf, excluded, applyCall}
+use Rattle.exclusions.specs.Rows.{rowsOf, looseAt, loose, entriesAt, entries, keeps, sift, isInput, inputs}
 use Rattle.exclusions.proofs.LoopLaws.{take-used, rows-on, rows-end}
-use Rattle.exclusions.proofs.EntryLaws.{loose-sift, entries-sift}
+use Rattle.exclusions.proofs.EntryLaws.{entries-of, loose-sift, entries-sift}
 
 -- ---- is_input, put_row
 
@@ -203,16 +203,15 @@ module _ {out₀ : List ℕ} {at₀ : ℕ} {l : List Slot} {n : ℕ} {out : List
 
 -- ---- apply
 
-all-kept : (l : List Entry) → filterB (λ e. keeps Rule.All (e .hash) (e .committed)) l ≡ l
-unfolding filterB keeps
+all-kept : (l : List Entry) → keep (λ e. keeps Rule.All (e .hash) (e .committed)) l ≡ l
+unfolding keep keeps
 all-kept [] = refl
 all-kept (x ∷ l) = ap (λ (t : List Entry). x ∷ t) (all-kept l)
 
 -- the rows of the same entries, with no out points above the first
 module _ (m g : LiveCellsExclusionMap) (e : rowsOf g ≡ sift Rule.All false (rowsOf m)) where
   pub tidy-entries : entries (rowsOf g) ≡ entriesOf m
-  unfolding entriesOf
-  tidy-entries = ap entries e ∙ (entries-sift Rule.All (rowsOf m) false ∙ all-kept (entries (rowsOf m)))
+  tidy-entries = ap entries e ∙ (entries-sift Rule.All (rowsOf m) false ∙ (all-kept (entries (rowsOf m)) ∙ sym (entries-of m)))
 
   pub tidy-loose : loose (rowsOf g) ≡ []
   tidy-loose = ap loose e ∙ loose-sift Rule.All (rowsOf m) false
@@ -243,8 +242,8 @@ module _ (m : LiveCellsExclusionMap) (out : List ℕ) (g : LiveCellsExclusionMap
   unfolding pointList
   listed = ap₂ (λ (k : ℕ) (ps : List OutPoint). toLe 4 k ++ bytesOf ps) counted (tidy-inputs m g e)
 
-  pub apply-short : length out < 4 + 36 * n → _≡_ {A = ℕ × List ℕ} (numberOf (Answer.Refused Refusal.BufferTooShort), out) (applyCall m out)
-  unfolding numberOf applyCall putFirst number
+  pub apply-short : length out < 4 + 36 * n → _≡_ {A = ℕ × List ℕ} (answered (Answer.Refused Refusal.BufferTooShort), out) (applyCall m out)
+  unfolding answered applyCall hasRoom written number
   apply-short h =
       let k : length out < length (pointList (excluded (entriesOf m))) = rw (length-list, ← counted) h in
       rw (lt-leb (length (pointList (excluded (entriesOf m)))) (length out) k)
@@ -261,8 +260,8 @@ module _ (m : LiveCellsExclusionMap) (out : List ℕ) (g : LiveCellsExclusionMap
         let k : length (bytesOf (inputs (rowsOf g))) ≡ 36 * n = length-bytes (inputs (rowsOf g)) ∙ ap (λ (j : ℕ). 36 * j) (sym c) in
         omega (arith, a, b, l, k, h)
 
-    pub apply-done : {o₂ : List ℕ} → o₂ ≡ splice o₁ at (bytesOf (inputs (rowsOf g))) → _≡_ {A = ℕ × List ℕ} (numberOf Answer.Done, o₂) (applyCall m out)
-    unfolding numberOf applyCall putFirst
+    pub apply-done : {o₂ : List ℕ} → o₂ ≡ splice o₁ at (bytesOf (inputs (rowsOf g))) → _≡_ {A = ℕ × List ℕ} (answered Answer.Done, o₂) (applyCall m out)
+    unfolding answered applyCall hasRoom written
     apply-done {o₂} r =
         let rest : Put o₁ at (bytesOf (inputs (rowsOf g))) o₂ (at + length (bytesOf (inputs (rowsOf g)))) = record { bytes = r; end = refl; room = apply-room } in
         let both = then first rest in

@@ -15,9 +15,7 @@ use Rattle.units.specs.declared.BlockNumber.{BlockNumber}
 use Rattle.out_points.specs.OutPoints.{eqHash, outPointAt}
 use Rattle.out_points.specs.declared.{Byte32.Byte32, OutPoint.OutPoint}
 use Rattle.exclusions.specs.declared.{Row.Row, Slot.Slot}
-use Rattle.exclusions.specs.Table.{looseAt, loose}
-use Rattle.exclusions.specs.Calls.{spent}
-use Rattle.exclusions.specs.Rows.{isInput, isOf, placeOf, inputRow, spentRows}
+use Rattle.exclusions.specs.Rows.{looseAt, loose, isInput, isOf, placeOf, inputRow, spent, spentRows}
 use Rattle.exclusions.proofs.LoopLaws.{take-used, Building, build-put, build-end, rows-on, rows-end}
 
 -- ---- is_of, input_row

@@ -9,9 +9,9 @@ use lib.ListN.{length, take, drop}
 use Rattle.out_points.specs.OutPoints.{eqHash}
 use Rattle.out_points.specs.declared.{Byte32.Byte32, OutPoint.OutPoint}
 use Rattle.exclusions.specs.declared.{Row.Row, Slot.Slot}
-use Rattle.exclusions.specs.Table.{Entry, looseAt, loose, entriesAt, entries}
-use Rattle.exclusions.specs.Calls.{spent, pending, renew}
-use Rattle.exclusions.specs.Rows.{isOf, placeOf, inputRow, spentRows}
+use Rattle.out_points.specs.Tables.{renew}
+use Rattle.exclusions.specs.Exclusions.{Entry, hasHash, pending}
+use Rattle.exclusions.specs.Rows.{looseAt, loose, entriesAt, entries, isOf, placeOf, inputRow, spent, spentRows}
 use Rattle.exclusions.proofs.PlaceLaws.{run}
 
 -- ---- rows of out points before others
@@ -33,7 +33,7 @@ abbrev pub fresh : Byte32 → List ℕ → List Slot
 fresh hash tx = record { row = Row.Pending hash } ∷ spentRows tx
 
 fresh-entry : (hash : Byte32) (tx : List ℕ) (k : List Slot) → loose k ≡ [] → entries (fresh hash tx ++ k) ≡ pending hash tx ∷ entries k
-unfolding entries entriesAt spentRows pending
+unfolding entries entriesAt spentRows spent pending
 fresh-entry hash tx k e =
     ap₂ (λ (ps : List OutPoint) (es : List Entry). record { hash = hash; committed = none; points = ps } ∷ es)
     (loose-rows k (spent tx) ∙ rw e (append-nil (spent tx)))
@@ -98,19 +98,19 @@ module _ (hash : Byte32) (tx : List ℕ) where
       by h (Row.Committed a b) e = head (eqHash a hash) (λ ps. rw e)
       by h (Row.Input p) e = rw (e, h)
 
-  pub renewed-entries : (l : List Slot) → entries (renewRows l) ≡ renew (pending hash tx) (entries l)
-  unfolding renewRows entries entriesAt isOf renew pending loose
+  pub renewed-entries : (l : List Slot) → entries (renewRows l) ≡ renew (hasHash hash) (pending hash tx) (entries l)
+  unfolding renewRows entries entriesAt isOf renew hasHash pending spent loose
   renewed-entries [] = fresh-entry hash tx [] refl
   renewed-entries (x ∷ l) = by (renewed-entries l) (x .row) refl
     where
-      head : (b : Bool) (e : Entry) → entriesAt (x .row) (loose l) (renew (pending hash tx) (entries l)) ≡ e ∷ renew (pending hash tx) (entries l)
-          → entries (renewRows l) ≡ renew (pending hash tx) (entries l)
-          → entries (cond b (fresh hash tx ++ drop (run l) l) (x ∷ renewRows l)) ≡ cond b (pending hash tx ∷ entries l) (e ∷ renew (pending hash tx) (entries l))
+      head : (b : Bool) (e : Entry) → entriesAt (x .row) (loose l) (renew (hasHash hash) (pending hash tx) (entries l)) ≡ e ∷ renew (hasHash hash) (pending hash tx) (entries l)
+          → entries (renewRows l) ≡ renew (hasHash hash) (pending hash tx) (entries l)
+          → entries (cond b (fresh hash tx ++ drop (run l) l) (x ∷ renewRows l)) ≡ cond b (pending hash tx ∷ entries l) (e ∷ renew (hasHash hash) (pending hash tx) (entries l))
       head true e q h = fresh-entry hash tx (drop (run l) l) (past-loose l) ∙ ap (λ (es : List Entry). pending hash tx ∷ es) (past-entries l)
       head false e q h = rw (renewed-loose l, h) q
 
-      by : entries (renewRows l) ≡ renew (pending hash tx) (entries l) → (r : Row) → x .row ≡ r
-          → entries (cond (isOf hash r) (fresh hash tx ++ drop (run l) l) (x ∷ renewRows l)) ≡ renew (pending hash tx) (entriesAt r (loose l) (entries l))
+      by : entries (renewRows l) ≡ renew (hasHash hash) (pending hash tx) (entries l) → (r : Row) → x .row ≡ r
+          → entries (cond (isOf hash r) (fresh hash tx ++ drop (run l) l) (x ∷ renewRows l)) ≡ renew (hasHash hash) (pending hash tx) (entriesAt r (loose l) (entries l))
       by h (Row.Pending a) e = head (eqHash a hash) (record { hash = a; committed = none; points = loose l }) (rw e) h
       by h (Row.Committed a b) e = head (eqHash a hash) (record { hash = a; committed = some b; points = loose l }) (rw e) h
       by h (Row.Input p) e = rw (e, h)

@@ -5,19 +5,19 @@ use mathlib.Core.Option.{Option, none, some}
 use Rattle.units.specs.Units.{isAtLeast}
 use Rattle.units.specs.declared.BlockNumber.{BlockNumber}
 use Rattle.error.specs.Refusal.{number}
-use Rattle.error.specs.declared.Refusal.{Refusal}
+use Rattle.error.specs.declared.{Refusal.Refusal, Answer.Answer}
 use Rattle.out_points.specs.OutPoints.{eqHash}
 use Rattle.out_points.specs.declared.{Byte32.Byte32, OutPoint.OutPoint}
-use Rattle.exclusions.specs.declared.{Row.Row, Slot.Slot, Rule.Rule, LiveCellsExclusionMap.LiveCellsExclusionMap, Answer.Answer}
-use Rattle.exclusions.specs.Table.{entriesOf, left, kept, told}
-use Rattle.exclusions.specs.Calls.{isRecent}
-use Rattle.exclusions.specs.Rows.{isOf, marked, keeps, keepsRow}
+use Rattle.exclusions.specs.declared.{Row.Row, Slot.Slot, Rule.Rule, LiveCellsExclusionMap.LiveCellsExclusionMap}
+use Rattle.out_points.specs.Tables.{told, done, refused}
+use Rattle.exclusions.specs.Exclusions.{entriesOf, isRecent}
+use Rattle.exclusions.specs.Rows.{keeps, keepsRow, marked, isOf}
 
-pub done-is : (m : LiveCellsExclusionMap) → told m Answer.Done ≡ left (entriesOf m)
+pub done-is : (m : LiveCellsExclusionMap) → told entriesOf Answer.Done m ≡ done (entriesOf m)
 unfolding told
 done-is m = refl
 
-pub refused-is : (m : LiveCellsExclusionMap) (e : Refusal) → told m (Answer.Refused e) ≡ kept m (number e)
+pub refused-is : (m : LiveCellsExclusionMap) (e : Refusal) → told entriesOf (Answer.Refused e) m ≡ refused (number e) m
 unfolding told
 refused-is m e = refl
 

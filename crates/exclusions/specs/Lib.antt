@@ -1,3 +1,2 @@
-pub mod Table
-pub mod Calls
+pub mod Exclusions
 pub mod Rows

@@ -4,12 +4,36 @@ use mathlib.Core.Bool.{Bool, true, false, not, cond}
 use mathlib.Core.List.{List, [], _∷_, _++_, map}
 use mathlib.Core.Option.{Option, none, some}
 use lib.Dec.{leb}
+use lib.ListN.{take}
 use Rattle.units.specs.declared.BlockNumber.{BlockNumber}
-use Rattle.out_points.specs.OutPoints.{eqHash}
+use Rattle.transaction.specs.Tx.{txAt, previousOutputOf}
+use Rattle.out_points.specs.OutPoints.{eqHash, outPointAt}
 use Rattle.out_points.specs.declared.{Byte32.Byte32, OutPoint.OutPoint}
-use Rattle.exclusions.specs.declared.{Row.Row, Slot.Slot, Rule.Rule}
-use Rattle.exclusions.specs.Table.{loose, entries}
-use Rattle.exclusions.specs.Calls.{isRecent, excluded, spent}
+use Rattle.exclusions.specs.declared.{Row.Row, Slot.Slot, Rule.Rule, LiveCellsExclusionMap.LiveCellsExclusionMap}
+use Rattle.exclusions.specs.Exclusions.{Entry, isRecent, excluded}
+
+-- the rows that count: those that the array holds
+abbrev pub rowsOf : LiveCellsExclusionMap → List Slot
+rowsOf m = take (m .count) (m .rows)
+
+-- the out points above the first transaction, which are of the transaction before these rows
+unfoldable pub looseAt : Row → List OutPoint → List OutPoint
+looseAt (Row.Pending h) ps = []
+looseAt (Row.Committed h b) ps = []
+looseAt (Row.Input p) ps = p ∷ ps
+
+unfoldable pub loose : List Slot → List OutPoint
+loose [] = []
+loose (x ∷ l) = looseAt (x .row) (loose l)
+
+unfoldable pub entriesAt : Row → List OutPoint → List Entry → List Entry
+entriesAt (Row.Pending h) ps es = record { hash = h; committed = none; points = ps } ∷ es
+entriesAt (Row.Committed h b) ps es = record { hash = h; committed = some b; points = ps } ∷ es
+entriesAt (Row.Input p) ps es = es
+
+unfoldable pub entries : List Slot → List Entry
+entries [] = []
+entries (x ∷ l) = entriesAt (x .row) (loose l) (entries l)
 
 unfoldable pub isInput : Row → Bool
 isInput (Row.Pending h) = false
@@ -52,6 +76,9 @@ placeOf hash (x ∷ l) = cond (isOf hash (x .row)) 0 (suc (placeOf hash l))
 -- an out point as a row, and those of a transaction
 unfoldable pub inputRow : OutPoint → Slot
 inputRow p = record { row = Row.Input p }
+
+unfoldable pub spent : List ℕ → List OutPoint
+spent tx = map (λ i. outPointAt (previousOutputOf i) 0) (txAt tx .inputs)
 
 unfoldable pub spentRows : List ℕ → List Slot
 spentRows tx = map inputRow (spent tx)

@@ -1,4 +1,5 @@
 // The cells that funding transactions spend, kept out of later picks: LiveCellsExclusionMap as a flat table that goes in and comes back by value.
+use error::Answer;
 use error::Refusal;
 use molecule::write;
 use out_points::Byte32;
@@ -11,15 +12,15 @@ ghost use mathlib.Core.List.{[], _∷_, _++_, map};
 ghost use mathlib.Core.Option.{none, some};
 ghost use Prim.Native.Nat.{_+_, _-_, _<_, _≤_, min};
 ghost use lib.ListN.{length, take, drop};
-ghost use Rattle.error.specs.Refusal.{number};
+ghost use Rattle.error.specs.Refusal.{number, answered};
 ghost use Rattle.molecule.specs.Layout.{fixCount, fixItem};
 ghost use Rattle.molecule.specs.Write.{splice, putAt, putEnd};
 ghost use Rattle.transaction.specs.Tx.{rawField, previousOutputOf};
 ghost use Rattle.out_points.specs.OutPoints.{outPointAt, bytesOf};
 ghost use Rattle.exclusions.specs.declared.Row.{Row};
-ghost use Rattle.exclusions.specs.Table.{rowsOf, looseAt, loose, entriesOf, left, kept, told, numberOf};
-ghost use Rattle.exclusions.specs.Calls.{commitCall, removeCall, truncated, applyCall, pending, renew, ifFits, addCall, entered, migrateCall};
-ghost use Rattle.exclusions.specs.Rows.{keeps, keepsRow, sift, marked, isInput, inputs, isOf, placeOf, inputRow, spentRows, roomFor};
+ghost use Rattle.out_points.specs.Tables.{done, refused, told};
+ghost use Rattle.exclusions.specs.Exclusions.{entriesOf, commitCall, removeCall, truncated, applyCall, entering, addCall, entered, migrateCall};
+ghost use Rattle.exclusions.specs.Rows.{rowsOf, looseAt, loose, keeps, keepsRow, sift, marked, isInput, inputs, isOf, placeOf, inputRow, spentRows, roomFor};
 
 // Number of blocks to keep the committed funding tx in the exclusion map.
 // It is the same with the value used in the CKB SDK.
@@ -50,11 +51,6 @@ pub struct LiveCellsExclusionMap {
     pub count: usize,
 }
 
-pub enum Answer {
-    Done,
-    Refused(Refusal),
-}
-
 // A call's answer and the table after it: after a refusal the one that was handed in.
 pub struct Excluded {
     pub map: LiveCellsExclusionMap,
@@ -62,14 +58,14 @@ pub struct Excluded {
 }
 
 fn done(m: LiveCellsExclusionMap) -> Excluded
-    ensures { λ r. ⌜ told (r .map) (r .answer) ≡ left (entriesOf m) ⌝ }
+    ensures { λ r. ⌜ told entriesOf (r .answer) (r .map) ≡ done (entriesOf m) ⌝ }
 {
     let answer = Answer::Done;
     Excluded { map: m, answer }
 }
 
 fn refused(m: LiveCellsExclusionMap, e: Refusal) -> Excluded
-    ensures { λ r. ⌜ told (r .map) (r .answer) ≡ kept m (number e) ⌝ }
+    ensures { λ r. ⌜ told entriesOf (r .answer) (r .map) ≡ refused (number e) m ⌝ }
 {
     let answer = Answer::Refused(e);
     Excluded { map: m, answer }
@@ -402,15 +398,18 @@ fn put_in_place(
     append_rows(g, m, j)
 }
 
-// Enters the transaction into m; where it does not fit, `given` is handed back.
+// Enters the transaction into m, if there is one; where it does not fit, `given` is handed back.
 fn enter(
     m: LiveCellsExclusionMap,
     given: LiveCellsExclusionMap,
     hash: Byte32,
     tx: &[u8],
 ) -> Excluded
-    ensures { λ r. ⌜ told (r .map) (r .answer) ≡ ifFits given (renew (pending hash (now (tx .entry))) (entriesOf m)) ⌝ }
+    ensures { λ r. ⌜ told entriesOf (r .answer) (r .map) ≡ entering given (entriesOf m) hash (now (tx .entry)) ⌝ }
 {
+    if tx.len() == 0 {
+        return done(m);
+    }
     // Out points that belong to no transaction go first, so that they are not counted.
     let rule = Rule::All;
     let g = keep(m, rule);
@@ -453,7 +452,7 @@ pub fn new() -> LiveCellsExclusionMap
 
 // The transaction with this hash is committed in this block.
 pub fn commit(m: LiveCellsExclusionMap, hash: &[u8], block: BlockNumber) -> Excluded
-    ensures { λ r. ⌜ told (r .map) (r .answer) ≡ commitCall m (now (hash .entry)) block ⌝ }
+    ensures { λ r. ⌜ told entriesOf (r .answer) (r .map) ≡ commitCall m (now (hash .entry)) block ⌝ }
 {
     if hash.len() != 32 {
         return refused(m, Refusal::LentBytesUnreadable);
@@ -465,7 +464,7 @@ pub fn commit(m: LiveCellsExclusionMap, hash: &[u8], block: BlockNumber) -> Excl
 
 // The table without the transaction of this hash.
 pub fn remove(m: LiveCellsExclusionMap, hash: &[u8]) -> Excluded
-    ensures { λ r. ⌜ told (r .map) (r .answer) ≡ removeCall m (now (hash .entry)) ⌝ }
+    ensures { λ r. ⌜ told entriesOf (r .answer) (r .map) ≡ removeCall m (now (hash .entry)) ⌝ }
 {
     if hash.len() != 32 {
         return refused(m, Refusal::LentBytesUnreadable);
@@ -486,7 +485,7 @@ pub fn truncate(m: LiveCellsExclusionMap, tip: BlockNumber) -> LiveCellsExclusio
 
 // Writes the out points of all transactions, in their order, as a list.
 pub fn apply(m: LiveCellsExclusionMap, out: &mut [u8]) -> Answer
-    ensures { λ r. ⌜ (numberOf r, now (out .exit)) ≡ applyCall m (now (out .entry)) ⌝ }
+    ensures { λ r. ⌜ (answered r, now (out .exit)) ≡ applyCall m (now (out .entry)) ⌝ }
 {
     // Out points that belong to no transaction are not written.
     let rule = Rule::All;
@@ -502,7 +501,7 @@ pub fn apply(m: LiveCellsExclusionMap, out: &mut [u8]) -> Answer
 
 // Enters a transaction, uncommitted, under its hash; empty bytes are none.
 pub fn add(m: LiveCellsExclusionMap, hash: &[u8], tx: &[u8]) -> Excluded
-    ensures { λ r. ⌜ told (r .map) (r .answer) ≡ addCall m (now (hash .entry)) (now (tx .entry)) ⌝ }
+    ensures { λ r. ⌜ told entriesOf (r .answer) (r .map) ≡ addCall m (now (hash .entry)) (now (tx .entry)) ⌝ }
 {
     if !transaction::is_optional_transaction(tx) {
         return refused(m, Refusal::OurTransactionUnreadable);
@@ -510,16 +509,13 @@ pub fn add(m: LiveCellsExclusionMap, hash: &[u8], tx: &[u8]) -> Excluded
     if hash.len() != 32 {
         return refused(m, Refusal::LentBytesUnreadable);
     }
-    if tx.len() == 0 {
-        return done(m);
-    }
     let h = out_points::byte32_at(hash, 0);
     enter(m, m, h, tx)
 }
 
 // Move the exclusion entry for a funding tx that a peer replaced: the old entry goes, and the new transaction, if any, is entered.
 pub fn migrate_funding_tx(m: LiveCellsExclusionMap, old: &[u8], new: &[u8], tx: &[u8]) -> Excluded
-    ensures { λ r. ⌜ told (r .map) (r .answer) ≡ migrateCall m (now (old .entry)) (now (new .entry)) (now (tx .entry)) ⌝ }
+    ensures { λ r. ⌜ told entriesOf (r .answer) (r .map) ≡ migrateCall m (now (old .entry)) (now (new .entry)) (now (tx .entry)) ⌝ }
 {
     if !transaction::is_optional_transaction(tx) {
         return refused(m, Refusal::OurTransactionUnreadable);
@@ -536,9 +532,6 @@ pub fn migrate_funding_tx(m: LiveCellsExclusionMap, old: &[u8], new: &[u8], tx: 
     }
     let rule = Rule::Except(o);
     let g = keep(m, rule);
-    if tx.len() == 0 {
-        return done(g);
-    }
     let h = out_points::byte32_at(new, 0);
     enter(g, m, h, tx)
 }

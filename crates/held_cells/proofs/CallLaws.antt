@@ -15,7 +15,7 @@ use Rattle.molecule.specs.Molecule.{readable}
 use Rattle.transaction.specs.Ckb.{OutPoints}
 use Rattle.out_points.specs.OutPoints.{points}
 use Rattle.out_points.proofs.ListLaws.{length-points}
-use Rattle.out_points.specs.Tables.{keep, Outcome, done, refused, told, hasRoom, written, putList}
+use Rattle.out_points.specs.Tables.{keep, Outcome, done, refused, told, hasRoom, written}
 use Rattle.hold_records.specs.declared.{Owner.Owner, Hold.Hold, Held.Held, Rule.Rule, Taker.Taker}
 use Rattle.hold_records.specs.Holds.{recordsOf, heldBy, cellsOf, atMost256, isUnnamed, renewAll, holdFunding, releaseForWatchtower, holdForWatchtower, lockHeld, isBusy, firsts, unavailable, ownerFor, takeCells}
 use Rattle.hold_records.specs.Rules.{isKept, putIf}
@@ -118,7 +118,7 @@ module _ (h : Held) (picked spent : List ℕ) (time : Millis) (out : List ℕ) {
         (ec : c ≡ hasRoom (firsts (isBusy (recordsOf k) (points spent)) [] (points picked)) out)
         (eo : o ≡ putIf (firsts (isBusy (recordsOf k) (points spent)) [] (points picked)) out) where
       named : cond c (0, written (firsts (isBusy (recordsOf k) (points spent)) [] (points picked)) out) (13, out) ≡ unavailable h picked spent time out
-      unfolding unavailable isKept putList
+      unfolding unavailable isKept
       named = rw (← ea, not-false a ta, ← eb, not-false b tb, ec, ek)
 
       pub named-short : not c ≡ true → (answered (Answer.Refused Refusal.BufferTooShort), o) ≡ unavailable h picked spent time out

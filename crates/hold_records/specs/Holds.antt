@@ -2,15 +2,12 @@
 use Prim.Native.Nat.{ℕ, _+_}
 use mathlib.Core.Bool.{Bool, true, false, not, cond}
 use mathlib.Core.List.{List, [], _∷_, _++_, map}
-use lib.Dec.{leb, eqb}
-use lib.ListN.{length, take}
-use Rattle.units.specs.declared.{Millis.Millis}
-use Rattle.units.specs.Units.{later, isBefore}
+use lib.{Dec.leb, Dec.eqb, ListN.length, ListN.take}
+use Rattle.units.specs.{declared.Millis.Millis, Units.later, Units.isBefore}
 use Rattle.molecule.specs.Molecule.{readable}
 use Rattle.transaction.specs.Ckb.{OutPoints}
-use Rattle.out_points.specs.declared.{OutPoint.OutPoint}
-use Rattle.out_points.specs.OutPoints.{eqPoint, has, points}
-use Rattle.out_points.specs.Tables.{keep, renew, Outcome, done, refused, check, hasRoom, written, putList}
+use Rattle.out_points.specs.{declared.OutPoint.OutPoint, OutPoints.eqPoint, OutPoints.has, OutPoints.points}
+use Rattle.out_points.specs.Tables.{keep, renew, Outcome, done, refused, check, hasRoom, written}
 use Rattle.hold_records.specs.declared.{Owner.Owner, Hold.Hold, Held.Held, Taker.Taker}
 
 -- the records that stand: the first `count`, and all of the array where `count` is beyond it
@@ -32,8 +29,7 @@ byOwner f w (Owner.Watchtower end) = w end
 unfoldable pub atMost256 : Held → List Hold → Outcome Held (List Hold)
 atMost256 h l = check (leb (length l) 256) (refused 14 h) (done l)
 
--- ---- "`hold_funding` drops a holder's records and adds the new list, repeats too"
-
+-- "`hold_funding` drops a holder's records and adds the new list, repeats too"
 unfoldable pub isNotOf : ℕ → Hold → Bool
 isNotOf holder r = byOwner (λ n. not (eqb n holder)) (λ end. true) (r .owner)
 
@@ -42,18 +38,14 @@ holdFunding h holder cells =
     check (readable OutPoints cells) (refused 3 h)
     (atMost256 h (keep (isNotOf holder) (recordsOf h) ++ map (heldBy (Owner.Funding holder)) (points cells)))
 
--- ---- "`release_for_watchtower` drops the named cells' watchtower records"
-
+-- "`release_for_watchtower` drops the named cells' watchtower records"
 unfoldable pub isUnnamed : List OutPoint → Hold → Bool
 isUnnamed cells r = byOwner (λ n. true) (λ end. not (has (r .point) cells)) (r .owner)
 
 unfoldable pub releaseForWatchtower : Held → List ℕ → Outcome Held (List Hold)
-releaseForWatchtower h cells =
-    check (readable OutPoints cells) (refused 3 h)
-    (done (keep (isUnnamed (points cells)) (recordsOf h)))
+releaseForWatchtower h cells = check (readable OutPoints cells) (refused 3 h) (done (keep (isUnnamed (points cells)) (recordsOf h)))
 
--- ---- "`hold_for_watchtower` sets the end to now + 1,800,000 (capped at 2^64 - 1), one record per cell"
-
+-- "`hold_for_watchtower` sets the end to now + 1,800,000 (capped at 2^64 - 1), one record per cell"
 unfoldable pub isTowerOn : OutPoint → Hold → Bool
 isTowerOn p r = byOwner (λ n. false) (λ end. eqPoint p (r .point)) (r .owner)
 
@@ -66,9 +58,7 @@ holdForWatchtower h cells now =
     check (readable OutPoints cells) (refused 3 h)
     (atMost256 h (renewAll (later now (record { 0 = 1800000 })) (recordsOf h) (points cells)))
 
--- ---- "`lock_held` drops ended records, then writes the out points left, in record order"
-
--- ended: "watchtower records whose end is not above now"
+-- "`lock_held` drops ended records, then writes the out points left, in record order": ended are "watchtower records whose end is not above now"
 unfoldable pub isLive : Millis → Hold → Bool
 isLive now r = byOwner (λ n. true) (λ end. isBefore now end) (r .owner)
 
@@ -77,8 +67,6 @@ lockHeld h now out =
     let left = keep (isLive now) (recordsOf h) in
     check (hasRoom (cellsOf left) out) (refused 13 h, out)
     (done left, written (cellsOf left) out)
-
--- ---- picks
 
 -- held by anybody, or spent
 unfoldable pub isBusy : List Hold → List OutPoint → OutPoint → Bool
@@ -100,14 +88,13 @@ others f before (p ∷ l) = cond (isNew f before p) (others f (p ∷ before) l) 
 -- "`unavailable` names, once each in pick order, picks spent or held unended, and changes nothing": 0 or the refusal's number, and the buffer
 unfoldable pub unavailable : Held → List ℕ → List ℕ → Millis → List ℕ → ℕ × List ℕ
 unavailable h picked spent now out =
-    let left = keep (isLive now) (recordsOf h) in
+    let named = firsts (isBusy (keep (isLive now) (recordsOf h)) (points spent)) [] (points picked) in
     check (readable OutPoints picked) (3, out)
     (check (readable OutPoints spent) (3, out)
-    (putList (firsts (isBusy left (points spent)) [] (points picked)) out))
+    (check (hasRoom named out) (13, out) (0, written named out)))
 
 -- ---- "`take` first drops watchtower records whose end is not above now; then a pick is refused if held by anybody, spent, or taken earlier in the
 -- call; otherwise it is recorded, for the watchtower until now + 60,000 (capped). Both lists keep pick order."
-
 unfoldable pub ownerFor : Taker → Millis → Owner
 ownerFor (Taker.Funding holder) now = Owner.Funding holder
 ownerFor Taker.Watchtower now = Owner.Watchtower (later now (record { 0 = 60000 }))

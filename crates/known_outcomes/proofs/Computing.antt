@@ -18,11 +18,11 @@ use Rattle.units.specs.Units.{isAtLeast, later}
 use Rattle.out_points.specs.OutPoints.{eqHash, eqPoint, has}
 use Rattle.out_points.specs.Tables.{keep, renew}
 use Rattle.hold_records.specs.Holds.{byOwner, isLive, isTowerOn, renewAll, isBusy, isNew, firsts, others}
-use Rattle.exclusions.specs.Calls.{filterB, isRecent, truncated}
+use Rattle.exclusions.specs.Exclusions.{isRecent, truncated}
 use Rattle.verdict_line.specs.VerdictLine.{digit, hex, digits, decimal, spaced, accepted, refusedWith, lineOf}
 use Rattle.case_file.specs.CaseFile as case
 use Rattle.case_file.specs.CaseFile.{kindAt, lengthAt, allZero, itemAt, optionalAt, rateAt, deadAt, cellAt, recordsFrom, recordBytes, readCase, caseOf, verdictOf, caseLine}
 
 unfoldable pub computing : Unit {0}
-unfolding later eqHash eqPoint has keep renew byOwner isLive isTowerOn renewAll isBusy isNew firsts others isAtLeast filterB isRecent truncated encode join unwords offsets flatten toLe requiredFee changeCapacity le numAt only pick there both each words cuts items split size chunks pieces oneByte decode readable bind part word start span fieldOf itemCount itemOf fixItem content entryOf eqBytes agree contains containsAll rawField witnessesOf readTx capacityOf lockOf typeOf firstOf dataOf readOurs recordAt readRecords check checkWith given _>>=_ _>>_ isEmpty total first figure.capacityOf hasAmount amountOf isOf surplus judge txOf scripts limits atFirst hasLock noDataUntyped comparison live liveCells spent tokenDelta fundingOutputDelta covered counted tally settled account tokenAccount accounts contribution digit hex digits decimal spaced accepted refusedWith lineOf case._>>=_ kindAt lengthAt allZero itemAt optionalAt rateAt deadAt cellAt case.recordAt recordsFrom recordBytes readCase caseOf verdictOf caseLine
+unfolding later eqHash eqPoint has keep renew byOwner isLive isTowerOn renewAll isBusy isNew firsts others isAtLeast isRecent truncated encode join unwords offsets flatten toLe requiredFee changeCapacity le numAt only pick there both each words cuts items split size chunks pieces oneByte decode readable bind part word start span fieldOf itemCount itemOf fixItem content entryOf eqBytes agree contains containsAll rawField witnessesOf readTx capacityOf lockOf typeOf firstOf dataOf readOurs recordAt readRecords check checkWith given _>>=_ _>>_ isEmpty total first figure.capacityOf hasAmount amountOf isOf surplus judge txOf scripts limits atFirst hasLock noDataUntyped comparison live liveCells spent tokenDelta fundingOutputDelta covered counted tally settled account tokenAccount accounts contribution digit hex digits decimal spaced accepted refusedWith lineOf case._>>=_ kindAt lengthAt allZero itemAt optionalAt rateAt deadAt cellAt case.recordAt recordsFrom recordBytes readCase caseOf verdictOf caseLine
 computing = tt

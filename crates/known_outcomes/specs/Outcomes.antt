@@ -16,7 +16,7 @@ use Rattle.units.specs.Units.{later}
 use Rattle.out_points.specs.declared.OutPoint.{OutPoint}
 use Rattle.out_points.specs.Tables.{keep}
 use Rattle.hold_records.specs.Holds.{isLive, renewAll, isBusy, firsts, others}
-use Rattle.exclusions.specs.Calls.{truncated}
+use Rattle.exclusions.specs.Exclusions.{truncated}
 use Rattle.case_file.specs.CaseFile.{caseLine}
 use Rattle.known_outcomes.specs.CaseFiles.{ascii, file, fileAt, firstFile}
 use Rattle.known_outcomes.specs.Cases.{expectedLock, tokenType, inputs, output, plain, token, amount, spending, crowd, cell, notLive, atRate, offer, Case, untyped, judged}

@@ -2,12 +2,9 @@
 use Prim.Native.Nat.{ℕ}
 use mathlib.Core.Bool.{Bool, cond}
 use mathlib.Core.List.{List, [], _∷_, _++_}
-use lib.Dec.{leb}
-use lib.ListN.{length, drop}
-use Rattle.error.specs.declared.{Answer.Answer}
-use Rattle.error.specs.Refusal.{number}
-use Rattle.out_points.specs.declared.{OutPoint.OutPoint}
-use Rattle.out_points.specs.OutPoints.{pointList}
+use lib.{Dec.leb, ListN.length, ListN.drop}
+use Rattle.error.specs.{declared.Answer.Answer, Refusal.number}
+use Rattle.out_points.specs.{declared.OutPoint.OutPoint, OutPoints.pointList}
 
 -- the elements that pass the test, in order
 unfoldable pub keep : {A : Type 0} → (A → Bool) → List A → List A
@@ -39,7 +36,3 @@ hasRoom l out = leb (length (pointList l)) (length out)
 
 unfoldable pub written : List OutPoint → List ℕ → List ℕ
 written l out = pointList l ++ drop (length (pointList l)) out
-
--- 0 and the buffer with the list, or 13 and the buffer as it was
-unfoldable pub putList : List OutPoint → List ℕ → ℕ × List ℕ
-putList l out = check (hasRoom l out) (13, out) (0, written l out)

@@ -2,7 +2,7 @@
 // describes, in sequences that each start from the empty table. A call is wrong if the library answers it by another number than is recorded, writes
 // another list, touches a lent byte behind it, or leaves another table.
 use arithmetic::little_endian;
-use exclusions::Answer;
+use error::Answer;
 use exclusions::Excluded;
 use exclusions::LiveCellsExclusionMap;
 use exclusions::Row;
@@ -132,14 +132,6 @@ fn run(map: LiveCellsExclusionMap, call: &[u8], a: &mut [u8]) -> Excluded {
 
 // ---- what it comes to
 
-// The number of an answer, and 0 for done.
-fn number(answer: Answer) -> u8 {
-    match answer {
-        Answer::Done => 0,
-        Answer::Refused(refusal) => refusal.number(),
-    }
-}
-
 fn is_filled(s: &[u8]) -> bool {
     let mut i = 0;
     while i < s.len() {
@@ -215,7 +207,7 @@ fn is_table(map: LiveCellsExclusionMap, rows: &[u8]) -> bool {
 
 fn is_right(after: Excluded, call: &[u8], a: &[u8]) -> bool {
     let answer = after.answer;
-    if number(answer) != answer_number(call) {
+    if answer.number() != answer_number(call) {
         return false;
     }
     if !is_written(a, first_room(call), field(call, 4)) {

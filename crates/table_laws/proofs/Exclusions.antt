@@ -13,10 +13,10 @@ use Rattle.molecule.specs.Molecule.{option, readable}
 use Rattle.transaction.specs.Ckb.{Transaction}
 use Rattle.out_points.specs.declared.{Byte32.Byte32, OutPoint.OutPoint}
 use Rattle.out_points.specs.OutPoints.{eqHash, byte32At}
-use Rattle.error.specs.Refusal.{number}
-use Rattle.exclusions.specs.declared.{LiveCellsExclusionMap.LiveCellsExclusionMap, Excluded.Excluded, Answer.Answer}
-use Rattle.exclusions.specs.Table.{Entry, entriesOf, After, left, kept, told}
-use Rattle.exclusions.specs.Calls.{filterB, withHash, committedAt, commitCall, without, removeCall, isRecent, truncated, excluded, spent, pending, renew, ifFits, withTx, ifTx, addCall, entered, migrateCall}
+use Rattle.error.specs.declared.{Answer.Answer}
+use Rattle.out_points.specs.Tables.{keep, renew, Outcome, done, refused, told}
+use Rattle.exclusions.specs.declared.{LiveCellsExclusionMap.LiveCellsExclusionMap, Excluded.Excluded}
+use Rattle.exclusions.specs.Exclusions.{Entry, entriesOf, hasHash, committedAt, commitCall, without, removeCall, isRecent, truncated, excluded, pending, entering, addCall, entered, migrateCall}
 use Rattle.table_laws.specs.Exclusions as run
 use Rattle.table_laws.specs.Exclusions.{Called, Reached, Within}
 
@@ -24,27 +24,30 @@ use Rattle.table_laws.specs.Exclusions.{Called, Reached, Within}
 abbrev Small : List Entry → Type 0
 Small l = (length l ≤ 64) × (length (excluded l) ≤ 512)
 
+abbrev After : Type 0
+After = Outcome LiveCellsExclusionMap (List Entry)
+
 -- an answer leaves a small list, or the map that it was given
 abbrev Fine : LiveCellsExclusionMap → After → Type 0
-Fine m (left l) = Small l
-Fine m (kept n k) = n ≡ m
+Fine m (done l) = Small l
+Fine m (refused k n) = n ≡ m
 
-sifted : (f : Entry → Bool) (l : List Entry) → (length (filterB f l) ≤ length l) × (length (excluded (filterB f l)) ≤ length (excluded l))
-unfolding filterB excluded
+sifted : (f : Entry → Bool) (l : List Entry) → (length (keep f l) ≤ length l) × (length (excluded (keep f l)) ≤ length (excluded l))
+unfolding keep excluded
 sifted f [] = (omega arith, omega arith)
 sifted f (e ∷ l) = by (f e) (sifted f l)
   where
-    by : (b : Bool) → (length (filterB f l) ≤ length l) × (length (excluded (filterB f l)) ≤ length (excluded l))
-        → (length (cond b (e ∷ filterB f l) (filterB f l)) ≤ suc (length l)) × (length (excluded (cond b (e ∷ filterB f l) (filterB f l))) ≤ length (e .points ++ excluded l))
-    by true (p, q) = (omega (arith, p), omega (arith, q, length-append (e .points) (excluded (filterB f l)), length-append (e .points) (excluded l)))
+    by : (b : Bool) → (length (keep f l) ≤ length l) × (length (excluded (keep f l)) ≤ length (excluded l))
+        → (length (cond b (e ∷ keep f l) (keep f l)) ≤ suc (length l)) × (length (excluded (cond b (e ∷ keep f l) (keep f l))) ≤ length (e .points ++ excluded l))
+    by true (p, q) = (omega (arith, p), omega (arith, q, length-append (e .points) (excluded (keep f l)), length-append (e .points) (excluded l)))
     by false (p, q) = (omega (arith, p), omega (arith, q, length-append (e .points) (excluded l)))
 
-sifted-small : (f : Entry → Bool) (l : List Entry) → Small l → Small (filterB f l)
+sifted-small : (f : Entry → Bool) (l : List Entry) → Small l → Small (keep f l)
 sifted-small f l (p, q) = let (a, b) = sifted f l in (omega (arith, a, p), omega (arith, b, q))
 
 marked : (hash : Byte32) (block : BlockNumber) (e : Entry) → committedAt hash block e .points ≡ e .points
 unfolding committedAt
-marked hash block e = by (eqHash (e .hash) hash)
+marked hash block e = by (hasHash hash e)
   where
     by : (b : Bool) → cond b (record { hash = hash; committed = some block; points = e .points }) e .points ≡ e .points
     by true = refl
@@ -57,65 +60,54 @@ marked-all hash block (e ∷ l) =
     let (p, q) = marked-all hash block l in
     (ap suc p, ap (λ (ps : List OutPoint). ps ++ excluded (map (committedAt hash block) l)) (marked hash block e) ∙ ap (λ (ps : List OutPoint). e .points ++ ps) q)
 
-fits : (m : LiveCellsExclusionMap) (l : List Entry) → Fine m (ifFits m l)
-unfolding ifFits
-fits m l = by (leb (length l) 64) (leb (length (excluded l)) 512) refl refl
-  where
-    by : (a b : Bool) → leb (length l) 64 ≡ a → leb (length (excluded l)) 512 ≡ b → Fine m (cond a (cond b (left l) (kept m 15)) (kept m 15))
-    by true true p q = (leb-true _ _ p, leb-true _ _ q)
-    by true false p q = refl
-    by false b p q = refl
-
-with-hash : (m : LiveCellsExclusionMap) (s : List ℕ) (f : Byte32 → After) → ((h : Byte32) → Fine m (f h)) → Fine m (withHash m s f)
-unfolding withHash
-with-hash m s f g = by (eqb (length s) 32)
-  where
-    by : (b : Bool) → Fine m (cond b (f (byte32At s 0)) (kept m 3))
-    by true = g (byte32At s 0)
-    by false = refl
-
-with-tx : (m : LiveCellsExclusionMap) (tx : List ℕ) (a : After) → Fine m a → Fine m (withTx m tx a)
-unfolding withTx
-with-tx m tx a g = by (readable (option Transaction) tx)
-  where
-    by : (b : Bool) → Fine m (cond b a (kept m 1))
-    by true = g
-    by false = refl
-
-if-tx : (m : LiveCellsExclusionMap) (tx : List ℕ) (a b : After) → Fine m a → Fine m b → Fine m (ifTx tx a b)
-unfolding ifTx
-if-tx m tx a b g h = by (eqb (length tx) 0)
-  where
-    by : (c : Bool) → Fine m (cond c b a)
-    by true = h
-    by false = g
+checked : (m : LiveCellsExclusionMap) (c : Bool) (n : ℕ) (a : After) → Fine m a → Fine m (cond c a (refused n m))
+checked m true n a g = g
+checked m false n a g = refl
 
 either : (m : LiveCellsExclusionMap) (c : Bool) (a b : After) → Fine m a → Fine m b → Fine m (cond c a b)
 either m true a b g h = g
 either m false a b g h = h
 
+enters : (m : LiveCellsExclusionMap) (l : List Entry) (hash : Byte32) (tx : List ℕ) → Small l → Fine m (entering m l hash tx)
+unfolding entering
+enters m l hash tx s =
+    by (renew (hasHash hash) (pending hash tx) l) (eqb (length tx) 0) (leb (length (renew (hasHash hash) (pending hash tx) l)) 64) (leb (length (excluded (renew (hasHash hash) (pending hash tx) l))) 512) refl refl
+  where
+    by : (k : List Entry) (t a b : Bool) → leb (length k) 64 ≡ a → leb (length (excluded k)) 512 ≡ b → Fine m (cond t (done l) (cond a (cond b (done k) (refused 15 m)) (refused 15 m)))
+    by k true a b p q = s
+    by k false true true p q = (leb-true _ _ p, leb-true _ _ q)
+    by k false true false p q = refl
+    by k false false b p q = refl
+
 -- what a call answered, read back from the map that it returned
-back : (m : LiveCellsExclusionMap) (r : Excluded) (a : After) → told (r .map) (r .answer) ≡ a → Fine m a → Small (entriesOf m) → Small (entriesOf (r .map))
+back : (m : LiveCellsExclusionMap) (r : Excluded) (a : After) → told entriesOf (r .answer) (r .map) ≡ a → Fine m a → Small (entriesOf m) → Small (entriesOf (r .map))
 unfolding told
 back m r a e g s = by (r .answer) (subst (Fine m) (sym e) g)
   where
-    by : (v : Answer) → Fine m (told (r .map) v) → Small (entriesOf (r .map))
+    by : (v : Answer) → Fine m (told entriesOf v (r .map)) → Small (entriesOf (r .map))
     by Answer.Done g = g
     by (Answer.Refused x) g = subst (λ (n : LiveCellsExclusionMap). Small (entriesOf n)) (sym g) s
 
 step : {m n : LiveCellsExclusionMap} → Called m n → Small (entriesOf m) → Small (entriesOf n)
 unfolding commitCall removeCall truncated without addCall migrateCall
 step (run.commit {m} r hash block e) s =
-    back m r _ e (with-hash m hash _ (λ h. (let (p, q) = marked-all h block (entriesOf m) in (omega (arith, p, s .0), omega (arith, ap length q, s .1))))) s
-step (run.remove {m} r hash e) s = back m r _ e (with-hash m hash _ (λ h. sifted-small (λ (x : Entry). not (eqHash (x .hash) h)) (entriesOf m) s)) s
+    let h = byte32At hash 0 in
+    let (p, q) = marked-all h block (entriesOf m) in
+    back m r _ e (checked m (eqb (length hash) 32) 3 (done (map (committedAt h block) (entriesOf m))) (omega (arith, p, s .0), omega (arith, ap length q, s .1))) s
+step (run.remove {m} r hash e) s =
+    back m r _ e (checked m (eqb (length hash) 32) 3 (done (without (byte32At hash 0) (entriesOf m))) (sifted-small (λ (x : Entry). not (hasHash (byte32At hash 0) x)) (entriesOf m) s)) s
 step (run.truncate {m} {n} tip e) s = subst Small (sym e) (sifted-small (λ (x : Entry). isRecent tip (x .committed)) (entriesOf m) s)
-step (run.add {m} r hash tx e) s = back m r _ e (with-tx m tx _ (with-hash m hash _ (λ h. if-tx m tx _ _ (fits m _) s))) s
+step (run.add {m} r hash tx e) s =
+    back m r _ e (checked m (readable (option Transaction) tx) 1 _ (checked m (eqb (length hash) 32) 3 _ (enters m (entriesOf m) (byte32At hash 0) tx s))) s
 step (run.migrate {m} r old new tx e) s =
+    let o = byte32At old 0 in
+    let l : List Entry = without o (entriesOf m) in
     back m r _ e
-    (with-tx m tx _
-    (with-hash m old _ (λ o.
-    with-hash m new _ (λ h.
-    either m (entered o (entriesOf m)) _ _ (if-tx m tx _ _ (fits m _) (sifted-small (λ (x : Entry). not (eqHash (x .hash) o)) (entriesOf m) s)) s))))
+    (checked m (readable (option Transaction) tx) 1 _
+    (checked m (eqb (length old) 32) 3 _
+    (checked m (eqb (length new) 32) 3 _
+    (either m (entered o (entriesOf m)) (entering m l (byte32At new 0) tx) (done (entriesOf m))
+    (enters m l (byte32At new 0) tx (sifted-small (λ (x : Entry). not (hasHash o x)) (entriesOf m) s)) s))))
     s
 
 small : {m : LiveCellsExclusionMap} → Reached m → Small (entriesOf m)

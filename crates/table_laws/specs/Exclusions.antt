@@ -5,16 +5,16 @@ use mathlib.Core.List.{List, []}
 use lib.ListN.{length}
 use Rattle.units.specs.declared.BlockNumber.{BlockNumber}
 use Rattle.exclusions.specs.declared.{LiveCellsExclusionMap.LiveCellsExclusionMap, Excluded.Excluded}
-use Rattle.exclusions.specs.Table.{entriesOf, told}
-use Rattle.exclusions.specs.Calls.{commitCall, removeCall, truncated, addCall, migrateCall, excluded}
+use Rattle.out_points.specs.Tables.{told}
+use Rattle.exclusions.specs.Exclusions.{entriesOf, commitCall, removeCall, truncated, addCall, migrateCall, excluded}
 
 -- from one map to the next by a call; `apply` changes none
 pub data Called : LiveCellsExclusionMap → LiveCellsExclusionMap → Type 0 where
-  commit : {m : LiveCellsExclusionMap} (r : Excluded) (hash : List ℕ) (block : BlockNumber) → told (r .map) (r .answer) ≡ commitCall m hash block → Called m (r .map)
-  remove : {m : LiveCellsExclusionMap} (r : Excluded) (hash : List ℕ) → told (r .map) (r .answer) ≡ removeCall m hash → Called m (r .map)
+  commit : {m : LiveCellsExclusionMap} (r : Excluded) (hash : List ℕ) (block : BlockNumber) → told entriesOf (r .answer) (r .map) ≡ commitCall m hash block → Called m (r .map)
+  remove : {m : LiveCellsExclusionMap} (r : Excluded) (hash : List ℕ) → told entriesOf (r .answer) (r .map) ≡ removeCall m hash → Called m (r .map)
   truncate : {m n : LiveCellsExclusionMap} (tip : BlockNumber) → entriesOf n ≡ truncated tip (entriesOf m) → Called m n
-  add : {m : LiveCellsExclusionMap} (r : Excluded) (hash tx : List ℕ) → told (r .map) (r .answer) ≡ addCall m hash tx → Called m (r .map)
-  migrate : {m : LiveCellsExclusionMap} (r : Excluded) (old new tx : List ℕ) → told (r .map) (r .answer) ≡ migrateCall m old new tx → Called m (r .map)
+  add : {m : LiveCellsExclusionMap} (r : Excluded) (hash tx : List ℕ) → told entriesOf (r .answer) (r .map) ≡ addCall m hash tx → Called m (r .map)
+  migrate : {m : LiveCellsExclusionMap} (r : Excluded) (old new tx : List ℕ) → told entriesOf (r .answer) (r .map) ≡ migrateCall m old new tx → Called m (r .map)
 
 -- the maps that calls reach from an empty one
 pub data Reached : LiveCellsExclusionMap → Type 0 where

@@ -11,8 +11,6 @@ add-spec =
     (λ c. search ways)  -- returns
     (λ c κs. search ways)  -- refused-requires-2
     (λ c. search ways)  -- returns-2
-    (λ c κs. search ways)  -- done-requires
-    (λ c. search ways)  -- returns-3
     (λ c κs. search ways)  -- byte32-at-requires
     (λ c κs. search ways)  -- enter-requires
-    (λ c. search ways))  -- returns-4
+    (λ c. search ways))  -- returns-3

@@ -1,7 +1,7 @@
 use Prim.Native.Nat.{_-_}
 use mathlib.Core.List.{_++_}
 use lib.ListN.{drop}
-use Rattle.exclusions.specs.Table.{rowsOf}
+use Rattle.exclusions.specs.Rows.{rowsOf}
 use Rattle.exclusions.proofs.PlaceLaws.{Joining}
 use Rattle.exclusions.proofs.Ways.{ways}
 use Rattle.exclusions.proofs.append_rows.Statement.{statement}

@@ -6,6 +6,8 @@ pub enter-spec : {M : Type 1} → statement M
 enter-spec =
     tie.close
     (tie.spec
+    (λ c κs. search ways)  -- done-requires
+    (λ c. search ways)  -- returns
     (λ c κs. search ways)  -- keep-requires
     (λ c κs. search ways)  -- input-count-requires
     (λ c κs. search ways)  -- place-of-requires
@@ -13,8 +15,8 @@ enter-spec =
     (λ c κs. search ways)  -- skip-inputs-requires
     (λ c κs. search ways)  -- has-room-requires
     (λ c κs. search ways)  -- refused-requires
-    (λ c. search ways)  -- returns
+    (λ c. search ways)  -- returns-2
     (λ c. search ways)  -- cast-put-in-place
     (λ c κs. search ways)  -- put-in-place-requires
-    (λ c κs. search ways)  -- done-requires
-    (λ c. search ways))  -- returns-2
+    (λ c κs. search ways)  -- done-requires-2
+    (λ c. search ways))  -- returns-3

@@ -18,8 +18,6 @@ migrate-funding-tx-spec =
     (λ c κs. search ways)  -- done-requires
     (λ c. search ways)  -- returns-4
     (λ c κs. search ways)  -- keep-requires
-    (λ c κs. search ways)  -- done-requires-2
-    (λ c. search ways)  -- returns-5
     (λ c κs. search ways)  -- byte32-at-requires-2
     (λ c κs. search ways)  -- enter-requires
-    (λ c. search ways))  -- returns-6
+    (λ c. search ways))  -- returns-5

@@ -1,5 +1,5 @@
 use Prim.Native.Nat.{_-_}
-use Rattle.exclusions.specs.Table.{rowsOf}
+use Rattle.exclusions.specs.Rows.{rowsOf}
 use Rattle.exclusions.specs.Rows.{placeOf}
 use Rattle.exclusions.proofs.PlaceLaws.{Placing}
 use Rattle.exclusions.proofs.Ways.{ways}

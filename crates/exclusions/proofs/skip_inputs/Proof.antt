@@ -1,6 +1,6 @@
 use Prim.Native.Nat.{_+_, _-_}
 use lib.ListN.{length, drop}
-use Rattle.exclusions.specs.Table.{rowsOf, loose}
+use Rattle.exclusions.specs.Rows.{rowsOf, loose}
 use Rattle.exclusions.proofs.PlaceLaws.{Skipping}
 use Rattle.exclusions.proofs.Ways.{ways}
 use Rattle.exclusions.proofs.skip_inputs.Statement.{statement}
