@@ -192,7 +192,8 @@ pub fn take_from(
 {
     let t = tally(live, picked, spent, owner);
     let count = t.count;
-    let rest = molecule::fix_count(picked) - count;
+    let n = molecule::fix_count(picked);
+    let rest = n - count;
     if taken.len() < 4 + 36 * (count as usize) {
         return hold_records::refuse(held, Refusal::BufferTooShort);
     }
