@@ -1,29 +1,29 @@
--- A cell that `take` gave is refused to every later `take` while its record stands and lives, and which calls a record outlives: all that keep it, so
--- it goes by the end of its time, by a release that names it, by its holder's next `hold_funding`, or gives its place to a renewed one.
+-- A record stands over any list of calls none of which ends it, and its cell is given to nobody while it lives.
 use mathlib.Core.Path.{_≡_, refl, sym, ap, _∙_, subst}
 use Prim.Native.Nat.{ℕ}
 use native.Mathlib.Omega.{arith}
 use mathlib.Core.Bool.{Bool, true, false, not, cond}
 use mathlib.Core.List.{List, [], _∷_, _++_, map}
 use Rattle.units.specs.declared.{Millis.Millis}
+use Rattle.units.specs.Units.{later}
+use Rattle.error.specs.declared.{Answer.Answer}
 use Rattle.out_points.specs.declared.{OutPoint.OutPoint}
-use Rattle.out_points.specs.OutPoints.{eqPoint, has}
+use Rattle.out_points.specs.OutPoints.{eqPoint, has, points}
 use Rattle.out_points.proofs.EqualLaws.{point-same, point-refl}
-use Rattle.out_points.specs.Tables.{keep, renew}
-use Rattle.hold_records.specs.declared.{Owner.Owner, Hold.Hold}
-use Rattle.hold_records.specs.Holds.{heldBy, isLive, isTowerOn, cellsOf, isBusy, firsts}
+use Rattle.out_points.specs.Tables.{keep, renew, told}
+use Rattle.hold_records.specs.declared.{Owner.Owner, Hold.Hold, Held.Held, Holds.Holds, Taker.Taker}
+use Rattle.hold_records.specs.Holds.{recordsOf, heldBy, byOwner, cellsOf, isNotOf, isUnnamed, isTowerOn, renewAll, isLive, isBusy, ownerFor, takeCells}
+use Rattle.table_laws.specs.Holds as run
+use Rattle.table_laws.specs.Holds.{Called, Stands, here, there, outlives, Outlived, unended, given, NotGiven, StaysHeld, GivenOnce}
+use Rattle.table_laws.proofs.Calls.{After, Fine, back, hold-fine, watch-fine, release-fine, locked-fine, take-fine}
 use Rattle.table_laws.proofs.Holds.{busy-not-given}
 
 abbrev tower : Millis → OutPoint → Hold
 tower t q = heldBy (Owner.Watchtower t) q
 
-pub data Stands (r : Hold) : List Hold → Type 0 where
-  here : (l : List Hold) → Stands r (r ∷ l)
-  there : (x : Hold) (l : List Hold) → Stands r l → Stands r (x ∷ l)
-
 -- ---- which calls it outlives
 
-pub stands-keep : (r : Hold) (f : Hold → Bool) (l : List Hold) → f r ≡ true → Stands r l → Stands r (keep f l)
+stands-keep : (r : Hold) (f : Hold → Bool) (l : List Hold) → f r ≡ true → Stands r l → Stands r (keep f l)
 unfolding keep
 stands-keep r f l h (here k) = rw h (here (keep f k))
 stands-keep r f l h (there x k s) = by (f x) (stands-keep r f k h s)
@@ -32,11 +32,11 @@ stands-keep r f l h (there x k s) = by (f x) (stands-keep r f k h s)
     by true s = there x (keep f k) s
     by false s = s
 
-pub stands-append : (r : Hold) (l m : List Hold) → Stands r l → Stands r (l ++ m)
+stands-append : (r : Hold) (l m : List Hold) → Stands r l → Stands r (l ++ m)
 stands-append r l m (here k) = here (k ++ m)
 stands-append r l m (there x k s) = there x (k ++ m) (stands-append r k m s)
 
-pub stands-renew : (t : Millis) (r : Hold) (l : List Hold) (q : OutPoint) → isTowerOn q r ≡ false → Stands r l → Stands r (renew (isTowerOn q) (tower t q) l)
+stands-renew : (t : Millis) (r : Hold) (l : List Hold) (q : OutPoint) → isTowerOn q r ≡ false → Stands r l → Stands r (renew (isTowerOn q) (tower t q) l)
 unfolding renew
 stands-renew t r l q h (here k) = rw h (here (renew (isTowerOn q) (tower t q) k))
 stands-renew t r l q h (there x k s) = by (isTowerOn q x) (stands-renew t r k q h s)
@@ -45,15 +45,28 @@ stands-renew t r l q h (there x k s) = by (isTowerOn q x) (stands-renew t r k q 
     by true n = there (tower t q) k s
     by false n = there x (renew (isTowerOn q) (tower t q) k) n
 
--- the renewed one stands in its place
-pub renewed-stands : (t : Millis) (l : List Hold) (q : OutPoint) → Stands (tower t q) (renew (isTowerOn q) (tower t q) l)
-unfolding renew
-renewed-stands t [] q = here []
-renewed-stands t (x ∷ l) q = by (isTowerOn q x) (renewed-stands t l q)
+no-path : false ≡ true → ⊥
+no-path e = let z : _≡_ {A = ℕ} 0 1 = cc in omega arith
+
+-- a record on none of the cells is not on the first of them, nor on one of the others
+unnamed-next : (r : Hold) (q : OutPoint) (ps : List OutPoint) → isUnnamed (q ∷ ps) r ≡ true → (isTowerOn q r ≡ false) × (isUnnamed ps r ≡ true)
+unfolding isUnnamed isTowerOn byOwner has
+unnamed-next r q ps h = by (r .owner) h
   where
-    by : (b : Bool) → Stands (tower t q) (renew (isTowerOn q) (tower t q) l) → Stands (tower t q) (cond b (tower t q ∷ l) (x ∷ renew (isTowerOn q) (tower t q) l))
-    by true n = here l
-    by false n = there x (renew (isTowerOn q) (tower t q) l) n
+    other : (b c : Bool) → eqPoint (r .point) q ≡ b → eqPoint q (r .point) ≡ c → not (cond b true (has (r .point) ps)) ≡ true → (c ≡ false) × (not (has (r .point) ps) ≡ true)
+    other true c e f h = absurd (no-path h)
+    other false true e f h = absurd (no-path (sym e ∙ ap (eqPoint (r .point)) (point-same q (r .point) f) ∙ point-refl (r .point)))
+    other false false e f h = (refl, h)
+
+    by : (o : Owner) → byOwner (λ n. true) (λ end. not (cond (eqPoint (r .point) q) true (has (r .point) ps))) o ≡ true
+        → (byOwner (λ n. false) (λ end. eqPoint q (r .point)) o ≡ false) × (byOwner (λ n. true) (λ end. not (has (r .point) ps)) o ≡ true)
+    by (Owner.Funding n) h = (refl, refl)
+    by (Owner.Watchtower end) h = other (eqPoint (r .point) q) (eqPoint q (r .point)) refl refl h
+
+stands-renewed : (t : Millis) (r : Hold) (ps : List OutPoint) (l : List Hold) → isUnnamed ps r ≡ true → Stands r l → Stands r (renewAll t l ps)
+unfolding renewAll
+stands-renewed t r [] l h s = s
+stands-renewed t r (q ∷ ps) l h s = let (a, b) = unnamed-next r q ps h in stands-renewed t r ps (renew (isTowerOn q) (tower t q) l) b (stands-renew t r l q a s)
 
 -- ---- what `take` gave stands
 
@@ -70,10 +83,10 @@ recorded o p (q ∷ l) h = by (eqPoint p q) refl h (recorded o p l)
     by true e h f = subst (λ (x : OutPoint). Stands (heldBy o p) (heldBy o x ∷ map (heldBy o) l)) (point-same p q e) (here (map (heldBy o) l))
     by false e h f = there (heldBy o q) (map (heldBy o) l) (f h)
 
-pub taken-stands : (o : Owner) (p : OutPoint) (left : List Hold) (taken : List OutPoint) → has p taken ≡ true → Stands (heldBy o p) (left ++ map (heldBy o) taken)
+taken-stands : (o : Owner) (p : OutPoint) (left : List Hold) (taken : List OutPoint) → has p taken ≡ true → Stands (heldBy o p) (left ++ map (heldBy o) taken)
 taken-stands o p left taken h = behind (heldBy o p) left (map (heldBy o) taken) (recorded o p taken h)
 
--- ---- and is refused while it lives
+-- ---- and its cell is held
 
 stands-has : (r : Hold) (l : List Hold) → Stands r l → has (r .point) (cellsOf l) ≡ true
 unfolding has
@@ -84,8 +97,39 @@ stands-has r l (there x k s) = by (eqPoint (r .point) (x .point)) (stands-has r 
     by true h = refl
     by false h = h
 
-pub stands-refused : (t : Millis) (o : Owner) (p : OutPoint) (l : List Hold) (spent picks : List OutPoint) → Stands (heldBy o p) l → isLive t (heldBy o p) ≡ true
-    → has p (firsts (λ q. not (isBusy (keep (isLive t) l) spent q)) [] picks) ≡ false
+-- ---- over any list of calls
+
+outlived : (x : Hold) {g h : Held} (c : Called g h) → outlives x c ≡ true → Stands x (recordsOf g) → Stands x (recordsOf h)
+unfolding outlives
+outlived x (run.hold {h} r holder cells e) o s =
+    back (Stands x) h r _ e (hold-fine (Stands x) h holder cells (stands-append x (keep (isNotOf holder) (recordsOf h)) _ (stands-keep x (isNotOf holder) (recordsOf h) o s))) s
+outlived x (run.watch {h} r cells now e) o s =
+    back (Stands x) h r _ e (watch-fine (Stands x) h cells now (stands-renewed (later now (record { 0 = 1800000 })) x (points cells) (recordsOf h) o s)) s
+outlived x (run.release {h} r cells e) o s = back (Stands x) h r _ e (release-fine (Stands x) h cells (stands-keep x (isUnnamed (points cells)) (recordsOf h) o s)) s
+outlived x (run.locked {h} r now out after e) o s =
+    back (Stands x) h r _ (ap (λ (y : After × List ℕ). y .0) e) (locked-fine (Stands x) h now out (stands-keep x (isLive now) (recordsOf h) o s)) s
+outlived x (run.take {h} r picked spent taker now out₁ out₂ after₁ after₂ e) o s =
+    back (Stands x) h r _ (ap (λ (y : After × List ℕ × List ℕ). y .0) e)
+    (take-fine (Stands x) h picked spent taker now out₁ out₂ (stands-append x (unended h now) _ (stands-keep x (isLive now) (recordsOf h) o s))) s
+
+still : (x : Hold) {g h : Held} → Stands x (recordsOf g) → Outlived x g h → Stands x (recordsOf h)
+still x s run.none = s
+still x s (run.then cs c o) = outlived x c o (still x s cs)
+
+not-given : (x : Hold) (h : Held) → Stands x (recordsOf h) → NotGiven x h
 unfolding isBusy
-stands-refused t o p l spent picks s h =
-    busy-not-given (keep (isLive t) l) spent p picks (rw (stands-has (heldBy o p) (keep (isLive t) l) (stands-keep (heldBy o p) (isLive t) l h s)))
+not-given x h s now spent picks l = busy-not-given (unended h now) spent (x .point) picks (rw (stands-has x (unended h now) (stands-keep x (isLive now) (recordsOf h) l s)))
+
+pub stays-held : StaysHeld
+stays-held x g h s cs = let t = still x s cs in (t, not-given x h t)
+
+pub given-once : GivenOnce
+unfolding told
+given-once f h r picked spent taker now out₁ out₂ after₁ after₂ e d p k cs =
+    let left : List Hold = unended f now in
+    let taken : List OutPoint = given f now (points spent) (points picked) in
+    let x : Hold = heldBy (ownerFor taker now) p in
+    let a : Fine (Stands x) f (takeCells f picked spent taker now out₁ out₂ .0) = take-fine (Stands x) f picked spent taker now out₁ out₂ (taken-stands (ownerFor taker now) p left taken k) in
+    let b : Fine (Stands x) f (told recordsOf (r .answer) (r .held)) = subst (Fine (Stands x) f) (sym (ap (λ (y : After × List ℕ × List ℕ). y .0) e)) a in
+    let s : Stands x (recordsOf (r .held)) = subst (λ (v : Answer). Fine (Stands x) f (told recordsOf v (r .held))) d b in
+    not-given x h (still x s cs)

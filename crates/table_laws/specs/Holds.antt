@@ -5,10 +5,11 @@ use mathlib.Core.Bool.{Bool, true, false, not, cond}
 use mathlib.Core.List.{List, [], _∷_, _++_, map}
 use Rattle.units.specs.declared.Millis.{Millis}
 use Rattle.out_points.specs.declared.OutPoint.{OutPoint}
-use Rattle.out_points.specs.OutPoints.{has}
+use Rattle.error.specs.declared.{Answer.Answer}
+use Rattle.out_points.specs.OutPoints.{has, points}
 use Rattle.out_points.specs.Tables.{keep, told}
 use Rattle.hold_records.specs.declared.{Owner.Owner, Hold.Hold, Held.Held, Holds.Holds, Taker.Taker}
-use Rattle.hold_records.specs.Holds.{recordsOf, isTowerOn, holdFunding, releaseForWatchtower, holdForWatchtower, lockHeld, takeCells, isLive, cellsOf, isBusy, firsts, heldBy}
+use Rattle.hold_records.specs.Holds.{recordsOf, isNotOf, isUnnamed, isTowerOn, ownerFor, holdFunding, releaseForWatchtower, holdForWatchtower, lockHeld, takeCells, isLive, cellsOf, isBusy, firsts, heldBy}
 
 -- from one table to the next by a call; `unavailable` changes none
 pub data Called : Held → Held → Type 0 where
@@ -55,3 +56,39 @@ GivenHeld = (h : Held) (now : Millis) (spent picks : List OutPoint) (owner : Own
 -- `lock_held` writes exactly the cells that `take` would refuse for being held
 abbrev pub LockedRefused : Type 0
 LockedRefused = (h : Held) (now : Millis) (p : OutPoint) → has p (cellsOf (unended h now)) ≡ not (has p (given h now [] (p ∷ [])))
+
+-- ---- how long: over any list of calls
+
+-- the record stands in the list
+pub data Stands (x : Hold) : List Hold → Type 0 where
+  here : (l : List Hold) → Stands x (x ∷ l)
+  there : (y : Hold) (l : List Hold) → Stands x l → Stands x (y ∷ l)
+
+-- the record outlives the call. Calls that end it: `hold_funding` by its own holder; `hold_for_watchtower` on its cell, which replaces a watchtower
+-- record; `release_for_watchtower` on its cell; `lock_held` and `take` at a time at which it is no longer live
+unfoldable pub outlives : {g h : Held} → Hold → Called g h → Bool
+outlives x (hold r holder cells e) = isNotOf holder x
+outlives x (watch r cells now e) = isUnnamed (points cells) x
+outlives x (release r cells e) = isUnnamed (points cells) x
+outlives x (locked r now out after e) = isLive now x
+outlives x (take r picked spent taker now out₁ out₂ after₁ after₂ e) = isLive now x
+
+-- a list of calls from one table to another, none of which ends x
+pub data Outlived (x : Hold) : Held → Held → Type 0 where
+  none : {h : Held} → Outlived x h h
+  then : {f g h : Held} → Outlived x f g → (c : Called g h) → outlives x c ≡ true → Outlived x f h
+
+-- no `take` from h gives the cell of x to anybody, whenever x is live
+abbrev pub NotGiven : Hold → Held → Type 0
+NotGiven x h = (now : Millis) (spent picks : List OutPoint) → isLive now x ≡ true → has (x .point) (given h now spent picks) ≡ false
+
+-- a record stands after any list of calls none of which ends it, and so its cell is given to nobody while it is live
+abbrev pub StaysHeld : Type 0
+StaysHeld = (x : Hold) (g h : Held) → Stands x (recordsOf g) → Outlived x g h → Stands x (recordsOf h) × NotGiven x h
+
+-- and so a cell p that a `take` gave is given to nobody by any later `take`, until a call ends its record or its time is over
+abbrev pub GivenOnce : Type 0
+GivenOnce = (f h : Held) (r : Holds) (picked spent : List ℕ) (taker : Taker) (now : Millis) (out₁ out₂ after₁ after₂ : List ℕ)
+    → (told recordsOf (r .answer) (r .held), after₁, after₂) ≡ takeCells f picked spent taker now out₁ out₂ → r .answer ≡ Answer.Done
+    → (p : OutPoint) → has p (given f now (points spent) (points picked)) ≡ true
+    → Outlived (heldBy (ownerFor taker now) p) (r .held) h → NotGiven (heldBy (ownerFor taker now) p) h
