@@ -7,10 +7,10 @@ use exclusions::Excluded;
 use exclusions::LiveCellsExclusionMap;
 use exclusions::Row;
 use exclusions::Slot;
-use libc::STDIN_FILENO;
-use libc::STDOUT_FILENO;
 use out_points::Byte32;
 use out_points::OutPoint;
+use recorded_calls::COUNTS;
+use recorded_calls::FILL;
 use units::BlockNumber;
 
 // Room for the longest part behind the first one, and for the longest lent buffer.
@@ -18,61 +18,11 @@ const ROOM: usize = 600_000;
 
 const LIST_ROOM: usize = 20_000;
 
-// What stands in a lent buffer before the call.
-const FILL: u8 = 165;
-
-// The counts: calls by kind (of 0, sequences), then wrong ones by kind, then those that the Rust answers alike, and those where it goes over a bound.
-const KINDS: usize = 7;
-
-const ALIKE: usize = 14;
-
-const OVER: usize = 15;
-
-const COUNTS: usize = 16;
-
-fn plus(a: usize, b: usize) -> usize {
-    if usize::MAX - a < b {
-        return usize::MAX;
-    }
-    a + b
-}
-
-fn minus(a: usize, b: usize) -> usize {
-    if a < b {
-        return 0;
-    }
-    a - b
-}
-
 // ---- a call's fields
-
-fn field(call: &[u8], i: usize) -> &[u8] {
-    molecule::field(call, 8, i)
-}
-
-// Which call it is.
-fn kind(call: &[u8]) -> u8 {
-    little_endian::byte(field(call, 0), 0)
-}
-
-// Whether the Rust answers it alike (1), or goes over a bound or a buffer that it does not know (2).
-fn mark(call: &[u8]) -> u8 {
-    little_endian::byte(field(call, 0), 1)
-}
-
-// The number of the recorded answer.
-fn answer_number(call: &[u8]) -> u8 {
-    little_endian::byte(field(call, 0), 2)
-}
 
 // The block of a commitment, or the tip.
 fn block(call: &[u8]) -> BlockNumber {
-    BlockNumber(little_endian::u64_at(field(call, 0), 4))
-}
-
-// How long the lent buffer is.
-fn first_room(call: &[u8]) -> usize {
-    little_endian::u32_at(field(call, 0), 20) as usize
+    BlockNumber(little_endian::u64_at(recorded_calls::field(call, 0), 4))
 }
 
 // ---- one call
@@ -82,7 +32,7 @@ fn answered(map: LiveCellsExclusionMap, answer: Answer) -> Excluded {
 }
 
 fn apply(map: LiveCellsExclusionMap, call: &[u8], a: &mut [u8]) -> Excluded {
-    let n = first_room(call);
+    let n = recorded_calls::first_room(call);
     if a.len() < n {
         return answered(map, Answer::Done);
     }
@@ -93,21 +43,30 @@ fn apply(map: LiveCellsExclusionMap, call: &[u8], a: &mut [u8]) -> Excluded {
 
 // The calls with a transaction.
 fn run_entering(map: LiveCellsExclusionMap, call: &[u8]) -> Excluded {
-    if kind(call) == 1 {
-        return exclusions::add(map, field(call, 1), field(call, 3));
+    if recorded_calls::kind(call) == 1 {
+        return exclusions::add(
+            map,
+            recorded_calls::field(call, 1),
+            recorded_calls::field(call, 3),
+        );
     }
-    exclusions::migrate_funding_tx(map, field(call, 1), field(call, 2), field(call, 3))
+    exclusions::migrate_funding_tx(
+        map,
+        recorded_calls::field(call, 1),
+        recorded_calls::field(call, 2),
+        recorded_calls::field(call, 3),
+    )
 }
 
 // The other calls that write nothing.
 fn run_plain(map: LiveCellsExclusionMap, call: &[u8]) -> Excluded {
-    let k = kind(call);
+    let k = recorded_calls::kind(call);
     if k == 2 {
         let at = block(call);
-        return exclusions::commit(map, field(call, 1), at);
+        return exclusions::commit(map, recorded_calls::field(call, 1), at);
     }
     if k == 3 {
-        return exclusions::remove(map, field(call, 1));
+        return exclusions::remove(map, recorded_calls::field(call, 1));
     }
     if k == 5 {
         let tip = block(call);
@@ -117,7 +76,7 @@ fn run_plain(map: LiveCellsExclusionMap, call: &[u8]) -> Excluded {
 }
 
 fn run(map: LiveCellsExclusionMap, call: &[u8], a: &mut [u8]) -> Excluded {
-    let k = kind(call);
+    let k = recorded_calls::kind(call);
     if k == 1 {
         return run_entering(map, call);
     }
@@ -131,26 +90,6 @@ fn run(map: LiveCellsExclusionMap, call: &[u8], a: &mut [u8]) -> Excluded {
 }
 
 // ---- what it comes to
-
-fn is_filled(s: &[u8]) -> bool {
-    let mut i = 0;
-    while i < s.len() {
-        if s[i] != FILL {
-            return false;
-        }
-        i += 1;
-    }
-    true
-}
-
-// Whether the lent buffer, the first bytes of `buf`, begins with this list, and has what stood there before in all the rest.
-fn is_written(buf: &[u8], room: usize, list: &[u8]) -> bool {
-    let n = list.len();
-    if !check::same(molecule::part(buf, 0, n), list) {
-        return false;
-    }
-    is_filled(molecule::part(buf, n, room))
-}
 
 // Whether an entry of this kind (0 uncommitted, 1 committed) is recorded with this hash.
 fn is_entry(item: &[u8], k: u8, hash: Byte32) -> bool {
@@ -207,79 +146,34 @@ fn is_table(map: LiveCellsExclusionMap, rows: &[u8]) -> bool {
 
 fn is_right(after: Excluded, call: &[u8], a: &[u8]) -> bool {
     let answer = after.answer;
-    if answer.number() != answer_number(call) {
+    if answer.number() != recorded_calls::answer_number(call) {
         return false;
     }
-    if !is_written(a, first_room(call), field(call, 4)) {
+    if !recorded_calls::is_written(
+        a,
+        recorded_calls::first_room(call),
+        recorded_calls::field(call, 4),
+    ) {
         return false;
     }
     let map = after.map;
-    is_table(map, field(call, 6))
+    is_table(map, recorded_calls::field(call, 6))
 }
 
 // ---- counts
 
-fn count(counts: &[u64], i: usize) -> u64 {
-    if i >= counts.len() {
-        return 0;
-    }
-    counts[i]
-}
-
-fn raise_if(counts: &mut [u64], i: usize, yes: bool) {
-    if i < counts.len() {
-        counts[i] = std::num::wrapping_add_u64(counts[i], yes as u64);
-    }
-}
-
-fn count_call(counts: &mut [u64], call: &[u8], right: bool) {
-    let i = kind(call) as usize;
-    raise_if(counts, i, true);
-    raise_if(counts, plus(KINDS, i), !right);
-    raise_if(counts, ALIKE, mark(call) == 1);
-    raise_if(counts, OVER, mark(call) == 2);
-}
-
-fn print_count(label: &[u8], n: u64) {
-    io::write_all(STDOUT_FILENO, label);
-    io::print_decimal(STDOUT_FILENO, n);
-}
-
-fn print_kind(name: &[u8], counts: &[u64], i: usize) {
-    io::write_all(STDOUT_FILENO, name);
-    print_count(b": ", count(counts, i));
-    print_count(b" calls, ", count(counts, plus(KINDS, i)));
-    io::write_all(STDOUT_FILENO, b" wrong\n");
-}
-
 fn print_kinds(counts: &[u64]) {
-    print_kind(b"add", counts, 1);
-    print_kind(b"commit", counts, 2);
-    print_kind(b"remove", counts, 3);
-    print_kind(b"migrate_funding_tx", counts, 4);
-    print_kind(b"truncate", counts, 5);
-    print_kind(b"apply", counts, 6);
-}
-
-// The sum of the counts from `from` up to `to`.
-fn sum(counts: &[u64], from: usize, to: usize) -> u64 {
-    let mut total = 0;
-    let mut i = from;
-    while i < to {
-        total = std::num::wrapping_add_u64(total, count(counts, i));
-        i += 1;
-    }
-    total
+    recorded_calls::print_kind(b"add", counts, 1);
+    recorded_calls::print_kind(b"commit", counts, 2);
+    recorded_calls::print_kind(b"remove", counts, 3);
+    recorded_calls::print_kind(b"migrate_funding_tx", counts, 4);
+    recorded_calls::print_kind(b"truncate", counts, 5);
+    recorded_calls::print_kind(b"apply", counts, 6);
 }
 
 fn print(counts: &[u64]) {
     print_kinds(counts);
-    print_count(b"all: ", count(counts, 0));
-    print_count(b" sequences, ", sum(counts, 1, KINDS));
-    print_count(b" calls, of which the Rust answers ", count(counts, ALIKE));
-    print_count(b" alike and goes over a bound at ", count(counts, OVER));
-    print_count(b", ", sum(counts, KINDS, ALIKE));
-    io::write_all(STDOUT_FILENO, b" wrong\n");
+    recorded_calls::print_all(counts);
 }
 
 // ---- the calls of a part
@@ -289,7 +183,7 @@ fn step(counts: &mut [u64], map: LiveCellsExclusionMap, call: &[u8]) -> LiveCell
     let mut a = [FILL; LIST_ROOM];
     let after = run(map, call, &mut a);
     let right = is_right(after, call, &a);
-    count_call(counts, call, right);
+    recorded_calls::count_call(counts, call, right);
     after.map
 }
 
@@ -303,78 +197,14 @@ fn judge_part(counts: &mut [u64], part: &[u8]) {
     }
 }
 
-// ---- parts
-
-// Reads n bytes of standard input into buf at `at`.
-fn read_at(buf: &mut [u8], at: usize, n: usize) {
-    let end = plus(at, n);
-    if at <= end {
-        if end <= buf.len() {
-            let room = &mut buf[at..end];
-            io::read_full(STDIN_FILENO, room);
-        }
-    }
-}
-
-fn copy_byte(buf: &mut [u8], from: usize, to: usize) {
-    if from < buf.len() {
-        if to < buf.len() {
-            let x = buf[from];
-            buf[to] = x;
-        }
-    }
-}
-
-// Puts n bytes at `at`, each a copy of the one that stands `back` bytes before it.
-fn copy_back(buf: &mut [u8], at: usize, n: usize, back: usize) {
-    let mut i = 0;
-    while i < n {
-        let to = plus(at, i);
-        copy_byte(buf, minus(to, back), to);
-        i += 1;
-    }
-}
-
-// Reads a piece to `at`, and answers where it ends.
-fn read_piece(buf: &mut [u8], at: usize) -> usize {
-    let mut head = [0u8; 6];
-    io::read_full(STDIN_FILENO, &mut head);
-    let n = little_endian::byte(&head, 0) as usize;
-    let copies = (little_endian::u32_at(&head, 1) % 65536) as usize;
-    let back = (little_endian::u32_at(&head, 2) / 256) as usize;
-    read_at(buf, at, n);
-    let end = plus(at, n);
-    copy_back(buf, end, copies, back);
-    plus(end, copies)
-}
-
-// A number of standard input.
-fn read_number() -> u32 {
-    let mut head = [0u8; 4];
-    io::read_full(STDIN_FILENO, &mut head);
-    little_endian::u32_at(&head, 0)
-}
-
-// Reads a part to `at`, piece by piece, and answers where it ends.
-fn read_part(buf: &mut [u8], at: usize) -> usize {
-    let n = read_number();
-    let mut end = at;
-    let mut i = 0;
-    while i < n {
-        end = read_piece(buf, end);
-        i += 1;
-    }
-    end
-}
-
 // Reads a part behind the first one, which it copies from, and judges its calls.
 fn next_part(counts: &mut [u64], buf: &mut [u8], first: usize) {
-    let end = read_part(buf, first);
+    let end = recorded_calls::read_part(buf, first);
     judge_part(counts, molecule::part(buf, first, end));
 }
 
 fn judge_parts(counts: &mut [u64], buf: &mut [u8], n: u32) {
-    let first = read_part(buf, 0);
+    let first = recorded_calls::read_part(buf, 0);
     let mut i = 1;
     while i < n {
         next_part(counts, buf, first);
@@ -383,7 +213,7 @@ fn judge_parts(counts: &mut [u64], buf: &mut [u8], n: u32) {
 }
 
 fn main() {
-    let n = read_number();
+    let n = recorded_calls::read_number();
     let mut buf = [0u8; ROOM];
     let mut counts = [0u64; COUNTS];
     judge_parts(&mut counts, &mut buf, n);

@@ -64,8 +64,8 @@ pub data Stands (x : Hold) : List Hold → Type 0 where
   here : (l : List Hold) → Stands x (x ∷ l)
   there : (y : Hold) (l : List Hold) → Stands x l → Stands x (y ∷ l)
 
--- the record outlives the call. Calls that end it: `hold_funding` by its own holder; `hold_for_watchtower` on its cell, which replaces a watchtower
--- record; `release_for_watchtower` on its cell; `lock_held` and `take` at a time at which it is no longer live
+-- the record outlives the call. What ends it: `hold_funding` by its own holder; of a watchtower record, `hold_for_watchtower` on its cell, which replaces it,
+-- and `release_for_watchtower` on its cell; `lock_held` and `take` at a time at which it is no longer live
 unfoldable pub outlives : {g h : Held} → Hold → Called g h → Bool
 outlives x (hold r holder cells e) = isNotOf holder x
 outlives x (watch r cells now e) = isUnnamed (points cells) x

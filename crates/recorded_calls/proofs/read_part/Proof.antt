@@ -1,9 +1,9 @@
 use Prim.Native.Nat.{_-_}
 use mathlib.Core.Path.{_≡_}
 use lib.ListN.{length}
-use Rattle.recorded_holds.proofs.Ways.{ways}
-use Rattle.recorded_holds.proofs.read_part.Statement.{statement}
-use Rattle.recorded_holds.proofs.read_part.Tie as tie
+use Rattle.recorded_calls.proofs.Ways.{ways}
+use Rattle.recorded_calls.proofs.read_part.Statement.{statement}
+use Rattle.recorded_calls.proofs.read_part.Tie as tie
 
 abbrev Inv-loop : tie.InvT-loop
 Inv-loop buf₀ at n end₀ i₀ buf end i = length buf ≡ length buf₀

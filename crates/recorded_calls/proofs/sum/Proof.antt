@@ -1,7 +1,7 @@
 use Prim.Native.Nat.{_-_}
-use Rattle.recorded_holds.proofs.Ways.{ways}
-use Rattle.recorded_holds.proofs.sum.Statement.{statement}
-use Rattle.recorded_holds.proofs.sum.Tie as tie
+use Rattle.recorded_calls.proofs.Ways.{ways}
+use Rattle.recorded_calls.proofs.sum.Statement.{statement}
+use Rattle.recorded_calls.proofs.sum.Tie as tie
 
 abbrev Inv-loop : tie.InvT-loop
 Inv-loop counts from to total₀ i₀ total i = Unit {0}

@@ -1,9 +1,9 @@
 use Prim.Native.Nat.{_-_}
 use mathlib.Core.Path.{_≡_}
 use lib.ListN.{length}
-use Rattle.recorded_exclusions.proofs.Ways.{ways}
-use Rattle.recorded_exclusions.proofs.copy_back.Statement.{statement}
-use Rattle.recorded_exclusions.proofs.copy_back.Tie as tie
+use Rattle.recorded_calls.proofs.Ways.{ways}
+use Rattle.recorded_calls.proofs.copy_back.Statement.{statement}
+use Rattle.recorded_calls.proofs.copy_back.Tie as tie
 
 abbrev Inv-loop : tie.InvT-loop
 Inv-loop buf₀ at n back i₀ buf i = length buf ≡ length buf₀

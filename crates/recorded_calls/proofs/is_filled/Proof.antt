@@ -1,8 +1,8 @@
 use Prim.Native.Nat.{_-_, _≤_}
 use lib.ListN.{length}
-use Rattle.recorded_holds.proofs.Ways.{ways}
-use Rattle.recorded_holds.proofs.is_filled.Statement.{statement}
-use Rattle.recorded_holds.proofs.is_filled.Tie as tie
+use Rattle.recorded_calls.proofs.Ways.{ways}
+use Rattle.recorded_calls.proofs.is_filled.Statement.{statement}
+use Rattle.recorded_calls.proofs.is_filled.Tie as tie
 
 abbrev Inv-loop : tie.InvT-loop
 Inv-loop s i₀ i = i ≤ length s
