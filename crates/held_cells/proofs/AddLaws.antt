@@ -2,7 +2,7 @@
 use mathlib.Core.Path.{_≡_, sym, ap, _∙_}
 use Prim.Native.Nat.{ℕ, _+_, _-_, _≤_, _<_}
 use native.Mathlib.Omega.{arith}
-use mathlib.Core.List.{List, [], _∷_, _++_, map, append-nil}
+use mathlib.Core.List.{List, _++_, map, append-nil}
 use lib.ListN.{length, take, set, length-set}
 use lib.Seq.{append-snoc}
 use Rattle.molecule.specs.Layout.{span, fixCount}

@@ -4,9 +4,7 @@ use Prim.Native.Nat.{ℕ, zero, suc, _+_, _-_, _≤_, _<_, min}
 use native.Mathlib.Omega.{arith}
 use mathlib.Core.Bool.{Bool, true, false, cond}
 use mathlib.Core.List.{List, [], _∷_}
-use lib.ListN.{length, getD, take, drop, set, length-set, length-take, length-drop, drop-of-length-le}
-use lib.Seq.{drop-cons, getD-take}
-use native.Mathlib.Numerals.{add-one}
+use lib.ListN.{length, getD, take, drop, set, length-set, length-take}
 use Rattle.units.specs.declared.{Millis.Millis}
 use Rattle.molecule.specs.Layout.{span, fixCount}
 use Rattle.lists.proofs.SpanLaws.{span-on, span-end, span-whole}

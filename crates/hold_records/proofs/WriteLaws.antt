@@ -1,16 +1,15 @@
 -- A list of out points written one by one, and the loop over a table's records that does it.
-use mathlib.Core.Path.{_≡_, refl, sym, ap, ap₂, _∙_}
-use Prim.Native.Nat.{ℕ, zero, suc, _+_, _-_, _*_, _≤_, _<_, min}
-use native.Mathlib.Nat.{zero-add}
+use mathlib.Core.Path.{_≡_, refl, sym, ap, _∙_}
+use Prim.Native.Nat.{ℕ, suc, _+_, _-_, _*_, _≤_, _<_, min}
 use native.Mathlib.Omega.{arith}
 use borrow.Author.Tests.{le-leb, lt-leb}
-use mathlib.Core.Bool.{Bool, true, false, cond}
-use mathlib.Core.List.{List, [], _∷_, _++_, map, append-assoc, append-nil}
-use lib.ListN.{length, getD, take, drop, length-append, length-map, length-take, length-drop}
+use mathlib.Core.Bool.{true, false}
+use mathlib.Core.List.{List, [], _∷_, _++_, append-assoc, append-nil}
+use lib.ListN.{length, getD, drop, length-append, length-map, length-take, length-drop}
 use lib.Seq.{append-snoc}
 use Rattle.arithmetic.specs.LittleEndian.{toLe}
 use Rattle.arithmetic.proofs.LittleEndianLaws.{length-toLe}
-use Rattle.molecule.specs.Write.{putAt, putEnd, Put, splice}
+use Rattle.molecule.specs.Write.{putAt, putEnd, Put}
 use Rattle.molecule.proofs.WriteLaws.{none, did, then, and-put, as-bytes, length-kept, splice-zero}
 use Rattle.out_points.specs.declared.{OutPoint.OutPoint}
 use Rattle.out_points.specs.OutPoints.{pointBytes, bytesOf, pointList}

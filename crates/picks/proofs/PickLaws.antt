@@ -1,24 +1,23 @@
 -- Picks: the code tests each by its index, the definitions by what came before.
-use mathlib.Core.Path.{_≡_, refl, sym, ap, ap₂, _∙_}
-use Prim.Native.Nat.{ℕ, zero, suc, _+_, _-_, _*_, _≤_, _<_, min}
+use mathlib.Core.Path.{_≡_, sym, ap, _∙_}
+use Prim.Native.Nat.{ℕ, suc, _+_, _-_, _*_, _≤_, _<_}
 use native.Mathlib.Nat.{zero-add}
 use native.Mathlib.Omega.{arith}
 use borrow.Author.Tests.{not-true, not-false}
-use mathlib.Core.Bool.{Bool, true, false, not, _||_, cond}
-use mathlib.Core.List.{List, [], _∷_, _++_, map}
-use lib.ListN.{length, getD, take, drop}
+use mathlib.Core.Bool.{Bool, true, false, not}
+use mathlib.Core.List.{List, [], _∷_}
+use lib.ListN.{length}
 use Rattle.arithmetic.specs.LittleEndian.{toLe}
 use Rattle.molecule.specs.Layout.{span, fixCount}
 use Rattle.molecule.specs.Write.{putAt, putEnd, Put}
 use Rattle.out_points.specs.declared.{OutPoint.OutPoint}
-use Rattle.out_points.specs.OutPoints.{eqPoint, has, pointOf, points, pointBytes, bytesOf}
-use Rattle.out_points.proofs.EqualLaws.{point-same, point-refl}
+use Rattle.out_points.specs.OutPoints.{has, pointOf, points, pointBytes, bytesOf}
 use Rattle.hold_records.specs.declared.{Held.Held}
 use Rattle.hold_records.specs.Holds.{recordsOf, isBusy, firsts}
 use Rattle.picks.specs.Places.{asked, isFirst, select}
 use Rattle.out_points.specs.Tables.{hasRoom}
 use Rattle.hold_records.specs.Rules.{putIf}
-use Rattle.hold_records.proofs.WriteLaws.{Listing, list-start, list-more, list-end, list-long, room-no, room-yes, put-no, put-yes, behind-length, list-put}
+use Rattle.hold_records.proofs.WriteLaws.{Listing, list-start, list-more, list-end, list-long, room-no, room-yes, put-no, put-yes, list-put}
 use Rattle.picks.proofs.FirstLaws.{firsts-select}
 
 pub asked-yes : {w b c : Bool} → b ≡ c → w ≡ true → b ≡ asked w c

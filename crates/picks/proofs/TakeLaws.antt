@@ -3,17 +3,15 @@ use mathlib.Core.Path.{_≡_, refl, sym, ap, ap₂, _∙_}
 use Prim.Native.Nat.{ℕ, zero, suc, _+_, _-_, _*_, _≤_, _<_, min}
 use native.Mathlib.Numerals.{add-one}
 use native.Mathlib.Omega.{arith}
-use mathlib.Core.Bool.{Bool, true, false, not, cond}
+use mathlib.Core.Bool.{Bool, true, false}
 use mathlib.Core.List.{List, [], _∷_, _++_, map, append-nil}
-use lib.ListN.{length, getD, take, drop, set, length-set, length-append, length-map}
+use lib.ListN.{length, getD, take, drop, set, length-set}
 use lib.Seq.{append-snoc}
-use Rattle.arithmetic.specs.LittleEndian.{toLe}
 use Rattle.molecule.specs.Layout.{span, fixCount}
 use Rattle.molecule.specs.Write.{putAt, putEnd, Put}
 use Rattle.lists.proofs.SpanLaws.{span-on, span-end, span-whole}
 use Rattle.out_points.specs.declared.{OutPoint.OutPoint}
-use Rattle.out_points.specs.OutPoints.{eqPoint, has, pointOf, points, pointBytes, bytesOf}
-use Rattle.out_points.proofs.EqualLaws.{point-same, point-refl}
+use Rattle.out_points.specs.OutPoints.{eqPoint, pointOf, points, pointBytes, bytesOf}
 use Rattle.hold_records.specs.declared.{Owner.Owner, Hold.Hold, Held.Held}
 use Rattle.hold_records.specs.Holds.{recordsOf, cellsOf, heldBy}
 use Rattle.picks.specs.Places.{isFirst, select, Tallied, headIs, unmatched}

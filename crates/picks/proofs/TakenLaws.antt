@@ -1,13 +1,12 @@
 -- `take`: one law for each way out, and what its calls ask for.
-use mathlib.Core.Path.{_≡_, refl, sym, ap, ap₂, _∙_}
+use mathlib.Core.Path.{_≡_, refl, sym, ap, _∙_}
 use Prim.Native.Nat.{ℕ, _+_, _-_, _*_, _≤_, _<_, min}
 use native.Mathlib.Omega.{arith}
-use borrow.Author.Tests.{not-true, not-false, le-leb, lt-leb}
-use mathlib.Core.Bool.{Bool, true, false, not, cond}
+use borrow.Author.Tests.{le-leb, lt-leb}
+use mathlib.Core.Bool.{Bool, false, not, cond}
 use mathlib.Core.List.{List, [], _∷_, _++_, map}
 use lib.Dec.{leb}
-use lib.ListN.{length, drop, length-append, length-map}
-use lib.Seq.{drop-append-add}
+use lib.ListN.{length, drop}
 use Rattle.error.specs.declared.{Refusal.Refusal, Answer.Answer}
 use Rattle.error.specs.Refusal.{number}
 use Rattle.molecule.specs.Layout.{fixCount}

@@ -1,5 +1,5 @@
 -- What a call leaves, for any property of a list of records: the new list, or the table that it was given.
-use mathlib.Core.Path.{_≡_, refl, sym, ap, subst}
+use mathlib.Core.Path.{_≡_, refl, sym, subst}
 use Prim.Native.Nat.{ℕ, _+_}
 use mathlib.Core.List.{List, [], _++_, map}
 use mathlib.Core.Bool.{Bool, true, false, not, cond}
@@ -14,7 +14,7 @@ use Rattle.out_points.specs.declared.OutPoint.{OutPoint}
 use Rattle.out_points.specs.OutPoints.{points}
 use Rattle.out_points.specs.Tables.{keep, Outcome, done, refused, told, hasRoom, written}
 use Rattle.hold_records.specs.declared.{Owner.Owner, Hold.Hold, Held.Held, Holds.Holds, Taker.Taker}
-use Rattle.hold_records.specs.Holds.{recordsOf, heldBy, cellsOf, atMost256, isNotOf, holdFunding, isUnnamed, releaseForWatchtower, renewAll, holdForWatchtower, isLive, lockHeld, isBusy, firsts, others, ownerFor, takeCells}
+use Rattle.hold_records.specs.Holds.{recordsOf, heldBy, cellsOf, atMost256, isNotOf, holdFunding, isUnnamed, releaseForWatchtower, renewAll, holdForWatchtower, lockHeld, isBusy, others, ownerFor, takeCells}
 use Rattle.table_laws.specs.Holds.{unended, given}
 
 abbrev pub After : Type 0

@@ -1,9 +1,9 @@
 -- The sums of entries and out points stay within 64 and 512, over any list of calls from an empty map.
 use mathlib.Core.Path.{_≡_, refl, sym, ap, _∙_, subst}
-use Prim.Native.Nat.{ℕ, zero, suc, _+_, _≤_}
+use Prim.Native.Nat.{ℕ, suc, _+_, _≤_}
 use mathlib.Core.List.{List, [], _∷_, _++_, map}
 use mathlib.Core.Bool.{Bool, true, false, cond, not}
-use mathlib.Core.Option.{Option, none, some}
+use mathlib.Core.Option.{some}
 use native.Mathlib.Omega.{arith}
 use borrow.Author.Tests.{leb-true}
 use lib.Dec.{leb, eqb}
@@ -12,7 +12,7 @@ use Rattle.units.specs.declared.BlockNumber.{BlockNumber}
 use Rattle.molecule.specs.Molecule.{option, readable}
 use Rattle.transaction.specs.Ckb.{Transaction}
 use Rattle.out_points.specs.declared.{Byte32.Byte32, OutPoint.OutPoint}
-use Rattle.out_points.specs.OutPoints.{eqHash, byte32At}
+use Rattle.out_points.specs.OutPoints.{byte32At}
 use Rattle.error.specs.declared.{Answer.Answer}
 use Rattle.out_points.specs.Tables.{keep, renew, Outcome, done, refused, told}
 use Rattle.exclusions.specs.declared.{LiveCellsExclusionMap.LiveCellsExclusionMap, Excluded.Excluded}

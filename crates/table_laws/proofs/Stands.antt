@@ -11,7 +11,7 @@ use Rattle.out_points.specs.declared.{OutPoint.OutPoint}
 use Rattle.out_points.specs.OutPoints.{eqPoint, has, points}
 use Rattle.out_points.proofs.EqualLaws.{point-same, point-refl}
 use Rattle.out_points.specs.Tables.{keep, renew, told}
-use Rattle.hold_records.specs.declared.{Owner.Owner, Hold.Hold, Held.Held, Holds.Holds, Taker.Taker}
+use Rattle.hold_records.specs.declared.{Owner.Owner, Hold.Hold, Held.Held}
 use Rattle.hold_records.specs.Holds.{recordsOf, heldBy, byOwner, cellsOf, isNotOf, isUnnamed, isTowerOn, renewAll, isLive, isBusy, ownerFor, takeCells}
 use Rattle.table_laws.specs.Holds as run
 use Rattle.table_laws.specs.Holds.{Called, Stands, here, there, outlives, Outlived, unended, given, NotGiven, StaysHeld, GivenOnce}
