@@ -76,8 +76,7 @@ entering m l hash tx =
     let after = renew (hasHash hash) (pending hash tx) l in
     cond (eqb (length tx) 0) (done l)
     (check (leb (length after) 64) (refused 15 m)
-    (check (leb (length (excluded after)) 512) (refused 15 m)
-    (done after)))
+    (check (leb (length (excluded after)) 512) (refused 15 m) (done after)))
 
 unfoldable pub addCall : LiveCellsExclusionMap → List ℕ → List ℕ → Outcome LiveCellsExclusionMap (List Entry)
 addCall m hash tx =

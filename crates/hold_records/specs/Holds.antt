@@ -14,13 +14,14 @@ use Rattle.hold_records.specs.declared.{Owner.Owner, Hold.Hold, Held.Hel
 unfoldable pub recordsOf : Held → List Hold
 recordsOf h = take (h .count) (h .records)
 
+-- "A hold record is a funding holder with an out point, or a watchtower out point with an end in milliseconds"
 abbrev pub heldBy : Owner → OutPoint → Hold
 heldBy owner p = record { point = p; owner = owner }
 
 abbrev pub cellsOf : List Hold → List OutPoint
 cellsOf l = map (λ (r : Hold). r .point) l
 
--- "a funding holder with an out point, or a watchtower out point with an end": a test by the holder, or by the end
+-- a test by the holder, or by the end
 unfoldable pub byOwner : (ℕ → Bool) → (Millis → Bool) → Owner → Bool
 byOwner f w (Owner.Funding holder) = f holder
 byOwner f w (Owner.Watchtower end) = w end
@@ -65,8 +66,7 @@ isLive now r = byOwner (λ n. true) (λ end. isBefore now end) (r .owner)
 unfoldable pub lockHeld : Held → Millis → List ℕ → Outcome Held (List Hold) × List ℕ
 lockHeld h now out =
     let left = keep (isLive now) (recordsOf h) in
-    check (hasRoom (cellsOf left) out) (refused 13 h, out)
-    (done left, written (cellsOf left) out)
+    check (hasRoom (cellsOf left) out) (refused 13 h, out) (done left, written (cellsOf left) out)
 
 -- held by anybody, or spent
 unfoldable pub isBusy : List Hold → List OutPoint → OutPoint → Bool
@@ -76,7 +76,7 @@ isBusy l spent p = cond (has p (cellsOf l)) true (has p spent)
 unfoldable pub isNew : (OutPoint → Bool) → List OutPoint → OutPoint → Bool
 isNew f before p = cond (f p) (not (has p before)) false
 
--- the picks that are new, in pick order, and the others
+-- "Both lists keep pick order": the picks that are new, and the others
 unfoldable pub firsts : (OutPoint → Bool) → List OutPoint → List OutPoint → List OutPoint
 firsts f before [] = []
 firsts f before (p ∷ l) = cond (isNew f before p) (p ∷ firsts f (p ∷ before) l) (firsts f before l)
@@ -93,8 +93,8 @@ unavailable h picked spent now out =
     (check (readable OutPoints spent) (3, out)
     (check (hasRoom named out) (13, out) (0, written named out)))
 
--- ---- "`take` first drops watchtower records whose end is not above now; then a pick is refused if held by anybody, spent, or taken earlier in the
--- call; otherwise it is recorded, for the watchtower until now + 60,000 (capped). Both lists keep pick order."
+-- "`take` first drops watchtower records whose end is not above now; then a pick is refused if held by anybody, spent, or taken earlier in the
+-- call; otherwise it is recorded, for the watchtower until now + 60,000 (capped)"
 unfoldable pub ownerFor : Taker → Millis → Owner
 ownerFor (Taker.Funding holder) now = Owner.Funding holder
 ownerFor Taker.Watchtower now = Owner.Watchtower (later now (record { 0 = 60000 }))
