@@ -1,0 +1,3 @@
+pub mod FundingCellLaws
+pub mod Examples
+pub mod Ways
