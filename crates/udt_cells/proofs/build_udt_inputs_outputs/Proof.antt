@@ -1,0 +1,18 @@
+use borrow.Author.Tests.{not-false}
+use Rattle.udt_cells.proofs.Ways.{ways}
+use Rattle.udt_cells.proofs.build_udt_inputs_outputs.Statement.{statement}
+use Rattle.udt_cells.proofs.build_udt_inputs_outputs.Tie as tie
+
+pub build-udt-inputs-outputs-spec : {M : Type 1} → statement M
+build-udt-inputs-outputs-spec =
+    tie.close
+    (tie.spec
+    (λ c κs. search ways)  -- is-lent-requires
+    (λ c. search ways)  -- returns
+    (λ c κs. search ways)  -- pick-typed-requires
+    (λ c. search ways)  -- enum-known-taken
+    (λ c κs. c .before .before .before .before .before .before .is-lent .ensures .1 (not-false _ (c .before .before .before .before .before .if1 .left)))  -- put-change-requires
+    (λ c. search ways)  -- enum-known-e
+    (λ c. search ways)  -- same-length
+    (λ c. search ways)  -- returns-2
+    (λ c. search ways))  -- returns-3

@@ -1,0 +1,3 @@
+pub mod CellOutput
+pub mod Change
+pub mod Pick
