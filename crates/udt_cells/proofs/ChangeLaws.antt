@@ -25,6 +25,7 @@ use Rattle.transaction.specs.Ckb.{Script, TokenCells}
 use Rattle.transaction.specs.Tx.{argsOf}
 use Rattle.rules.specs.Outcome.{Outcome, fine, refused, check, checkWith, _>>_}
 use Rattle.rules.proofs.Checks.{skip, fail, pass, last-is}
+use Rattle.rules.proofs.Tests.{check-fine, check-last}
 use Rattle.udt_cells.specs.declared.{Picked.Picked, UdtInputsOutputs.UdtInputsOutputs}
 use Rattle.udt_cells.specs.CellOutput.{cellOutput}
 use Rattle.udt_cells.specs.Pick.{Pick, told, pickTyped}
@@ -36,6 +37,25 @@ use Rattle.udt_cells.proofs.CellOutputLaws.{output-length}
 pub capacity-is : (s t : List ℕ) {x y : List ℕ} {r : CheckedShannons} → x ≡ argsOf s → y ≡ argsOf t → r ≡ changeCapacity (length x) (length y)
     → r ≡ changeCapacity (length (argsOf s)) (length (argsOf t))
 capacity-is s t ex ey e = e ∙ ap₂ (λ (a b : List ℕ). changeCapacity (length a) (length b)) ex ey
+
+pub no-bytes : (s : List ℕ) → length s ≡ 0 → AllBytes s
+no-bytes s h i = let e : getD s i 0 ≡ 0 = List·getD-eq-default s 0 (omega arith) in omega arith
+
+-- the args of a script are a part of it, and a readable script says its length in four bytes
+part-within : (s : List ℕ) (from to : ℕ) → length (part s from to) ≤ length s
+unfolding part
+part-within s from to = omega (arith, length-take (to - from) (drop from s), length-drop from s)
+
+args-within : (s : List ℕ) → length (argsOf s) ≤ length s
+unfolding argsOf content fieldOf
+args-within s = le-trans (part-within (fieldOf s 3 2) 4 _) (part-within s _ _)
+
+pub capacity-below : (s t : List ℕ) → AllBytes s → AllBytes t → readable Script s ≡ true → readable (option Script) t ≡ true → capacityFor s t < 2 ^ 64
+unfolding dynamic
+capacity-below s t bs bt hs ht =
+    let a : length s < 2 ^ 32 = below Script tt s bs hs in
+    let b : length t < 2 ^ 32 = below (option Script) tt t bt ht in
+    omega (arith, args-within s, args-within t)
 
 module _ (a b : ℕ) (low : changeShannons a b < 2 ^ 64) {r : CheckedShannons} (er : r ≡ changeCapacity a b) where
   fits : r ≡ CheckedShannons.Fits (inShannons (amountOf (changeShannons a b)))
@@ -57,10 +77,11 @@ module _ (source type out : List ℕ) (taken : ℕ) (change : Tokens) {z : Bool}
       let e : tokenCount change ≡ 0 = eqb-true (tokenCount change) 0 (sym ez ∙ h) in
       rw (eq-eqb (tokenCount change) 0 e, e)
 
-  module _ (h : z ≡ false) (low : changeShannons (length (argsOf source)) (length (argsOf type)) < 2 ^ 64) {k : CheckedShannons}
+  module _ (h : z ≡ false) (hs : readable Script source ≡ true) (ht : readable (option Script) type ≡ true)
+      (low : readable Script source ≡ true → readable (option Script) type ≡ true → capacityFor source type < 2 ^ 64) {k : CheckedShannons}
       (ek : k ≡ changeCapacity (length (argsOf source)) (length (argsOf type))) where
     pub change-over : k ≡ CheckedShannons.Overflow → _≡_ {A = Outcome Built × List ℕ} (answered (UdtInputsOutputs.Refused Refusal.OverflowError), out) (withChange source type taken (tokenCount change) out)
-    change-over f = absurd (capacity-over _ _ low ek f)
+    change-over f = absurd (capacity-over _ _ (low hs ht) ek f)
 
     some-change : eqb (tokenCount change) 0 ≡ false
     unfolding isZero tokenCount
@@ -69,7 +90,7 @@ module _ (source type out : List ℕ) (taken : ℕ) (change : Tokens) {z : Bool}
     module _ {c : Shannons} (fk : k ≡ CheckedShannons.Fits c) {room : ℕ} {r : Bool} (em : room ≡ min (length out) 133116)
         (er : r ≡ leb (0 + (24 + length source + length type)) room) where
       capacity : shannonCount c ≡ capacityFor source type
-      capacity = capacity-fits _ _ low ek fk
+      capacity = capacity-fits _ _ (low hs ht) ek fk
 
       size : length (cellOutput (capacityFor source type) source type) ≡ 24 + length source + length type
       size = output-length (capacityFor source type) source type
@@ -95,26 +116,6 @@ module _ (source type out : List ℕ) (taken : ℕ) (change : Tokens) {z : Bool}
 
 -- ---- what is lent
 
-pub no-bytes : (s : List ℕ) → length s ≡ 0 → AllBytes s
-no-bytes s h i = let e : getD s i 0 ≡ 0 = List·getD-eq-default s 0 (omega arith) in omega arith
-
--- the args of a script are a part of it, and a readable script says its length in four bytes
-part-within : (s : List ℕ) (from to : ℕ) → length (part s from to) ≤ length s
-unfolding part
-part-within s from to = omega (arith, length-take (to - from) (drop from s), length-drop from s)
-
-args-within : (s : List ℕ) → length (argsOf s) ≤ length s
-unfolding argsOf content fieldOf
-args-within s = le-trans (part-within (fieldOf s 3 2) 4 _) (part-within s _ _)
-
-pub lent-small : (type source : List ℕ) {q r : Bool} → AllBytes type → AllBytes source → q ≡ readable (option Script) type → not q ≡ false → r ≡ readable Script source → r ≡ true
-    → changeShannons (length (argsOf source)) (length (argsOf type)) < 2 ^ 64
-unfolding dynamic
-lent-small type source {q} bt bs eq h er k =
-    let t : length type < 2 ^ 32 = below (option Script) tt type bt (sym eq ∙ not-false q h) in
-    let s : length source < 2 ^ 32 = below Script tt source bs (sym er ∙ k) in
-    omega (arith, args-within type, args-within source)
-
 module _ (cells type source : List ℕ) {p : Bool} (ep : p ≡ readable TokenCells cells) where
   pub lent-cells : not p ≡ true → check 3 false ≡ lent cells type source
   unfolding lent
@@ -128,6 +129,22 @@ module _ (cells type source : List ℕ) {p : Bool} (ep : p ≡ readable TokenCel
     pub lent-source : {r : Bool} → not q ≡ false → r ≡ readable Script source → check 3 r ≡ lent cells type source
     unfolding lent
     lent-source k er = pass 3 (sym ep ∙ not-false p h) (pass 3 (sym eq ∙ not-false q k) (last-is 3 er))
+
+-- and what is known where they are
+is-true : (b : Bool) → T b → b ≡ true
+is-true true t = refl
+is-true false t = absurd t
+
+module _ (cells type source : List ℕ) (r : Bool) (er : check 3 r ≡ lent cells type source) (h : not r ≡ false) where
+  lent-fine : (check 3 (readable TokenCells cells) >> (check 3 (readable (option Script) type) >> check 3 (readable Script source))) ≡ fine tt
+  unfolding check checkWith lent
+  lent-fine = sym er ∙ rw (not-false r h)
+
+  pub lent-script : readable Script source ≡ true
+  lent-script = let (a, e) = check-fine 3 _ _ tt lent-fine in let (b, f) = check-fine 3 _ _ tt e in is-true _ (check-last 3 _ tt f)
+
+  pub lent-option : readable (option Script) type ≡ true
+  lent-option = let (a, e) = check-fine 3 _ _ tt lent-fine in let (b, f) = check-fine 3 _ _ tt e in is-true _ b
 
 -- ---- the call
 

@@ -14,12 +14,14 @@ ghost use Prim.Native.Nat.{_^_, _<_, min};
 ghost use lib.ListN.{length};
 ghost use Rattle.arithmetic.specs.LittleEndian.{AllBytes};
 ghost use Rattle.units.specs.Units.{tokenCount};
-ghost use Rattle.units.specs.Fee.{changeShannons, changeCapacity};
+ghost use Rattle.units.specs.Fee.{changeCapacity};
+ghost use Rattle.molecule.specs.Molecule.{readable, option};
 ghost use Rattle.molecule.specs.Layout.{itemOf, itemsOf};
+ghost use Rattle.transaction.specs.Ckb.{Script};
 ghost use Rattle.transaction.specs.Tx.{argsOf};
 ghost use Rattle.rules.specs.Outcome.{check};
 ghost use Rattle.udt_cells.specs.Pick.{summed, told, plusCell, pickFrom, pickTyped};
-ghost use Rattle.udt_cells.specs.Change.{answered, withChange, lent, udtInputsOutputs};
+ghost use Rattle.udt_cells.specs.Change.{answered, capacityFor, withChange, lent, udtInputsOutputs};
 
 // The longest transaction, and so the longest output, that is written.
 const MAX_BYTES: usize = 133_116;
@@ -105,10 +107,23 @@ pub fn pick_typed(cells: &[u8], udt: &[u8], local_amount: Tokens) -> Picked
 
 // ---- the change
 
-// The capacity of a change output under our lock, of the type.
+// Shows that each element of a slice of bytes is below 256, which a read of any one tells.
+fn are_bytes(s: &[u8]) -> bool
+    ensures { λ _. ⌜ AllBytes (now (s .entry)) ⌝ }
+{
+    if s.len() == 0 {
+        return true;
+    }
+    s[0] == 0
+}
+
+// The capacity of a change output under our lock, of the type. It fits 64 bits for scripts that are readable: they say their length in four bytes.
 pub fn change_capacity(source: &[u8], udt: &[u8]) -> CheckedShannons
     ensures { λ r. ⌜ r ≡ changeCapacity (length (argsOf (now (source .entry)))) (length (argsOf (now (udt .entry)))) ⌝ }
+    ensures { λ _. ⌜ (readable Script (now (source .entry)) ≡ true → readable (option Script) (now (udt .entry)) ≡ true → capacityFor (now (source .entry)) (now (udt .entry)) < 2 ^ 64) ⌝ }
 {
+    are_bytes(source);
+    are_bytes(udt);
     let lock_args = fields::args(source);
     let type_args = fields::args(udt);
     units::fee::change_capacity(lock_args.len() as u64, type_args.len() as u64)
@@ -128,7 +143,7 @@ fn put_change(
     source: &[u8],
     out: &mut [u8],
 ) -> UdtInputsOutputs
-    requires { ⌜ changeShannons (length (argsOf (now source))) (length (argsOf (now udt))) < 2 ^ 64 ⌝ }
+    requires { ⌜ (readable Script (now source) ≡ true) × (readable (option Script) (now udt) ≡ true) ⌝ }
     ensures { λ r. ⌜ (answered r, now (out .exit)) ≡ withChange (now (source .entry)) (now (udt .entry)) taken (tokenCount change) (now (out .entry)) ⌝ }
 {
     if change.is_zero() {
@@ -158,23 +173,10 @@ fn put_change(
 
 // ---- the call
 
-// Shows that each element of a slice of bytes is below 256, which a read of any one tells.
-fn are_bytes(s: &[u8]) -> bool
-    ensures { λ _. ⌜ AllBytes (now (s .entry)) ⌝ }
-{
-    if s.len() == 0 {
-        return true;
-    }
-    s[0] == 0
-}
-
-// Whether the lent bytes are readable. A readable script says its length in four bytes, so the change's capacity then fits 64 bits.
+// Whether the lent bytes are readable.
 fn is_lent(cells: &[u8], udt: &[u8], source: &[u8]) -> bool
     ensures { λ r. ⌜ check 3 r ≡ lent (now (cells .entry)) (now (udt .entry)) (now (source .entry)) ⌝ }
-    ensures { λ r. ⌜ (r ≡ true → changeShannons (length (argsOf (now (source .entry)))) (length (argsOf (now (udt .entry)))) < 2 ^ 64) ⌝ }
 {
-    are_bytes(udt);
-    are_bytes(source);
     if !transaction::is_token_cells(cells) {
         return false;
     }

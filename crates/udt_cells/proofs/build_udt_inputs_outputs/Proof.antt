@@ -1,4 +1,3 @@
-use borrow.Author.Tests.{not-false}
 use Rattle.udt_cells.proofs.Ways.{ways}
 use Rattle.udt_cells.proofs.build_udt_inputs_outputs.Statement.{statement}
 use Rattle.udt_cells.proofs.build_udt_inputs_outputs.Tie as tie
@@ -11,7 +10,7 @@ build-udt-inputs-outputs-spec =
     (λ c. search ways)  -- returns
     (λ c κs. search ways)  -- pick-typed-requires
     (λ c. search ways)  -- enum-known-taken
-    (λ c κs. c .before .before .before .before .before .before .is-lent .ensures .1 (not-false _ (c .before .before .before .before .before .if1 .left)))  -- put-change-requires
+    (λ c κs. search ways)  -- put-change-requires
     (λ c. search ways)  -- enum-known-e
     (λ c. search ways)  -- same-length
     (λ c. search ways)  -- returns-2
