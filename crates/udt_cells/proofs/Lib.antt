@@ -1,5 +1,7 @@
 pub mod CellOutputLaws
 pub mod ChangeLaws
+pub mod OutputReads
 pub mod PickLaws
+pub mod PickTheorems
 pub mod Examples
 pub mod Ways
