@@ -143,6 +143,16 @@ unfolding fundingCell cellOfSums
 capacity-below funded true r x e f = of-cell _ _ _ (sym e ∙ ap told f)
 capacity-below funded false r x e f = of-cell _ _ _ (sym e ∙ ap told f)
 
+-- untyped, the sum is below 2^64, and so is each figure
+pub each-below : (funded : Bool) (r : FundingRequest) (f : Figures) → fundingCell funded false r ≡ fine f
+    → (value (r .«local_amount») < 2 ^ 64) × (counted funded (value (r .«remote_amount»)) < 2 ^ 64)
+unfolding fundingCell cellOfSums cellOf
+each-below funded r f e =
+    let (narrow, e₁) = check-fine 7 _ _ f e in
+    let all : value (r .«local_amount») + counted funded (value (r .«remote_amount»)) + (r .«local_reserved_ckb_amount» + counted funded (r .«remote_reserved_ckb_amount»)) < 2 ^ 64 =
+    ltb→lt _ (2 ^ 64) narrow in
+    (omega arith, omega arith)
+
 -- ---- by the lent bytes
 
 module _ (o t : List ℕ) (r : FundingRequest) {p : Bool} (ep : p ≡ readable (option Transaction) o) where

@@ -26,7 +26,7 @@ unfoldable pub counted : Bool → ℕ → ℕ
 counted true remote = remote
 counted false remote = 0
 
--- a figure or sum too wide is 7; a sum below 2^64 has no figure above that
+-- a figure or sum too wide is 7 (where a sum is below 2^64, so is each figure)
 unfoldable pub cellOf : ℕ → ℕ → Outcome Figures
 cellOf capacity token = do
   check 7 (ltb capacity (2 ^ 64))

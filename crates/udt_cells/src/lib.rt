@@ -155,6 +155,7 @@ fn put_change(
     }
     let capacity = match change_capacity(source, udt) {
         CheckedShannons::Fits(capacity) => capacity,
+        // Never, of readable scripts.
         CheckedShannons::Overflow => {
             return UdtInputsOutputs::Refused(Refusal::OverflowError);
         }
@@ -174,7 +175,7 @@ fn put_change(
 // ---- the call
 
 // Whether the lent bytes are readable.
-fn is_lent(cells: &[u8], udt: &[u8], source: &[u8]) -> bool
+fn are_readable(cells: &[u8], udt: &[u8], source: &[u8]) -> bool
     ensures { λ r. ⌜ check 3 r ≡ lent (now (cells .entry)) (now (udt .entry)) (now (source .entry)) ⌝ }
 {
     if !transaction::is_token_cells(cells) {
@@ -197,7 +198,7 @@ pub fn build_udt_inputs_outputs(
 ) -> UdtInputsOutputs
     ensures { λ r. ⌜ (answered r, now (out .exit)) ≡ udtInputsOutputs (now (cells .entry)) (now (udt .entry)) (now (source .entry)) (tokenCount «local_amount») (now (out .entry)) ⌝ }
 {
-    if !is_lent(cells, udt, source) {
+    if !are_readable(cells, udt, source) {
         return UdtInputsOutputs::Refused(Refusal::LentBytesUnreadable);
     }
     match pick_typed(cells, udt, local_amount) {

@@ -6,7 +6,7 @@ pub build-udt-inputs-outputs-spec : {M : Type 1} → statement M
 build-udt-inputs-outputs-spec =
     tie.close
     (tie.spec
-    (λ c κs. search ways)  -- is-lent-requires
+    (λ c κs. search ways)  -- are-readable-requires
     (λ c. search ways)  -- returns
     (λ c κs. search ways)  -- pick-typed-requires
     (λ c. search ways)  -- enum-known-taken

@@ -1,9 +1,9 @@
 use Rattle.udt_cells.proofs.Ways.{ways}
-use Rattle.udt_cells.proofs.is_lent.Statement.{statement}
-use Rattle.udt_cells.proofs.is_lent.Tie as tie
+use Rattle.udt_cells.proofs.are_readable.Statement.{statement}
+use Rattle.udt_cells.proofs.are_readable.Tie as tie
 
-pub is-lent-spec : {M : Type 1} → statement M
-is-lent-spec =
+pub are-readable-spec : {M : Type 1} → statement M
+are-readable-spec =
     tie.close
     (tie.spec
     (λ c κs. search ways)  -- is-token-cells-requires
