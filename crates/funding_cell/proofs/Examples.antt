@@ -18,7 +18,7 @@ use Rattle.rules.specs.Outcome.{Outcome, fine, refused, check, checkWith, given
 use Rattle.rules.specs.Surplus.{isEmpty}
 use Rattle.rules.specs.Judge.{Figures}
 use Rattle.funding_cell.specs.declared.FundingRequest.{FundingRequest}
-use Rattle.funding_cell.specs.FundingCell.{counted, cellOf, cellOfSums, fundingCell, buildFundingCell}
+use Rattle.funding_cell.specs.FundingCell.{cellOf, cellOfSums, fundingCell, buildFundingCell}
 
 abbrev request : ℕ → ℕ → ℕ → ℕ → FundingRequest
 request local localReserve remote remoteReserve = record {
@@ -42,7 +42,7 @@ abbrev ours : List ℕ
 ours = encode Transaction ((toLe 4 0, ([], ([], ([], ((toLe 8 0, (script, (none, tt))) ∷ [], ([] ∷ [], tt)))))), ([], tt))
 
 unfoldable computing : Unit {0}
-unfolding encode join unwords offsets flatten toLe le numAt only pick there both each words cuts items split size chunks pieces oneByte decode readable bind part word start span fieldOf itemCount itemOf rawField readOurs check checkWith given _>>=_ _>>_ isEmpty counted cellOf cellOfSums fundingCell buildFundingCell
+unfolding encode join unwords offsets flatten toLe le numAt only pick there both each words cuts items split size chunks pieces oneByte decode readable bind part word start span fieldOf itemCount itemOf rawField readOurs check checkWith given _>>=_ _>>_ isEmpty cellOf cellOfSums fundingCell buildFundingCell
 computing = tt
 
 -- figures local 5, reserve 7, remote 11, reserve 13: 12 unfunded, 36 funded
@@ -101,5 +101,5 @@ widest = refl
 -- unfunded, the remote figures are unread: any others give the same
 pub remote-unread : (typed : Bool) (local localReserve remote remoteReserve other otherReserve : ℕ)
     → fundingCell false typed (request local localReserve remote remoteReserve) ≡ fundingCell false typed (request local localReserve other otherReserve)
-unfolding fundingCell counted
+unfolding fundingCell
 remote-unread typed local localReserve remote remoteReserve other otherReserve = refl

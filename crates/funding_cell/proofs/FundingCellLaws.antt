@@ -3,7 +3,7 @@ use mathlib.Core.Path.{_≡_, refl, sym, ap, ap₂, _∙_, subst}
 use Prim.Native.Nat.{ℕ, _+_, _*_, _^_, _≤_, _<_}
 use mathlib.Core.Bool.{Bool, true, false, not, cond}
 use mathlib.Core.List.{List}
-use native.Mathlib.Nat.{le-trans, mul-le-mul-left}
+use native.Mathlib.Nat.{add-zero, le-trans, mul-le-mul-left}
 use native.Mathlib.Omega.{arith}
 use borrow.Author.Tests.{lt-ltb, le-ltb, eq-eqb, ne-eqb, not-true, not-false}
 use lib.ListN.{length}
@@ -104,14 +104,21 @@ unfolding cellOfSums
 refused-reserves true a s h = wide-capacity s a h
 refused-reserves false a s h = wide-capacity (a + s) 0 (omega arith)
 
+-- the remote figures by `counted`
+by-counted : (funded typed : Bool) (r : FundingRequest)
+    → cellOfSums typed (value (r .«local_amount») + counted funded (value (r .«remote_amount»))) (r .«local_reserved_ckb_amount» + counted funded (r .«remote_reserved_ckb_amount»))
+    ≡ fundingCell funded typed r
+unfolding fundingCell counted
+by-counted true typed r = refl
+by-counted false typed r = rw (add-zero, add-zero)
+
 module _ (funded typed : Bool) (r : FundingRequest) {p : CheckedAmount} (b : Amount) (eb : value b ≡ counted funded (value (r .«remote_amount»)))
     (ep : p ≡ sum (r .«local_amount») b) where
   sum-to : value (r .«local_amount») + value b ≡ value (r .«local_amount») + counted funded (value (r .«remote_amount»))
   sum-to = ap (λ (n : ℕ). value (r .«local_amount») + n) eb
 
   pub amounts-wide : p ≡ CheckedAmount.Overflow → told (FundingCell.Refused Refusal.OverflowError) ≡ fundingCell funded typed r
-  unfolding fundingCell
-  amounts-wide f = rw (← eb) (refused-amounts typed _ _ (sum-over _ _ ep f))
+  amounts-wide f = refused-amounts typed _ _ (rw eb at (sum-over _ _ ep f)) ∙ by-counted funded typed r
 
   module _ {a : Amount} (fp : p ≡ CheckedAmount.Fits a) {q : CheckedAmount} {c d : Amount} (e : Amount) (ec : c ≡ amountOf (r .«local_reserved_ckb_amount»)) (ed : d ≡ amountOf (r .«remote_reserved_ckb_amount»))
       (ee : value e ≡ counted funded (value d)) (eq : q ≡ sum c e) where
@@ -122,12 +129,10 @@ module _ (funded typed : Bool) (r : FundingRequest) {p : CheckedAmount} (b : Amo
     reserves-are = ap₂ _+_ (ap value ec ∙ value-amountOf _) (ee ∙ ap (counted funded) (ap value ed ∙ value-amountOf _))
 
     pub reserves-wide : q ≡ CheckedAmount.Overflow → told (FundingCell.Refused Refusal.OverflowError) ≡ fundingCell funded typed r
-    unfolding fundingCell
-    reserves-wide f = rw (← reserves-are) (refused-reserves typed _ _ (over _ (sum-over c e eq f)))
+    reserves-wide f = refused-reserves typed _ _ (rw reserves-are at (over _ (sum-over c e eq f))) ∙ by-counted funded typed r
 
     pub figures-are : {s : Amount} (x : FundingCell) → q ≡ CheckedAmount.Fits s → told x ≡ cellOfSums typed (value a) (value s) → told x ≡ fundingCell funded typed r
-    unfolding fundingCell
-    figures-are {s} x f h = h ∙ ap₂ (cellOfSums typed) amounts-are (ap value (sum-is c e eq f) ∙ value-amountOf _ ∙ reserves-are)
+    figures-are {s} x f h = h ∙ ap₂ (cellOfSums typed) amounts-are (ap value (sum-is c e eq f) ∙ value-amountOf _ ∙ reserves-are) ∙ by-counted funded typed r
 
 -- what a caller may rely on: the capacity of a cell is a number of 64 bits
 of-cell : (c t : ℕ) (f : Figures) → cellOf c t ≡ fine f → f .capacity < 2 ^ 64
@@ -139,16 +144,16 @@ of-cell c t f e =
 
 pub capacity-below : (funded typed : Bool) (r : FundingRequest) (x : FundingCell) {c : Shannons} {t : Tokens} → told x ≡ fundingCell funded typed r → x ≡ FundingCell.Cell c t
     → shannonCount c < 2 ^ 64
-unfolding fundingCell cellOfSums
-capacity-below funded true r x e f = of-cell _ _ _ (sym e ∙ ap told f)
-capacity-below funded false r x e f = of-cell _ _ _ (sym e ∙ ap told f)
+unfolding cellOfSums
+capacity-below funded true r x e f = of-cell _ _ _ (by-counted funded true r ∙ sym e ∙ ap told f)
+capacity-below funded false r x e f = of-cell _ _ _ (by-counted funded false r ∙ sym e ∙ ap told f)
 
--- untyped, the sum is below 2^64, and so is each figure
+-- untyped, the sum is below 2^64, and so is each figure that counts
 pub each-below : (funded : Bool) (r : FundingRequest) (f : Figures) → fundingCell funded false r ≡ fine f
     → (value (r .«local_amount») < 2 ^ 64) × (counted funded (value (r .«remote_amount»)) < 2 ^ 64)
-unfolding fundingCell cellOfSums cellOf
+unfolding cellOfSums cellOf
 each-below funded r f e =
-    let (narrow, e₁) = check-fine 7 _ _ f e in
+    let (narrow, e₁) = check-fine 7 _ _ f (by-counted funded false r ∙ e) in
     let all : value (r .«local_amount») + counted funded (value (r .«remote_amount»)) + (r .«local_reserved_ckb_amount» + counted funded (r .«remote_reserved_ckb_amount»)) < 2 ^ 64 =
     ltb→lt _ (2 ^ 64) narrow in
     (omega arith, omega arith)

@@ -21,11 +21,6 @@ abbrev pub told : FundingCell → Outcome Figures
 told (FundingCell.Cell capacity token) = fine (record { capacity = shannonCount capacity; token = tokenCount token })
 told (FundingCell.Refused e) = refusal e
 
--- a remote figure counts if the present transaction has outputs; unfunded, it is unread
-unfoldable pub counted : Bool → ℕ → ℕ
-counted true remote = remote
-counted false remote = 0
-
 -- a figure or sum too wide is 7 (where a sum is below 2^64, so is each figure)
 unfoldable pub cellOf : ℕ → ℕ → Outcome Figures
 cellOf capacity token = do
@@ -37,10 +32,11 @@ cellOf capacity token = do
 unfoldable pub cellOfSums : Bool → ℕ → ℕ → Outcome Figures
 cellOfSums typed amounts reserves = cond typed (cellOf reserves amounts) (cellOf (amounts + reserves) 0)
 
+-- by whether the present transaction has outputs; unfunded, the remote figures are unread
 unfoldable pub fundingCell : Bool → Bool → FundingRequest → Outcome Figures
-fundingCell funded typed r =
-    cellOfSums typed (value (r .«local_amount») + counted funded (value (r .«remote_amount»)))
-    (r .«local_reserved_ckb_amount» + counted funded (r .«remote_reserved_ckb_amount»))
+fundingCell false typed r = cellOfSums typed (value (r .«local_amount»)) (r .«local_reserved_ckb_amount»)
+fundingCell true typed r =
+    cellOfSums typed (value (r .«local_amount») + value (r .«remote_amount»)) (r .«local_reserved_ckb_amount» + r .«remote_reserved_ckb_amount»)
 
 unfoldable pub buildFundingCell : List ℕ → List ℕ → FundingRequest → Outcome Figures
 buildFundingCell oursBytes type request = do
@@ -49,3 +45,10 @@ buildFundingCell oursBytes type request = do
   -- then a script
   check 3 (readable (option Script) type)
   fundingCell (not (isEmpty (ours .outputs))) (not (isEmpty type)) request
+
+-- ---- what the functions inside promise one another
+
+-- a remote figure, 0 where it does not count
+unfoldable pub counted : Bool → ℕ → ℕ
+counted true remote = remote
+counted false remote = 0
