@@ -1,5 +1,7 @@
 -- What the functions of this crate put, one after the other, is what the definitions say: one law for each function.
 use mathlib.Core.Path.{_≡_, refl, sym, ap, _∙_}
+use mathlib.Core.Bool.{true, false, and-false}
+use borrow.Author.Tests.{le-leb, lt-leb}
 use Prim.Native.Nat.{ℕ, _+_, _*_, _-_, _≤_, _<_, min}
 use mathlib.Core.List.{List, [], _∷_, _++_, flatten, append-assoc, append-nil}
 use native.Mathlib.Omega.{arith}
@@ -9,8 +11,8 @@ use Rattle.arithmetic.proofs.LittleEndianLaws.{length-toLe}
 use Rattle.molecule.specs.Items.{join, unwords, offsets}
 use Rattle.molecule.specs.Write.{putAt, putEnd, Put}
 use Rattle.molecule.proofs.ItemsLaws.{length-join, length-unwords}
-use Rattle.molecule.proofs.WriteLaws.{did, then, and-put, as-bytes}
-use Rattle.transaction_writer.specs.Written.{rawBytes, txBytes, rawSize, txSize}
+use Rattle.molecule.proofs.WriteLaws.{did, then, and-put, as-bytes, length-kept}
+use Rattle.transaction_writer.specs.Written.{rawBytes, txBytes, txHead, fits, putHead, headEnd, rawSize, txSize}
 
 -- ---- words
 
@@ -67,6 +69,72 @@ module _ (out : List ℕ) (at : ℕ) (a b c d e : List ℕ) {o₃ o₄ : List �
   unfolding flatten
   five-end = five-parts refl .end ∙ simp length-append (omega arith)
 
+-- ---- the head
+
+regroup : (p q r s w : List ℕ) → p ++ q ++ r ++ s ++ w ≡ p ++ (q ++ r ++ s) ++ w
+regroup p q r s w = simp append-assoc
+
+module _ (v a b c d e f : ℕ) where
+  pub head-length : length (txHead v a b c d e f) ≡ 44
+  unfolding txHead
+  head-length = simp (length-append, length-unwords) refl
+
+  module _ (out : List ℕ) (low : 44 + a + b + c + d + e + f ≤ 133116) (room : 44 + a + b + c + d + e + f ≤ length out) where
+    fit : fits (44 + a + b + c + d + e + f) (length out) ≡ true
+    unfolding fits
+    fit = rw (le-leb _ _ low, le-leb _ _ room)
+
+    -- what a call that puts the head did, where there was room
+    pub head-did : {o₁ : List ℕ} {n₁ : ℕ} → o₁ ≡ putHead out v a b c d e f → n₁ ≡ headEnd out a b c d e f → Put out 0 (txHead v a b c d e f) o₁ n₁
+    unfolding putHead headEnd
+    head-did p q =
+        let l = head-length in
+        record { bytes = p ∙ rw fit; end = q ∙ rw (fit, l); room = omega arith }
+
+  -- the ways out of `put_head`, where n is the size, capped
+  module _ (out : List ℕ) {n : ℕ} (size : n ≡ min (44 + a + b + c + d + e + f) 133117) where
+    long : 133116 < n → fits (44 + a + b + c + d + e + f) (length out) ≡ false
+    unfolding fits
+    long h = let k : 133116 < 44 + a + b + c + d + e + f = omega arith in rw (lt-leb _ _ k)
+
+    over : n ≤ 133116 → length out < n → fits (44 + a + b + c + d + e + f) (length out) ≡ false
+    unfolding fits
+    over h k = let l : length out < 44 + a + b + c + d + e + f = omega arith in simp (lt-leb _ _ l, and-false)
+
+    pub head-long : 133116 < n → out ≡ putHead out v a b c d e f
+    unfolding putHead
+    head-long h = rw (long h)
+
+    pub end-long : 133116 < n → 0 ≡ headEnd out a b c d e f
+    unfolding headEnd
+    end-long h = rw (long h)
+
+    pub head-over : n ≤ 133116 → length out < n → out ≡ putHead out v a b c d e f
+    unfolding putHead
+    head-over h k = rw (over h k)
+
+    pub end-over : n ≤ 133116 → length out < n → 0 ≡ headEnd out a b c d e f
+    unfolding headEnd
+    end-over h k = rw (over h k)
+
+    module _ {o₁ : List ℕ} {n₁ : ℕ} (low : n ≤ 133116) (room : n ≤ length out) (p : Put out 0 (txHead v a b c d e f) o₁ n₁) where
+      is-fit : fits (44 + a + b + c + d + e + f) (length out) ≡ true
+      is-fit = fit out (omega arith) (omega arith)
+
+      pub head-put : o₁ ≡ putHead out v a b c d e f
+      unfolding putHead
+      head-put = p .bytes ∙ sym (rw is-fit)
+
+      pub head-end : n₁ ≡ headEnd out a b c d e f
+      unfolding headEnd
+      head-end = p .end ∙ rw (is-fit, head-length)
+
+  pub put-headers : {out o₁ o₂ o₃ : List ℕ} {n₁ n₂ n₃ : ℕ} → Put out 0 (unwords ((12 + (32 + a + b + c + d + e) + f) ∷ 12 ∷ (12 + (32 + a + b + c + d + e)) ∷ [])) o₁ n₁
+      → Put o₁ n₁ (unwords ((32 + a + b + c + d + e) ∷ 28 ∷ 32 ∷ (32 + a) ∷ [])) o₂ n₂
+      → Put o₂ n₂ (unwords ((32 + a + b) ∷ (32 + a + b + c) ∷ (32 + a + b + c + d) ∷ v ∷ [])) o₃ n₃ → Put out 0 (txHead v a b c d e f) o₃ n₃
+  unfolding txHead
+  put-headers p q r = then (then p q) r
+
 -- ---- the raw transaction: a table of six fields, of which the first has four bytes
 
 module _ (v : ℕ) (a b c d e : List ℕ) where
@@ -87,13 +155,6 @@ module _ (v : ℕ) (a b c d e : List ℕ) where
       let n : 28 + length (flatten (toLe 4 v ∷ a ∷ b ∷ c ∷ d ∷ e ∷ [])) ≡ rawSize a b c d e = omega (arith, six-length) in
       rw (n, length-toLe 4 v) (simp (append-assoc, append-nil))
 
-  pub put-raw : {out o₁ o₂ o₃ : List ℕ} {at n₁ n₂ n₃ : ℕ}
-      → Put out at (unwords ((rawSize a b c d e) ∷ 28 ∷ 32 ∷ (32 + length a) ∷ [])) o₁ n₁
-      → Put o₁ n₁ (unwords ((32 + length a + length b) ∷ (32 + length a + length b + length c) ∷ (32 + length a + length b + length c + length d) ∷ v ∷ [])) o₂ n₂
-      → Put o₂ n₂ (flatten (a ∷ b ∷ c ∷ d ∷ e ∷ [])) o₃ n₃
-      → Put out at (rawBytes v a b c d e) o₃ n₃
-  put-raw p q r = as-bytes raw-runs (then (then p q) r)
-
   -- and the transaction: the raw one and the witnesses
   module _ (w : List ℕ) where
     pub tx-length : length (txBytes v a b c d e w) ≡ txSize a b c d e w
@@ -107,13 +168,34 @@ module _ (v : ℕ) (a b c d e : List ℕ) where
         unfold flatten in simp (length-append, raw-length) (omega arith) in
         rw (n, raw-length) (simp (append-assoc, append-nil))
 
-    pub put-tx : {out o₁ o₂ o₃ : List ℕ} {n₁ n₂ n₃ m : ℕ} → m ≡ txSize a b c d e w → m ≤ length out
-        → Put out 0 (unwords (m ∷ 12 ∷ (m - length w) ∷ [])) o₁ n₁ → Put o₁ n₁ (rawBytes v a b c d e) o₂ n₂ → o₃ ≡ putAt o₂ n₂ w → n₃ ≡ putEnd o₂ n₂ w
+    five-length : length (flatten (a ∷ b ∷ c ∷ d ∷ e ∷ [])) ≡ length a + length b + length c + length d + length e
+    unfolding flatten
+    five-length = simp length-append (omega arith)
+
+    -- the head, and then the lists
+    pub head-runs : txHead v (length a) (length b) (length c) (length d) (length e) (length w) ++ flatten (a ∷ b ∷ c ∷ d ∷ e ∷ []) ++ w ≡ txBytes v a b c d e w
+    unfolding txHead
+    head-runs =
+        let n : 12 + rawSize a b c d e + length w ≡ txSize a b c d e w = omega arith in
+        let front : List ℕ = unwords (txSize a b c d e w ∷ 12 ∷ (12 + rawSize a b c d e) ∷ []) in
+        rw n (regroup front _ _ (flatten (a ∷ b ∷ c ∷ d ∷ e ∷ [])) w ∙ ap (λ (x : List ℕ). front ++ x ++ w) raw-runs ∙ tx-runs)
+
+    -- after the head there is room for the lists
+    pub lists-room : (out : List ℕ) {o₁ : List ℕ} {n₁ : ℕ} → (txSize a b c d e w ≤ length out) × (txSize a b c d e w ≤ 133116)
+        → o₁ ≡ putHead out v (length a) (length b) (length c) (length d) (length e) (length w) → n₁ ≡ headEnd out (length a) (length b) (length c) (length d) (length e) (length w)
+        → n₁ + length a + length b + length c + length d + length e ≤ length o₁
+    lists-room out h eh nh =
+        let p = head-did v (length a) (length b) (length c) (length d) (length e) (length w) out (h .1) (h .0) eh nh in
+        omega (arith, p .end, length-kept p, head-length v (length a) (length b) (length c) (length d) (length e) (length w), h .0)
+
+    pub put-tx : {out o₁ o₂ o₃ : List ℕ} {n₁ n₂ n₃ : ℕ} → (txSize a b c d e w ≤ length out) × (txSize a b c d e w ≤ 133116)
+        → o₁ ≡ putHead out v (length a) (length b) (length c) (length d) (length e) (length w) → n₁ ≡ headEnd out (length a) (length b) (length c) (length d) (length e) (length w)
+        → Put o₁ n₁ (flatten (a ∷ b ∷ c ∷ d ∷ e ∷ [])) o₂ n₂ → o₃ ≡ putAt o₂ n₂ w → n₃ ≡ putEnd o₂ n₂ w
         → Put out 0 (txBytes v a b c d e w) o₃ n₃
-    put-tx {m = m} h l p q g k =
-        let j : m - length w ≡ 12 + rawSize a b c d e = omega arith in
-        let u = then (rw (j, h) at p) q in
-        as-bytes tx-runs (and-put w u g k (simp (length-append, raw-length) (unfold unwords in simp (length-append, length-toLe) (omega arith))))
+    put-tx {out} h eh nh q g k =
+        let p = head-did v (length a) (length b) (length c) (length d) (length e) (length w) out (h .1) (h .0) eh nh in
+        let l = head-length v (length a) (length b) (length c) (length d) (length e) (length w) in
+        as-bytes head-runs (and-put w (then p q) g k (simp length-append (omega (arith, l, five-length))))
 
 -- ---- a sum that stops at a cap
 

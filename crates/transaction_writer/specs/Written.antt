@@ -7,9 +7,10 @@ use lib.ListN.{length, drop}
 use lib.Dec.{leb}
 use Rattle.arithmetic.specs.LittleEndian.{toLe}
 use Rattle.error.specs.declared.Refusal.{Refusal}
-use Rattle.molecule.specs.Items.{join}
+use Rattle.molecule.specs.Items.{join, unwords}
 use Rattle.molecule.specs.Molecule.{fixvec, dynvec, readable}
 use Rattle.molecule.specs.Partial.{pick}
+use Rattle.molecule.specs.Write.{splice}
 use Rattle.transaction.specs.Ckb.{Byte32, Bytes, CellInput, CellDep, CellOutput}
 use Rattle.transaction_writer.specs.declared.Written.{Written}
 
@@ -18,6 +19,14 @@ rawBytes version deps headers inputs outputs datas = join (toLe 4 version ∷ de
 
 unfoldable pub txBytes : ℕ → List ℕ → List ℕ → List ℕ → List ℕ → List ℕ → List ℕ → List ℕ
 txBytes version deps headers inputs outputs datas witnesses = join (rawBytes version deps headers inputs outputs datas ∷ witnesses ∷ [])
+
+-- what stands before the lists, from their lengths: both tables' headers, and the version
+unfoldable pub txHead : ℕ → ℕ → ℕ → ℕ → ℕ → ℕ → ℕ → List ℕ
+txHead version deps headers inputs outputs datas witnesses =
+    let raw = 32 + deps + headers + inputs + outputs + datas in
+    unwords ((12 + raw + witnesses) ∷ 12 ∷ (12 + raw) ∷ [])
+    ++ unwords (raw ∷ 28 ∷ 32 ∷ (32 + deps) ∷ [])
+    ++ unwords ((32 + deps + headers) ∷ (32 + deps + headers + inputs) ∷ (32 + deps + headers + inputs + outputs) ∷ version ∷ [])
 
 -- each list is in its form
 unfoldable pub inForm : List ℕ → List ℕ → List ℕ → List ℕ → List ℕ → List ℕ → Bool
@@ -28,6 +37,13 @@ inForm deps headers inputs outputs datas witnesses =
 -- n bytes fit a transaction (133,120 with the 4 of its size) and a buffer of so many bytes
 unfoldable pub fits : ℕ → ℕ → Bool
 fits n room = leb n 133116 && leb n room
+
+-- the buffer with a head at its start, where the whole transaction fits, and the place after it
+unfoldable pub putHead : List ℕ → ℕ → ℕ → ℕ → ℕ → ℕ → ℕ → ℕ → List ℕ
+putHead out version a b c d e f = cond (fits (44 + a + b + c + d + e + f) (length out)) (splice out 0 (txHead version a b c d e f)) out
+
+unfoldable pub headEnd : List ℕ → ℕ → ℕ → ℕ → ℕ → ℕ → ℕ → ℕ
+headEnd out a b c d e f = cond (fits (44 + a + b + c + d + e + f) (length out)) 44 0
 
 -- the answer of a call that writes: refused where its arguments are not right, then where the bytes do not fit
 unfoldable pub writes : Bool → Refusal → List ℕ → List ℕ → Written

@@ -3,7 +3,7 @@ use error::Refusal;
 use molecule::write;
 use transaction::fields;
 ghost use mathlib.Core.Path.{_≡_};
-ghost use Prim.Native.Nat.{_+_, _≤_, _<_, _^_, min};
+ghost use Prim.Native.Nat.{_+_, _≤_, min};
 ghost use mathlib.Core.List.{[], _∷_, flatten};
 ghost use lib.ListN.{length};
 ghost use Rattle.arithmetic.specs.LittleEndian.{AllBytes};
@@ -11,7 +11,7 @@ ghost use Rattle.molecule.specs.Items.{unwords};
 ghost use Rattle.molecule.specs.Molecule.{readable};
 ghost use Rattle.molecule.specs.Write.{Put};
 ghost use Rattle.transaction.specs.Ckb.{Transaction};
-ghost use Rattle.transaction_writer.specs.Written.{rawBytes, txBytes, inForm, writes, leaves, rawSize, txSize};
+ghost use Rattle.transaction_writer.specs.Written.{txBytes, txHead, putHead, headEnd, inForm, writes, leaves, txSize};
 
 // The longest transaction that is written: 133,120 bytes with the 4 of its size.
 const MAX_BYTES: usize = 133_116;
@@ -65,35 +65,98 @@ fn put_five(out: &mut [u8], at: usize, a: &[u8], b: &[u8], c: &[u8], d: &[u8], e
     write::put(out, at, e)
 }
 
-// Puts the table of a raw transaction: the seven words of its header and the version, then the five lists.
-fn put_raw(
-    out: &mut [u8],
-    at: usize,
-    version: u32,
-    deps: &[u8],
-    headers: &[u8],
-    inputs: &[u8],
-    outputs: &[u8],
-    datas: &[u8],
-) -> usize
-    requires { ⌜ (at + rawSize (now deps) (now headers) (now inputs) (now outputs) (now datas) ≤ length (now out)) × (rawSize (now deps) (now headers) (now inputs) (now outputs) (now datas) < 2 ^ 32) ⌝ }
-    ensures { λ r. ⌜ Put (now (out .entry)) at (rawBytes version (now (deps .entry)) (now (headers .entry)) (now (inputs .entry)) (now (outputs .entry)) (now (datas .entry))) (now (out .exit)) r ⌝ }
-    ensures { λ r. ⌜ r ≡ at + rawSize (now (deps .entry)) (now (headers .entry)) (now (inputs .entry)) (now (outputs .entry)) (now (datas .entry)) ⌝ }
+// m + n, and MAX_BYTES + 1, which is too long, for all that is longer: so no sum of lengths overflows.
+pub fn capped(m: usize, n: usize) -> usize
+    ensures { λ r. ⌜ r ≡ min (m + n) 133117 ⌝ }
 {
-    let o2 = 32 + deps.len();
-    let o3 = o2 + headers.len();
-    let o4 = o3 + inputs.len();
-    let o5 = o4 + outputs.len();
-    let total = o5 + datas.len();
-    let at = put_four_words(out, at, total as u32, 28, 32, o2 as u32);
-    let at = put_four_words(out, at, o3 as u32, o4 as u32, o5 as u32, version);
-    put_five(out, at, deps, headers, inputs, outputs, datas)
+    if MAX_BYTES < m {
+        return MAX_BYTES + 1;
+    }
+    if MAX_BYTES - m < n {
+        return MAX_BYTES + 1;
+    }
+    m + n
+}
+
+// How long a transaction is, from the lengths of its lists; MAX_BYTES + 1 for all that is longer.
+pub fn tx_size(
+    deps: usize,
+    headers: usize,
+    inputs: usize,
+    outputs: usize,
+    datas: usize,
+    witnesses: usize,
+) -> usize
+    ensures { λ r. ⌜ r ≡ min (44 + deps + headers + inputs + outputs + datas + witnesses) 133117 ⌝ }
+{
+    let n = capped(44, deps);
+    let n = capped(n, headers);
+    let n = capped(n, inputs);
+    let n = capped(n, outputs);
+    let n = capped(n, datas);
+    capped(n, witnesses)
+}
+
+// Puts both tables' headers and the version.
+fn put_headers(
+    out: &mut [u8],
+    version: u32,
+    deps: usize,
+    headers: usize,
+    inputs: usize,
+    outputs: usize,
+    datas: usize,
+    witnesses: usize,
+) -> usize
+    requires { ⌜ (44 ≤ length (now out)) × (44 + deps + headers + inputs + outputs + datas + witnesses ≤ 133116) ⌝ }
+    ensures { λ r. ⌜ Put (now (out .entry)) 0 (txHead version deps headers inputs outputs datas witnesses) (now (out .exit)) r ⌝ }
+{
+    let o2 = 32 + deps;
+    let o3 = o2 + headers;
+    let o4 = o3 + inputs;
+    let o5 = o4 + outputs;
+    let raw = o5 + datas;
+    let at = put_three_words(out, 0, (12 + raw + witnesses) as u32, 12, (12 + raw) as u32);
+    let at = put_four_words(out, at, raw as u32, 28, 32, o2 as u32);
+    put_four_words(out, at, o3 as u32, o4 as u32, o5 as u32, version)
+}
+
+// Puts what stands before the lists of a transaction, from their lengths: nothing where the transaction is over out or over 133,116 bytes.
+pub fn put_head(
+    out: &mut [u8],
+    version: u32,
+    deps: usize,
+    headers: usize,
+    inputs: usize,
+    outputs: usize,
+    datas: usize,
+    witnesses: usize,
+) -> usize
+    ensures { λ _. ⌜ now (out .exit) ≡ putHead (now (out .entry)) version deps headers inputs outputs datas witnesses ⌝ }
+    ensures { λ r. ⌜ r ≡ headEnd (now (out .entry)) deps headers inputs outputs datas witnesses ⌝ }
+{
+    let n = tx_size(deps, headers, inputs, outputs, datas, witnesses);
+    if MAX_BYTES < n {
+        return 0;
+    }
+    if out.len() < n {
+        return 0;
+    }
+    put_headers(
+        out,
+        version,
+        deps,
+        headers,
+        inputs,
+        outputs,
+        datas,
+        witnesses,
+    )
 }
 
 // Puts a transaction at the start of out.
 fn put_transaction(
     out: &mut [u8],
-    total: usize,
     version: u32,
     deps: &[u8],
     headers: &[u8],
@@ -102,42 +165,21 @@ fn put_transaction(
     datas: &[u8],
     witnesses: &[u8],
 ) -> usize
-    requires { ⌜ (total ≡ txSize (now deps) (now headers) (now inputs) (now outputs) (now datas) (now witnesses)) × (total ≤ length (now out)) × (total < 2 ^ 32) ⌝ }
+    requires { ⌜ (txSize (now deps) (now headers) (now inputs) (now outputs) (now datas) (now witnesses) ≤ length (now out)) × (txSize (now deps) (now headers) (now inputs) (now outputs) (now datas) (now witnesses) ≤ 133116) ⌝ }
     ensures { λ r. ⌜ Put (now (out .entry)) 0 (txBytes version (now (deps .entry)) (now (headers .entry)) (now (inputs .entry)) (now (outputs .entry)) (now (datas .entry)) (now (witnesses .entry))) (now (out .exit)) r ⌝ }
 {
-    let second = total - witnesses.len();
-    let at = put_three_words(out, 0, total as u32, 12, second as u32);
-    let at = put_raw(out, at, version, deps, headers, inputs, outputs, datas);
+    let at = put_head(
+        out,
+        version,
+        deps.len(),
+        headers.len(),
+        inputs.len(),
+        outputs.len(),
+        datas.len(),
+        witnesses.len(),
+    );
+    let at = put_five(out, at, deps, headers, inputs, outputs, datas);
     write::put(out, at, witnesses)
-}
-
-// total + n, and MAX_BYTES + 1, which is too long, for all that is longer.
-fn capped(total: usize, n: usize) -> usize
-    requires { ⌜ total ≤ 133117 ⌝ }
-    ensures { λ r. ⌜ r ≡ min (total + n) 133117 ⌝ }
-{
-    if n < MAX_BYTES + 1 - total {
-        return total + n;
-    }
-    MAX_BYTES + 1
-}
-
-fn tx_size(
-    deps: &[u8],
-    headers: &[u8],
-    inputs: &[u8],
-    outputs: &[u8],
-    datas: &[u8],
-    witnesses: &[u8],
-) -> usize
-    ensures { λ r. ⌜ r ≡ min (txSize (now (deps .entry)) (now (headers .entry)) (now (inputs .entry)) (now (outputs .entry)) (now (datas .entry)) (now (witnesses .entry))) 133117 ⌝ }
-{
-    let n = capped(44, deps.len());
-    let n = capped(n, headers.len());
-    let n = capped(n, inputs.len());
-    let n = capped(n, outputs.len());
-    let n = capped(n, datas.len());
-    capped(n, witnesses.len())
 }
 
 fn in_form(
@@ -186,7 +228,14 @@ pub fn write_transaction(
     if !in_form(deps, headers, inputs, outputs, datas, witnesses) {
         return Written::Refused(Refusal::LentBytesUnreadable);
     }
-    let n = tx_size(deps, headers, inputs, outputs, datas, witnesses);
+    let n = tx_size(
+        deps.len(),
+        headers.len(),
+        inputs.len(),
+        outputs.len(),
+        datas.len(),
+        witnesses.len(),
+    );
     if n > MAX_BYTES {
         return Written::Refused(Refusal::BufferTooShort);
     }
@@ -195,7 +244,6 @@ pub fn write_transaction(
     }
     Written::Wrote(put_transaction(
         out,
-        n,
         version,
         deps,
         headers,
@@ -207,7 +255,7 @@ pub fn write_transaction(
 }
 
 // Shows that each element of a slice of bytes is below 256, which a read of any one tells.
-fn are_bytes(s: &[u8]) -> bool
+pub fn are_bytes(s: &[u8]) -> bool
     ensures { λ _. ⌜ AllBytes (now (s .entry)) ⌝ }
 {
     if s.len() == 0 {

@@ -6,11 +6,8 @@ pub put-transaction-spec : {M : Type 1} → statement M
 put-transaction-spec =
     tie.close
     (tie.spec
-    (λ c. search ways)  -- sub-second
-    (λ c. search ways)  -- cast-put-three-words
-    (λ c. search ways)  -- cast-put-three-words-2
-    (λ c κs. search ways)  -- put-three-words-requires
-    (λ c κs. search ways)  -- put-raw-requires
+    (λ c κs. search ways)  -- put-head-requires
+    (λ c κs. search ways)  -- put-five-requires
     (λ c κs. search ways)  -- put-requires
     (λ c. search ways)  -- same-length
     (λ c. search ways))  -- returns
