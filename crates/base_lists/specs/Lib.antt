@@ -1,0 +1,2 @@
+pub mod BaseLists
+pub mod Parts

@@ -1,0 +1,113 @@
+// The outputs: the funding cell, the present ones after the first, and the change.
+use crate::MAX_BYTES;
+use arithmetic::little_endian;
+use list_writer::capped;
+use list_writer::list_size;
+use list_writer::put_list;
+ghost use mathlib.Core.Path.{_≡_};
+ghost use Prim.Native.Nat.{ℕ, _+_, _<_, _^_, min};
+ghost use lib.ListN.{length};
+ghost use Rattle.molecule.specs.Items.{join};
+ghost use Rattle.list_writer.specs.ListWriter.{ifPositive, putList, putListEnd};
+ghost use Rattle.base_lists.specs.BaseLists.{cellOutput, outputList};
+ghost use Rattle.base_lists.specs.Parts.{cellHead};
+
+// The first bytes of a cell's output, by the lengths of its lock and its type.
+fn cell_head(capacity: u64, m: usize, n: usize) -> [u8; 24]
+    requires { ⌜ 24 + m + n < 2 ^ 32 ⌝ }
+    ensures { λ r. ⌜ r ≡ cellHead capacity m n ⌝ }
+{
+    let s = little_endian::u32_bytes((24 + m + n) as u32);
+    let t = little_endian::u32_bytes((24 + m) as u32);
+    let c = little_endian::u64_bytes(capacity);
+    [
+        s[0],
+        s[1],
+        s[2],
+        s[3],
+        16,
+        0,
+        0,
+        0,
+        24,
+        0,
+        0,
+        0,
+        t[0],
+        t[1],
+        t[2],
+        t[3],
+        c[0],
+        c[1],
+        c[2],
+        c[3],
+        c[4],
+        c[5],
+        c[6],
+        c[7],
+    ]
+}
+
+// How long a cell's output is.
+fn cell_size(lock: &[u8], udt: &[u8]) -> usize
+    ensures { λ r. ⌜ r ≡ min (24 + length (now (lock .entry)) + length (now (udt .entry))) 133117 ⌝ }
+{
+    let n = capped(24, lock.len());
+    capped(n, udt.len())
+}
+
+// How long the change's output is; a change without a capacity has none.
+fn change_size(change: u64, source: &[u8], udt: &[u8]) -> usize
+    ensures { λ r. ⌜ r ≡ min (length (ifPositive change (cellOutput change (now (source .entry)) (now (udt .entry))))) 133117 ⌝ }
+{
+    if change == 0 {
+        return 0;
+    }
+    cell_size(source, udt)
+}
+
+// How long the outputs are, whatever the funding cell's capacity is.
+pub fn outputs_size(
+    lock: &[u8],
+    udt: &[u8],
+    present: &[u8],
+    k: usize,
+    change: u64,
+    source: &[u8],
+) -> usize
+    ensures { λ r. ⌜ ((capacity : ℕ) → r ≡ min (length (join (outputList capacity (now (lock .entry)) (now (udt .entry)) (now (present .entry)) k change (now (source .entry))))) 133117) ⌝ }
+{
+    let first = cell_size(lock, udt);
+    let last = change_size(change, source, udt);
+    list_size(first, present, k, last)
+}
+
+// Puts the outputs: the funding cell, the k outputs of `present` after its first, and the change under the lock `source`, unless its capacity is 0.
+pub fn put_outputs(
+    out: &mut [u8],
+    at: usize,
+    capacity: u64,
+    lock: &[u8],
+    udt: &[u8],
+    present: &[u8],
+    k: usize,
+    change: u64,
+    source: &[u8],
+) -> usize
+    ensures { λ _. ⌜ now (out .exit) ≡ putList (now (out .entry)) at (join (outputList capacity (now (lock .entry)) (now (udt .entry)) (now (present .entry)) k change (now (source .entry)))) ⌝ }
+    ensures { λ r. ⌜ r ≡ putListEnd (now (out .entry)) at (join (outputList capacity (now (lock .entry)) (now (udt .entry)) (now (present .entry)) k change (now (source .entry)))) ⌝ }
+{
+    if cell_size(lock, udt) > MAX_BYTES {
+        return at;
+    }
+    let head = cell_head(capacity, lock.len(), udt.len());
+    if change == 0 {
+        let none = &lock[0..0];
+        return put_list(out, at, &head, lock, udt, present, k, none, none, none);
+    }
+    if cell_size(source, udt) > MAX_BYTES {
+        return at;
+    }
+    let last = cell_head(change, source.len(), udt.len());
+    put_list(out, at, &head, lock, udt, present, k, &last, source, udt)
+}

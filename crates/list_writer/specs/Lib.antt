@@ -1,0 +1,2 @@
+pub mod ListWriter
+pub mod Around
