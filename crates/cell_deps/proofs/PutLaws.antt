@@ -1,0 +1,91 @@
+-- The list of the chosen deps, sized and written.
+use mathlib.Core.Path.{_≡_, refl, sym, ap, _∙_}
+use Prim.Native.Nat.{ℕ, _+_, _-_, _≤_, _<_, min}
+use mathlib.Core.Bool.{Bool, true, false, not}
+use mathlib.Core.List.{List, [], _∷_, _++_, map, flatten}
+use native.Mathlib.Nat.{add-zero}
+use native.Mathlib.Omega.{arith}
+use lib.ListN.{length, getD, take, length-append, length-map, length-take}
+use Rattle.arithmetic.specs.LittleEndian.{toLe}
+use Rattle.arithmetic.proofs.LittleEndianLaws.{length-toLe}
+use Rattle.molecule.specs.Layout.{span}
+use Rattle.molecule.specs.Write.{putAt, putEnd, Put}
+use Rattle.molecule.proofs.WriteLaws.{did, then, length-kept}
+use Rattle.list_writer.specs.ListWriter.{fixList, putList, putListEnd}
+use Rattle.list_writer.specs.Around.{fitsAt}
+use Rattle.list_writer.proofs.AnswerLaws.{fit-room, list-in, list-in-end}
+use Rattle.list_writer.proofs.LoopLaws.{Sizing, size-none, size-more, size-end, Writing, write-none, write-more, write-end}
+use Rattle.cell_deps.specs.declared.Chosen.{Chosen}
+use Rattle.cell_deps.specs.CellDeps.{depAt, depsAt}
+use Rattle.cell_deps.proofs.DepLaws.{map-span, take-used}
+
+-- dep j of the chosen ones
+unfoldable pub nth : List ℕ → List ℕ → List ℕ → List ℕ → Chosen → ℕ → List ℕ
+nth a b c d x j = depAt a b c d (getD (x .places) j 0)
+
+module _ (a b c d : List ℕ) (x : Chosen) {n : ℕ} (en : n ≡ min (x .count) 3597) (long : length (x .places) ≡ 3597) where
+  pub chosen-span : depsAt a b c d x ≡ span (nth a b c d x) 0 n
+  unfolding depsAt nth
+  chosen-span =
+      let q : take n (x .places) ≡ take (x .count) (x .places) = take-used (x .places) n (x .count) 3597 long en in
+      let h : n ≤ length (x .places) = omega arith in
+      ap (map (depAt a b c d)) (sym q) ∙ map-span (depAt a b c d) (x .places) n h
+
+  pub deps-size : {j size r : ℕ} → Sizing (nth a b c d x) 0 n j size → n ≤ j → r ≡ min (4 + size) 133117 → r ≡ min (length (fixList (depsAt a b c d x))) 133117
+  unfolding fixList
+  deps-size {j} {size} {r} g h e =
+      let s : size ≡ min (length (flatten (depsAt a b c d x))) 133117 = size-end g h ∙ ap (λ (l : List (List ℕ)). min (length (flatten l)) 133117) (sym chosen-span) in
+      omega (arith, length-append (toLe 4 (length (depsAt a b c d x))) (flatten (depsAt a b c d x)), length-toLe 4 (length (depsAt a b c d x)))
+
+  pub deps-start : (out : List ℕ) (at : ℕ) → at + length (flatten (depsAt a b c d x)) ≤ length out → Writing (nth a b c d x) 0 out at n 0 out at
+  deps-start out at h = write-none (nth a b c d x) 0 out at n (rw (← chosen-span) h)
+
+  pub deps-end : {out after : List ℕ} {at j next : ℕ} → Writing (nth a b c d x) 0 out at n j after next → n ≤ j → Put out at (flatten (depsAt a b c d x)) after next
+  deps-end g h = rw chosen-span (write-end g h)
+
+module _ (a b c d : List ℕ) (x : Chosen) (j : ℕ) {y : List ℕ} {p : ℕ} (ep : p ≡ getD (x .places) j 0) (ey : y ≡ depAt a b c d p) where
+  is-nth : y ≡ nth a b c d x (j + 0)
+  unfolding nth
+  is-nth = ey ∙ ap (depAt a b c d) ep ∙ ap (λ (i : ℕ). depAt a b c d (getD (x .places) i 0)) (sym (add-zero j))
+
+  pub size-dep : {n size r : ℕ} → Sizing (nth a b c d x) 0 n j size → j < n → r ≡ min (size + length y) 133117 → Sizing (nth a b c d x) 0 n (j + 1) r
+  size-dep g h e = size-more g h (ap length is-nth) e
+
+  pub put-dep : {out o₁ o₂ : List ℕ} {at n n₁ n₂ : ℕ} → Writing (nth a b c d x) 0 out at n j o₁ n₁ → j < n → o₂ ≡ putAt o₁ n₁ y → n₂ ≡ putEnd o₁ n₁ y
+      → Writing (nth a b c d x) 0 out at n (j + 1) o₂ n₂
+  put-dep {o₁ = o₁} {n₁ = n₁} g h e f = write-more g h (e ∙ ap (putAt o₁ n₁) is-nth) (f ∙ ap (putEnd o₁ n₁) is-nth)
+
+-- ---- the count, and then the deps
+
+module _ (a b c d out : List ℕ) (at : ℕ) (x : Chosen) {n size : ℕ} {r : Bool} (en : n ≡ min (x .count) 3597) (long : length (x .places) ≡ 3597)
+    (es : size ≡ min (length (fixList (depsAt a b c d x))) 133117) (er : r ≡ fitsAt size at (length out)) (fit : not r ≡ false)
+    {o₁ : List ℕ} {n₁ : ℕ} (e₁ : o₁ ≡ putAt out at (toLe 4 n)) (f₁ : n₁ ≡ putEnd out at (toLe 4 n)) where
+  deps-count : length (depsAt a b c d x) ≡ n
+  unfolding depsAt
+  deps-count = simp (length-map, length-take) (omega arith)
+
+  list-long : length (fixList (depsAt a b c d x)) ≡ 4 + length (flatten (depsAt a b c d x))
+  unfolding fixList
+  list-long = length-append (toLe 4 (length (depsAt a b c d x))) (flatten (depsAt a b c d x)) ∙ ap (λ (k : ℕ). k + length (flatten (depsAt a b c d x))) (length-toLe 4 _)
+
+  counted : Put out at (toLe 4 n) o₁ n₁
+  counted =
+      let m = fit-room at (length out) es er fit .0 in
+      did (toLe 4 n) e₁ f₁ (omega (arith, list-long, length-toLe 4 n))
+
+  pub deps-room : n₁ + length (flatten (depsAt a b c d x)) ≤ length o₁
+  deps-room =
+      let m = fit-room at (length out) es er fit .0 in
+      omega (arith, list-long, length-toLe 4 n, counted .end, length-kept counted)
+
+  pub deps-put : {o₂ : List ℕ} {n₂ : ℕ} → Put o₁ n₁ (flatten (depsAt a b c d x)) o₂ n₂ → o₂ ≡ putList out at (fixList (depsAt a b c d x))
+  deps-put q = list-in out at (fixList (depsAt a b c d x)) es er fit (whole q)
+    where
+      whole : {o₂ : List ℕ} {n₂ : ℕ} → Put o₁ n₁ (flatten (depsAt a b c d x)) o₂ n₂ → Put out at (fixList (depsAt a b c d x)) o₂ n₂
+      whole q = unfold fixList in rw deps-count (then counted q)
+
+  pub deps-put-end : {o₂ : List ℕ} {n₂ : ℕ} → Put o₁ n₁ (flatten (depsAt a b c d x)) o₂ n₂ → n₂ ≡ putListEnd out at (fixList (depsAt a b c d x))
+  deps-put-end q = list-in-end out at (fixList (depsAt a b c d x)) es er fit (whole q)
+    where
+      whole : {o₂ : List ℕ} {n₂ : ℕ} → Put o₁ n₁ (flatten (depsAt a b c d x)) o₂ n₂ → Put out at (fixList (depsAt a b c d x)) o₂ n₂
+      whole q = unfold fixList in rw deps-count (then counted q)

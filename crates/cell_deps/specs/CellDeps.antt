@@ -1,0 +1,58 @@
+-- The cell deps of a base transaction (01-scope.md, "Our own side": "present, token's and lock's if tokens were picked, extra; first occurrence
+-- only").
+use mathlib.Core.Path.{_≡_}
+use Prim.Native.Nat.{ℕ, _+_, _-_, _<_, min}
+use mathlib.Core.Bool.{Bool, cond}
+use mathlib.Core.List.{List, [], _∷_, _++_, map}
+use lib.ListN.{length, take}
+use lib.Dec.{ltb}
+use Rattle.lists.specs.Lists.{contains}
+use Rattle.molecule.specs.Layout.{fixCount, fixItem, fixItems}
+use Rattle.list_writer.specs.ListWriter.{ifAny}
+use Rattle.cell_deps.specs.declared.Chosen.{Chosen}
+
+-- each dep once, where it first stands: a dep that is there already is not pushed again
+unfoldable pub pushed : List (List ℕ) → List ℕ → List (List ℕ)
+pushed deps x = cond (contains x deps) deps (deps ++ (x ∷ []))
+
+unfoldable pub pushAll : List (List ℕ) → List (List ℕ) → List (List ℕ)
+pushAll deps [] = deps
+pushAll deps (x ∷ xs) = pushAll (pushed deps x) xs
+
+-- the present deps, the token's, the lock's, which is one dep or nothing, and the extra ones
+abbrev pub allDeps : List ℕ → List ℕ → List ℕ → List ℕ → List (List ℕ)
+allDeps present udt lock extra = fixItems 37 present ++ fixItems 37 udt ++ ifAny lock ++ fixItems 37 extra
+
+unfoldable pub cellDeps : List ℕ → List ℕ → List ℕ → List ℕ → List (List ℕ)
+cellDeps present udt lock extra = pushAll [] (allDeps present udt lock extra)
+
+-- ---- what the functions inside promise one another: a dep by its place in the four lists, one after the other
+
+unfoldable pub before : ℕ → (ℕ → List ℕ) → (ℕ → List ℕ) → ℕ → List ℕ
+before m f g i = cond (ltb i m) (f i) (g (i - m))
+
+unfoldable pub anyCount : List ℕ → ℕ
+anyCount [] = 0
+anyCount (b ∷ s) = 1
+
+-- the lock's and the extra ones; those and the token's; all
+unfoldable pub lastDepAt : List ℕ → List ℕ → ℕ → List ℕ
+lastDepAt c d = before (anyCount c) (λ _. c) (fixItem d 37)
+
+unfoldable pub ownDepAt : List ℕ → List ℕ → List ℕ → ℕ → List ℕ
+ownDepAt b c d = before (fixCount b) (fixItem b 37) (lastDepAt c d)
+
+unfoldable pub depAt : List ℕ → List ℕ → List ℕ → List ℕ → ℕ → List ℕ
+depAt a b c d = before (fixCount a) (fixItem a 37) (ownDepAt b c d)
+
+abbrev pub depCount : List ℕ → List ℕ → List ℕ → List ℕ → ℕ
+depCount a b c d = fixCount a + (fixCount b + (anyCount c + fixCount d))
+
+-- the deps at the chosen places
+unfoldable pub depsAt : List ℕ → List ℕ → List ℕ → List ℕ → Chosen → List (List ℕ)
+depsAt a b c d x = map (depAt a b c d) (take (x .count) (x .places))
+
+-- the choice: the places of the deps where each first stands, or 3,598 for more of them than a transaction has room for
+pub record Chooses (a b c d : List ℕ) (x : Chosen) : Type 0 where
+  pub number : x .count ≡ min (length (cellDeps a b c d)) 3598
+  pub chosen : x .count < 3598 → depsAt a b c d x ≡ cellDeps a b c d
