@@ -1,0 +1,104 @@
+-- The lists put one after the other.
+use mathlib.Core.Path.{_≡_, refl, sym, ap, ap₂, _∙_}
+use Prim.Native.Nat.{ℕ, _+_, _-_, _≤_, _<_, min}
+use mathlib.Core.Bool.{Bool, true, false, not}
+use mathlib.Core.List.{List, [], _∷_, _++_}
+use native.Mathlib.Omega.{arith}
+use borrow.Author.Tests.{le-leb}
+use lib.Dec.{eqb}
+use lib.ListN.{length, length-append}
+use Rattle.molecule.specs.Write.{putAt, putEnd, Put}
+use Rattle.molecule.proofs.WriteLaws.{did, then, and-put, length-kept}
+use Rattle.transaction_writer.specs.Written.{txHead, putHead, headEnd}
+use Rattle.transaction_writer.proofs.PutLaws.{head-did, head-length}
+use Rattle.list_writer.specs.ListWriter.{putList, putListEnd}
+use Rattle.units.specs.Units.{tokenCount}
+use Rattle.molecule.specs.Items.{join}
+use Rattle.molecule.specs.Layout.{itemCount, fixCount}
+use Rattle.rules.specs.Surplus.{isEmpty}
+use Rattle.rules.proofs.CellLaws.{empty-is}
+use Rattle.base_lists.specs.BaseLists.{outputList, dataList, witnessList}
+use Rattle.base_writer.specs.declared.{Plan.Plan, Sizes.Sizes}
+use Rattle.base_writer.specs.Lists.{total, FrontFits, BackFits, front, back}
+
+-- what a writer of a list did, where there was room
+module _ (xs out : List ℕ) (at : ℕ) {after : List ℕ} {next : ℕ} (e : after ≡ putList out at xs) (f : next ≡ putListEnd out at xs) (low : length xs ≤ 133116) where
+  is-put : after ≡ putAt out at xs
+  unfolding putList
+  is-put = e ∙ rw (le-leb (length xs) 133116 low)
+
+  is-end : next ≡ putEnd out at xs
+  unfolding putListEnd
+  is-end = f ∙ rw (le-leb (length xs) 133116 low)
+
+  pub list-did : at + length xs ≤ length out → Put out at xs after next
+  list-did h = did xs is-put is-end h
+
+and-list : (ys : List ℕ) {out o₁ o₂ : List ℕ} {at n₁ n₂ : ℕ} {xs : List ℕ} → Put out at xs o₁ n₁ → o₂ ≡ putList o₁ n₁ ys → n₂ ≡ putListEnd o₁ n₁ ys
+    → length ys ≤ 133116 → at + length xs + length ys ≤ length out → Put out at (xs ++ ys) o₂ n₂
+and-list ys {o₁ = o₁} {n₁ = n₁} p e f low h = and-put ys p (is-put ys o₁ n₁ e f low) (is-end ys o₁ n₁ e f low) h
+
+module _ (version : ℕ) (z : Sizes) (a b c out : List ℕ) (h : FrontFits z a b c out) where
+  abbrev head : List ℕ
+  head = txHead version (z .deps) (z .headers) (z .inputs) (z .outputs) (z .datas) (z .witnesses)
+
+  module _ {o₁ o₂ o₃ o₄ : List ℕ} {n₁ n₂ n₃ n₄ : ℕ}
+      (e₁ : o₁ ≡ putHead out version (z .deps) (z .headers) (z .inputs) (z .outputs) (z .datas) (z .witnesses))
+      (f₁ : n₁ ≡ headEnd out (z .deps) (z .headers) (z .inputs) (z .outputs) (z .datas) (z .witnesses))
+      (e₂ : o₂ ≡ putList o₁ n₁ a) (f₂ : n₂ ≡ putListEnd o₁ n₁ a) (e₃ : o₃ ≡ putAt o₂ n₂ b) (f₃ : n₃ ≡ putEnd o₂ n₂ b)
+      (e₄ : o₄ ≡ putList o₃ n₃ c) (f₄ : n₄ ≡ putListEnd o₃ n₃ c) where
+    pub front-put : Put out 0 (front version z a b c) o₄ n₄
+    unfolding front
+    front-put =
+        let l = head-length version (z .deps) (z .headers) (z .inputs) (z .outputs) (z .datas) (z .witnesses) in
+        let d = h .deps in
+        let r = h .headers in
+        let i = h .inputs in
+        let low = h .low in
+        let room = h .room in
+        let p₁ = head-did version (z .deps) (z .headers) (z .inputs) (z .outputs) (z .datas) (z .witnesses) out (h .low) (h .room) e₁ f₁ in
+        let p₂ = and-list a p₁ e₂ f₂ (omega arith) (omega arith) in
+        let p₃ = and-put b p₂ e₃ f₃ (simp length-append (omega arith)) in
+        and-list c p₃ e₄ f₄ (omega arith) (simp length-append (omega arith))
+
+module _ (d e f out : List ℕ) (at : ℕ) (h : BackFits at d e f out) {o₁ o₂ o₃ : List ℕ} {n₁ n₂ n₃ : ℕ} (e₁ : o₁ ≡ putList out at d) (f₁ : n₁ ≡ putListEnd out at d)
+    (e₂ : o₂ ≡ putList o₁ n₁ e) (f₂ : n₂ ≡ putListEnd o₁ n₁ e) (e₃ : o₃ ≡ putList o₂ n₂ f) (f₃ : n₃ ≡ putListEnd o₂ n₂ f) where
+  pub back-put : Put out at (back d e f) o₃ n₃
+  unfolding back
+  back-put =
+      let low = h .0 in
+      let room = h .1 in
+      let p₁ = list-did d out at e₁ f₁ (omega arith) (omega arith) in
+      let p₂ = and-list e p₁ e₂ f₂ (omega arith) (omega arith) in
+      and-list f p₂ e₃ f₃ (omega arith) (simp length-append (omega arith))
+
+-- the same by what the code computes: how many outputs are later, whether there is a type, how many inputs are present
+module _ (inputs outputs datas lock udt source : List ℕ) (p : Plan) (out : List ℕ) (at : ℕ) {later present : ℕ} (el : later ≡ itemCount outputs - 1) (ep : present ≡ fixCount inputs) where
+  abbrev last₁ : List ℕ
+  last₁ = join (outputList (p .capacity) lock udt outputs (itemCount outputs - 1) (p .«change_capacity») source)
+
+  abbrev last₂ : List ℕ
+  last₂ = join (dataList (not (isEmpty udt)) (tokenCount (p .token)) datas (itemCount outputs - 1) (tokenCount (p .change)))
+
+  abbrev last₃ : List ℕ
+  last₃ = join (witnessList (fixCount inputs) (p .taken))
+
+  same₁ : join (outputList (p .capacity) lock udt outputs later (p .«change_capacity») source) ≡ last₁
+  same₁ = rw el
+
+  same₂ : join (dataList (not (eqb (length udt) 0)) (tokenCount (p .token)) datas later (tokenCount (p .change))) ≡ last₂
+  same₂ = rw (el, ← empty-is udt)
+
+  same₃ : join (witnessList present (p .taken)) ≡ last₃
+  same₃ = rw ep
+
+  pub back-done : BackFits at last₁ last₂ last₃ out → {o₁ o₂ o₃ : List ℕ} {n₁ n₂ n₃ : ℕ}
+      → o₁ ≡ putList out at (join (outputList (p .capacity) lock udt outputs later (p .«change_capacity») source))
+      → n₁ ≡ putListEnd out at (join (outputList (p .capacity) lock udt outputs later (p .«change_capacity») source))
+      → o₂ ≡ putList o₁ n₁ (join (dataList (not (eqb (length udt) 0)) (tokenCount (p .token)) datas later (tokenCount (p .change))))
+      → n₂ ≡ putListEnd o₁ n₁ (join (dataList (not (eqb (length udt) 0)) (tokenCount (p .token)) datas later (tokenCount (p .change))))
+      → o₃ ≡ putList o₂ n₂ (join (witnessList present (p .taken))) → n₃ ≡ putListEnd o₂ n₂ (join (witnessList present (p .taken)))
+      → Put out at (back last₁ last₂ last₃) o₃ n₃
+  back-done h {o₁} {o₂} {o₃} {n₁} {n₂} {n₃} e₁ f₁ e₂ f₂ e₃ f₃ =
+      back-put last₁ last₂ last₃ out at h (e₁ ∙ ap (putList out at) same₁) (f₁ ∙ ap (putListEnd out at) same₁)
+      (e₂ ∙ ap (putList o₁ n₁) same₂) (f₂ ∙ ap (putListEnd o₁ n₁) same₂) (e₃ ∙ ap (putList o₂ n₂) same₃) (f₃ ∙ ap (putListEnd o₂ n₂) same₃)

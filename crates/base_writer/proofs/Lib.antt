@@ -1,0 +1,4 @@
+pub mod ListLaws
+pub mod FrontLaws
+pub mod AnswerLaws
+pub mod Ways

@@ -1,0 +1,295 @@
+// Writes a base transaction into a lent buffer: from the lists of the present one, the lent lists, and the figures.
+use cell_deps::Chosen;
+use error::Refusal;
+use molecule::write;
+use transaction_writer::Written;
+use units::Tokens;
+ghost use mathlib.Core.Path.{_≡_};
+ghost use Prim.Native.Nat.{_+_, _-_, _≤_, min};
+ghost use mathlib.Core.Bool.{not};
+ghost use mathlib.Core.List.{_++_};
+ghost use lib.ListN.{length};
+ghost use Rattle.molecule.specs.Layout.{itemCount, fixCount};
+ghost use Rattle.molecule.specs.Write.{putAt, putEnd, Put};
+ghost use Rattle.rules.specs.Outcome.{fine};
+ghost use Rattle.base_writer.specs.Answer.{written, told};
+ghost use Rattle.units.specs.Units.{tokenCount};
+ghost use Rattle.molecule.specs.Items.{join};
+ghost use Rattle.rules.specs.Surplus.{isEmpty};
+ghost use Rattle.base_inputs.specs.BaseInputs.{inputList};
+ghost use Rattle.base_lists.specs.BaseLists.{outputList, dataList, witnessList};
+ghost use Rattle.list_writer.specs.ListWriter.{fixList};
+ghost use Rattle.cell_deps.specs.CellDeps.{depsAt};
+ghost use Rattle.base_writer.specs.Lists.{orEmpty, listsOf, bytesOf, Capped, Fitting, FrontFits, BackFits, front, back};
+
+// The longest transaction that is written.
+const MAX_BYTES: usize = 133_116;
+
+// The figures of a base transaction: the funding cell's, how many token cells are taken, what change is left of them, and the capacity of its
+// output, 0 where there is none.
+pub struct Plan {
+    pub capacity: u64,
+    pub token: Tokens,
+    pub taken: usize,
+    pub change: Tokens,
+    pub change_capacity: u64,
+}
+
+// How long each list is.
+struct Sizes {
+    deps: usize,
+    headers: usize,
+    inputs: usize,
+    outputs: usize,
+    datas: usize,
+    witnesses: usize,
+}
+
+// How many outputs there are after the first.
+fn later_count(outputs: &[u8]) -> usize
+    ensures { λ r. ⌜ r ≡ itemCount (now (outputs .entry)) - 1 ⌝ }
+{
+    let n = molecule::item_count(outputs) as usize;
+    if n == 0 {
+        return 0;
+    }
+    n - 1
+}
+
+// How long the header deps are; no bytes stand for the empty list.
+fn headers_size(headers: &[u8]) -> usize
+    ensures { λ r. ⌜ r ≡ min (length (orEmpty (now (headers .entry)))) 133117 ⌝ }
+{
+    if headers.len() == 0 {
+        return 4;
+    }
+    list_writer::capped(0, headers.len())
+}
+
+// Puts the header deps.
+fn put_header_deps(out: &mut [u8], at: usize, headers: &[u8]) -> usize
+    ensures { λ _. ⌜ now (out .exit) ≡ putAt (now (out .entry)) at (orEmpty (now (headers .entry))) ⌝ }
+    ensures { λ r. ⌜ r ≡ putEnd (now (out .entry)) at (orEmpty (now (headers .entry))) ⌝ }
+{
+    if headers.len() == 0 {
+        return write::put_u32(out, at, 0);
+    }
+    write::put(out, at, headers)
+}
+
+// How long the lists are.
+fn measure<'a>(
+    deps: &'a [u8],
+    udt_deps: &'a [u8],
+    lock_dep: &'a [u8],
+    extra_deps: &'a [u8],
+    headers: &[u8],
+    inputs: &[u8],
+    outputs: &[u8],
+    datas: &[u8],
+    lock: &[u8],
+    udt: &[u8],
+    source: &[u8],
+    cells: &[u8],
+    chosen: Chosen,
+    plan: Plan,
+) -> Sizes
+    ensures { λ r. ⌜ Capped r (listsOf (record { deps = now (deps .entry); headers = now (headers .entry); inputs = now (inputs .entry); outputs = now (outputs .entry); datas = now (datas .entry) }) (record { lock = now (lock .entry); udt = now (udt .entry); source = now (source .entry); cells = now (cells .entry); udtDeps = now («udt_deps» .entry); lockDep = now («lock_dep» .entry); extraDeps = now («extra_deps» .entry) }) chosen plan) ⌝ }
+{
+    let later = later_count(outputs);
+    let typed = udt.len() != 0;
+    let present = molecule::fix_count(inputs) as usize;
+    let d = cell_deps::deps_size(deps, udt_deps, lock_dep, extra_deps, chosen);
+    let h = headers_size(headers);
+    let i = base_inputs::inputs_size(inputs, cells, plan.taken);
+    let o = base_lists::outputs_size(lock, udt, outputs, later, plan.change_capacity, source);
+    let a = base_lists::outputs_data_size(typed, datas, later, plan.change);
+    let w = base_lists::witnesses_size(present, plan.taken);
+    Sizes {
+        deps: d,
+        headers: h,
+        inputs: i,
+        outputs: o,
+        datas: a,
+        witnesses: w,
+    }
+}
+
+// Puts the head and the first three lists at the start of out.
+fn put_front<'a>(
+    out: &mut [u8],
+    version: u32,
+    deps: &'a [u8],
+    udt_deps: &'a [u8],
+    lock_dep: &'a [u8],
+    extra_deps: &'a [u8],
+    headers: &[u8],
+    inputs: &[u8],
+    cells: &[u8],
+    chosen: Chosen,
+    plan: Plan,
+    z: Sizes,
+) -> usize
+    requires { ⌜ FrontFits z (fixList (depsAt (now deps) (now «udt_deps») (now «lock_dep») (now «extra_deps») chosen)) (orEmpty (now headers)) (fixList (inputList (now inputs) (now cells) (plan .taken))) (now out) ⌝ }
+    ensures { λ r. ⌜ Put (now (out .entry)) 0 (front version z (fixList (depsAt (now (deps .entry)) (now («udt_deps» .entry)) (now («lock_dep» .entry)) (now («extra_deps» .entry)) chosen)) (orEmpty (now (headers .entry))) (fixList (inputList (now (inputs .entry)) (now (cells .entry)) (plan .taken)))) (now (out .exit)) r ⌝ }
+{
+    let at = transaction_writer::put_head(
+        out,
+        version,
+        z.deps,
+        z.headers,
+        z.inputs,
+        z.outputs,
+        z.datas,
+        z.witnesses,
+    );
+    let at = cell_deps::put_deps(out, at, deps, udt_deps, lock_dep, extra_deps, chosen);
+    let at = put_header_deps(out, at, headers);
+    base_inputs::put_inputs(out, at, inputs, cells, plan.taken)
+}
+
+// Puts the last three lists at `at`.
+fn put_back(
+    out: &mut [u8],
+    at: usize,
+    inputs: &[u8],
+    outputs: &[u8],
+    datas: &[u8],
+    lock: &[u8],
+    udt: &[u8],
+    source: &[u8],
+    plan: Plan,
+) -> usize
+    requires { ⌜ BackFits at (join (outputList (plan .capacity) (now lock) (now udt) (now outputs) (itemCount (now outputs) - 1) (plan .«change_capacity») (now source))) (join (dataList (not (isEmpty (now udt))) (tokenCount (plan .token)) (now datas) (itemCount (now outputs) - 1) (tokenCount (plan .change)))) (join (witnessList (fixCount (now inputs)) (plan .taken))) (now out) ⌝ }
+    ensures { λ r. ⌜ Put (now (out .entry)) at (back (join (outputList (plan .capacity) (now (lock .entry)) (now (udt .entry)) (now (outputs .entry)) (itemCount (now (outputs .entry)) - 1) (plan .«change_capacity») (now (source .entry)))) (join (dataList (not (isEmpty (now (udt .entry)))) (tokenCount (plan .token)) (now (datas .entry)) (itemCount (now (outputs .entry)) - 1) (tokenCount (plan .change)))) (join (witnessList (fixCount (now (inputs .entry))) (plan .taken)))) (now (out .exit)) r ⌝ }
+{
+    let later = later_count(outputs);
+    let typed = udt.len() != 0;
+    let present = molecule::fix_count(inputs) as usize;
+    let at = base_lists::put_outputs(
+        out,
+        at,
+        plan.capacity,
+        lock,
+        udt,
+        outputs,
+        later,
+        plan.change_capacity,
+        source,
+    );
+    let at = base_lists::put_outputs_data(out, at, typed, plan.token, datas, later, plan.change);
+    base_lists::put_witnesses(out, at, present, plan.taken)
+}
+
+// Puts the transaction of these lists, whose sizes are z, at the start of out.
+fn put_lists<'a>(
+    out: &mut [u8],
+    version: u32,
+    deps: &'a [u8],
+    udt_deps: &'a [u8],
+    lock_dep: &'a [u8],
+    extra_deps: &'a [u8],
+    headers: &[u8],
+    inputs: &[u8],
+    outputs: &[u8],
+    datas: &[u8],
+    lock: &[u8],
+    udt: &[u8],
+    source: &[u8],
+    cells: &[u8],
+    chosen: Chosen,
+    plan: Plan,
+    z: Sizes,
+) -> usize
+    requires { ⌜ Fitting z (listsOf (record { deps = now deps; headers = now headers; inputs = now inputs; outputs = now outputs; datas = now datas }) (record { lock = now lock; udt = now udt; source = now source; cells = now cells; udtDeps = now «udt_deps»; lockDep = now «lock_dep»; extraDeps = now «extra_deps» }) chosen plan) (now out) ⌝ }
+    ensures { λ r. ⌜ Put (now (out .entry)) 0 (bytesOf version (listsOf (record { deps = now (deps .entry); headers = now (headers .entry); inputs = now (inputs .entry); outputs = now (outputs .entry); datas = now (datas .entry) }) (record { lock = now (lock .entry); udt = now (udt .entry); source = now (source .entry); cells = now (cells .entry); udtDeps = now («udt_deps» .entry); lockDep = now («lock_dep» .entry); extraDeps = now («extra_deps» .entry) }) chosen plan)) (now (out .exit)) r ⌝ }
+{
+    let at = put_front(
+        out,
+        version,
+        deps,
+        udt_deps,
+        lock_dep,
+        extra_deps,
+        headers,
+        inputs,
+        cells,
+        chosen,
+        plan,
+        z,
+    );
+    put_back(out, at, inputs, outputs, datas, lock, udt, source, plan)
+}
+
+// Writes the transaction of these lists and figures to the start of out. Refused with 13, and out as it was, where it is over out or over 133,116 bytes.
+pub fn write_base<'a>(
+    version: u32,
+    deps: &'a [u8],
+    udt_deps: &'a [u8],
+    lock_dep: &'a [u8],
+    extra_deps: &'a [u8],
+    headers: &[u8],
+    inputs: &[u8],
+    outputs: &[u8],
+    datas: &[u8],
+    lock: &[u8],
+    udt: &[u8],
+    source: &[u8],
+    cells: &[u8],
+    chosen: Chosen,
+    plan: Plan,
+    out: &mut [u8],
+) -> Written
+    ensures { λ r. ⌜ (told r, now (out .exit)) ≡ written (fine (bytesOf version (listsOf (record { deps = now (deps .entry); headers = now (headers .entry); inputs = now (inputs .entry); outputs = now (outputs .entry); datas = now (datas .entry) }) (record { lock = now (lock .entry); udt = now (udt .entry); source = now (source .entry); cells = now (cells .entry); udtDeps = now («udt_deps» .entry); lockDep = now («lock_dep» .entry); extraDeps = now («extra_deps» .entry) }) chosen plan))) (now (out .entry)) ⌝ }
+{
+    let z = measure(
+        deps,
+        udt_deps,
+        lock_dep,
+        extra_deps,
+        headers,
+        inputs,
+        outputs,
+        datas,
+        lock,
+        udt,
+        source,
+        cells,
+        chosen,
+        plan,
+    );
+    let n = transaction_writer::tx_size(
+        z.deps,
+        z.headers,
+        z.inputs,
+        z.outputs,
+        z.datas,
+        z.witnesses,
+    );
+    if n > MAX_BYTES {
+        return Written::Refused(Refusal::BufferTooShort);
+    }
+    if n > out.len() {
+        return Written::Refused(Refusal::BufferTooShort);
+    }
+    let end = put_lists(
+        out,
+        version,
+        deps,
+        udt_deps,
+        lock_dep,
+        extra_deps,
+        headers,
+        inputs,
+        outputs,
+        datas,
+        lock,
+        udt,
+        source,
+        cells,
+        chosen,
+        plan,
+        z,
+    );
+    Written::Wrote(end)
+}
