@@ -9,7 +9,7 @@ ghost use Rattle.rules.specs.Told.{told, inForceOf};
 ghost use Rattle.rules.specs.Run.{handedBack, next, updateForPeer};
 
 // Whether the expected funding lock and type (empty for none) and our source lock are scripts; the refusal is 3.
-fn are_scripts(lock: &[u8], udt: &[u8], source: &[u8]) -> bool
+pub fn are_scripts(lock: &[u8], udt: &[u8], source: &[u8]) -> bool
     ensures { λ r. ⌜ check 3 r ≡ scripts (now (lock .entry)) (now (udt .entry)) (now (source .entry)) ⌝ }
 {
     if !transaction::is_script(lock) {

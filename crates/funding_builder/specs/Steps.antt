@@ -1,0 +1,42 @@
+-- What the functions inside promise one another; no public contract cites it.
+use mathlib.Core.Path.{_≡_}
+use Prim.Native.Nat.{_^_, _<_}
+use mathlib.Core.Bool.{true}
+use mathlib.Core.List.{List}
+use Prim.Native.Nat.{ℕ}
+use Rattle.units.specs.Units.{shannonCount, tokenCount}
+use Rattle.units.specs.declared.{Shannons.Shannons, Tokens.Tokens}
+use Rattle.molecule.specs.Molecule.{readable, option}
+use Rattle.transaction.specs.Ckb.{Script, CellDep, CellDeps, Transaction}
+use Rattle.rules.specs.Judge.{Figures}
+use Rattle.udt_cells.specs.Pick.{Pick}
+use Rattle.base_writer.specs.declared.Plan.{Plan}
+use Rattle.funding_builder.specs.Base.{Lent, changeCapacity}
+
+-- what the checks at entry have shown; with the funding cell's capacity, which is a number of 64 bits
+pub record Readable (l : Lent) : Type 0 where
+  pub ours : readable (option Transaction) (l .ours) ≡ true
+  pub udt : readable (option Script) (l .udt) ≡ true
+  pub source : readable Script (l .source) ≡ true
+  pub udtDeps : readable (option CellDeps) (l .udtDeps) ≡ true
+  pub lockDep : readable (option CellDep) (l .lockDep) ≡ true
+  pub extraDeps : readable CellDeps (l .extraDeps) ≡ true
+
+pub record Ready (l : Lent) (capacity : Shannons) : Type 0 where
+  pub lent : Readable l
+  pub low : shannonCount capacity < 2 ^ 64
+
+-- the figures that are written are those of the cell, the pick and the change
+pub record Planned (p : Plan) (capacity : Shannons) (token : Tokens) (taken : ℕ) (change : Tokens) (source udt : List ℕ) : Type 0 where
+  pub cell : p .capacity ≡ shannonCount capacity
+  pub tokens : p .token ≡ token
+  pub picked : p .taken ≡ taken
+  pub left : p .change ≡ change
+  pub back : p .«change_capacity» ≡ changeCapacity (tokenCount change) source udt
+
+-- a funding cell and a pick by their figures
+abbrev pub cellOf : Shannons → Tokens → Figures
+cellOf capacity token = record { capacity = shannonCount capacity; token = tokenCount token }
+
+abbrev pub pickOf : ℕ → Tokens → Pick
+pickOf taken change = record { taken = taken; change = tokenCount change }

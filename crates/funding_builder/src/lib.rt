@@ -1,0 +1,422 @@
+// The base transaction of our own side: the funding cell, the tokens that we bring, and what the present transaction has already.
+use base_writer::Plan;
+use cell_deps::Chosen;
+use error::Refusal;
+use funding_cell::FundingCell;
+use funding_cell::FundingRequest;
+use transaction::fields;
+use transaction_writer::Written;
+use udt_cells::Picked;
+use units::CheckedShannons;
+use units::Shannons;
+use units::Tokens;
+ghost use mathlib.Core.Path.{_≡_};
+ghost use mathlib.Core.Bool.{true};
+ghost use Prim.Native.Nat.{_^_, _<_};
+ghost use Rattle.arithmetic.specs.LittleEndian.{AllBytes};
+ghost use Rattle.units.specs.Units.{shannonCount, tokenCount};
+ghost use Rattle.molecule.specs.Molecule.{readable, option};
+ghost use Rattle.transaction.specs.Ckb.{Script, CellDep, CellDeps};
+ghost use Rattle.rules.specs.Outcome.{fine, check};
+ghost use Rattle.list_writer.specs.ListWriter.{ifPositive};
+ghost use Rattle.transaction.specs.Tx.{txAt, rawField};
+ghost use Rattle.cell_deps.specs.CellDeps.{Chooses};
+ghost use Rattle.base_writer.specs.Answer.{written, told};
+ghost use Rattle.base_writer.specs.Lists.{listsOf, bytesOf};
+ghost use Rattle.funding_builder.specs.Base.{changeCapacity, lists, supplied, packed, baseTx, withPick, withCell, withRequest, buildBase};
+ghost use Rattle.funding_builder.specs.Steps.{Readable, Ready, Planned, cellOf, pickOf};
+
+// How many cell deps 133,116 bytes have room for.
+const MOST_DEPS: usize = 3597;
+
+// Whether the bytes are a list of cell deps, or nothing.
+fn is_optional_cell_deps(s: &[u8]) -> bool
+    ensures { λ r. ⌜ r ≡ readable (option CellDeps) (now (s .entry)) ⌝ }
+{
+    if s.len() == 0 {
+        return true;
+    }
+    transaction::is_cell_deps(s)
+}
+
+// Whether the bytes are a cell dep, or nothing.
+fn is_optional_cell_dep(s: &[u8]) -> bool
+    ensures { λ r. ⌜ r ≡ readable (option CellDep) (now (s .entry)) ⌝ }
+{
+    if s.len() == 0 {
+        return true;
+    }
+    s.len() == 37
+}
+
+// Whether the lent lists are readable; the refusal is 3.
+fn are_lists(cells: &[u8], udt_deps: &[u8], lock_dep: &[u8], extra_deps: &[u8]) -> bool
+    ensures { λ r. ⌜ check 3 r ≡ lists (now (cells .entry)) (now («udt_deps» .entry)) (now («lock_dep» .entry)) (now («extra_deps» .entry)) ⌝ }
+{
+    if !transaction::is_token_cells(cells) {
+        return false;
+    }
+    if !is_optional_cell_deps(udt_deps) {
+        return false;
+    }
+    if !is_optional_cell_dep(lock_dep) {
+        return false;
+    }
+    transaction::is_cell_deps(extra_deps)
+}
+
+// Whether deps are supplied where tokens were picked.
+fn is_supplied(taken: usize, deps: &[u8]) -> bool
+    ensures { λ r. ⌜ r ≡ supplied taken (now (deps .entry)) ⌝ }
+{
+    if taken == 0 {
+        return true;
+    }
+    deps.len() != 0
+}
+
+// The deps where tokens were picked, and no bytes where none were.
+fn if_picked(taken: usize, deps: &[u8]) -> &[u8]
+    ensures { λ r. ⌜ now r ≡ ifPositive taken (now (deps .entry)) ⌝ }
+{
+    if taken == 0 {
+        return molecule::part(deps, 0, 0);
+    }
+    deps
+}
+
+// The capacity of the change output, 0 where no change is left.
+fn change_capacity(change: Tokens, source: &[u8], udt: &[u8]) -> u64
+    requires { ⌜ (readable Script (now source) ≡ true) × (readable (option Script) (now udt) ≡ true) ⌝ }
+    ensures { λ r. ⌜ r ≡ changeCapacity (tokenCount change) (now (source .entry)) (now (udt .entry)) ⌝ }
+{
+    if change.is_zero() {
+        return 0;
+    }
+    match udt_cells::change_capacity(source, udt) {
+        CheckedShannons::Fits(capacity) => low_half(capacity),
+        CheckedShannons::Overflow => 0,
+    }
+}
+
+// A figure of shannons below 2^64 as a number.
+fn low_half(x: Shannons) -> u64
+    requires { ⌜ shannonCount x < 2 ^ 64 ⌝ }
+    ensures { λ r. ⌜ r ≡ shannonCount x ⌝ }
+{
+    let count = x.0;
+    count.low
+}
+
+// Writes the base transaction of these deps and figures to the start of out.
+fn write_plan<'a>(
+    ours: &'a [u8],
+    lock: &[u8],
+    udt: &[u8],
+    source: &[u8],
+    cells: &[u8],
+    udt_deps: &'a [u8],
+    lock_dep: &'a [u8],
+    extra_deps: &'a [u8],
+    chosen: Chosen,
+    plan: Plan,
+    out: &mut [u8],
+) -> Written
+    ensures { λ r. ⌜ (told r, now (out .exit)) ≡ written (fine (bytesOf (txAt (now (ours .entry)) .version) (listsOf (record { deps = rawField (now (ours .entry)) 1; headers = rawField (now (ours .entry)) 2; inputs = rawField (now (ours .entry)) 3; outputs = rawField (now (ours .entry)) 4; datas = rawField (now (ours .entry)) 5 }) (record { lock = now (lock .entry); udt = now (udt .entry); source = now (source .entry); cells = now (cells .entry); udtDeps = now («udt_deps» .entry); lockDep = now («lock_dep» .entry); extraDeps = now («extra_deps» .entry) }) chosen plan))) (now (out .entry)) ⌝ }
+{
+    let deps = fields::cell_deps(ours);
+    let headers = fields::header_deps(ours);
+    let inputs = fields::inputs(ours);
+    let outputs = fields::outputs(ours);
+    let datas = fields::outputs_data(ours);
+    base_writer::write_base(
+        fields::version(ours),
+        deps,
+        udt_deps,
+        lock_dep,
+        extra_deps,
+        headers,
+        inputs,
+        outputs,
+        datas,
+        lock,
+        udt,
+        source,
+        cells,
+        chosen,
+        plan,
+        out,
+    )
+}
+
+// The same of the lent deps, of which the token's and the lock's count where tokens were picked.
+fn write_picked<'a>(
+    ours: &'a [u8],
+    lock: &[u8],
+    udt: &[u8],
+    source: &[u8],
+    cells: &[u8],
+    udt_deps: &'a [u8],
+    lock_dep: &'a [u8],
+    extra_deps: &'a [u8],
+    chosen: Chosen,
+    plan: Plan,
+    out: &mut [u8],
+) -> Written
+    ensures { λ r. ⌜ (told r, now (out .exit)) ≡ written (fine (bytesOf (txAt (now (ours .entry)) .version) (listsOf (record { deps = rawField (now (ours .entry)) 1; headers = rawField (now (ours .entry)) 2; inputs = rawField (now (ours .entry)) 3; outputs = rawField (now (ours .entry)) 4; datas = rawField (now (ours .entry)) 5 }) (record { lock = now (lock .entry); udt = now (udt .entry); source = now (source .entry); cells = now (cells .entry); udtDeps = ifPositive (plan .taken) (now («udt_deps» .entry)); lockDep = ifPositive (plan .taken) (now («lock_dep» .entry)); extraDeps = now («extra_deps» .entry) }) chosen plan))) (now (out .entry)) ⌝ }
+{
+    let udt_used = if_picked(plan.taken, udt_deps);
+    let lock_used = if_picked(plan.taken, lock_dep);
+    write_plan(
+        ours,
+        lock,
+        udt,
+        source,
+        cells,
+        udt_used,
+        lock_used,
+        extra_deps,
+        chosen,
+        plan,
+        out,
+    )
+}
+
+// The cell deps, each where it first stands. That our bytes are below 256 is told by the way.
+fn choose_deps<'a>(
+    ours: &'a [u8],
+    udt_deps: &'a [u8],
+    lock_dep: &'a [u8],
+    extra_deps: &'a [u8],
+    taken: usize,
+) -> Chosen
+    ensures { λ r. ⌜ Chooses (rawField (now (ours .entry)) 1) (ifPositive taken (now («udt_deps» .entry))) (ifPositive taken (now («lock_dep» .entry))) (now («extra_deps» .entry)) r ⌝ }
+    ensures { λ _. ⌜ AllBytes (now (ours .entry)) ⌝ }
+{
+    transaction_writer::are_bytes(ours);
+    let deps = fields::cell_deps(ours);
+    let udt_used = if_picked(taken, udt_deps);
+    let lock_used = if_picked(taken, lock_dep);
+    cell_deps::choose(deps, udt_used, lock_used, extra_deps)
+}
+
+// The figures that are written.
+fn make_plan(
+    capacity: Shannons,
+    token: Tokens,
+    taken: usize,
+    change: Tokens,
+    source: &[u8],
+    udt: &[u8],
+) -> Plan
+    requires { ⌜ (readable Script (now source) ≡ true) × (readable (option Script) (now udt) ≡ true) × (shannonCount capacity < 2 ^ 64) ⌝ }
+    ensures { λ r. ⌜ Planned r capacity token taken change (now (source .entry)) (now (udt .entry)) ⌝ }
+{
+    let capacity = low_half(capacity);
+    let change_capacity = change_capacity(change, source, udt);
+    Plan {
+        capacity,
+        token,
+        taken,
+        change,
+        change_capacity,
+    }
+}
+
+// Writes the base transaction of these figures to the start of out.
+fn assemble_base_tx<'a>(
+    ours: &'a [u8],
+    lock: &[u8],
+    udt: &[u8],
+    source: &[u8],
+    cells: &[u8],
+    udt_deps: &'a [u8],
+    lock_dep: &'a [u8],
+    extra_deps: &'a [u8],
+    capacity: Shannons,
+    token: Tokens,
+    taken: usize,
+    change: Tokens,
+    out: &mut [u8],
+) -> Written
+    requires { ⌜ Ready (record { ours = now ours; lock = now lock; udt = now udt; source = now source; cells = now cells; udtDeps = now «udt_deps»; lockDep = now «lock_dep»; extraDeps = now «extra_deps» }) capacity ⌝ }
+    ensures { λ r. ⌜ (told r, now (out .exit)) ≡ written (fine (packed (baseTx (record { ours = now (ours .entry); lock = now (lock .entry); udt = now (udt .entry); source = now (source .entry); cells = now (cells .entry); udtDeps = now («udt_deps» .entry); lockDep = now («lock_dep» .entry); extraDeps = now («extra_deps» .entry) }) (cellOf capacity token) (pickOf taken change)))) (now (out .entry)) ⌝ }
+{
+    let chosen = choose_deps(ours, udt_deps, lock_dep, extra_deps, taken);
+    if MOST_DEPS < chosen.count {
+        return Written::Refused(Refusal::BufferTooShort);
+    }
+    let plan = make_plan(capacity, token, taken, change, source, udt);
+    write_picked(
+        ours,
+        lock,
+        udt,
+        source,
+        cells,
+        udt_deps,
+        lock_dep,
+        extra_deps,
+        chosen,
+        plan,
+        out,
+    )
+}
+
+// The same, refused with 11 where tokens were picked and deps are missing.
+fn with_pick<'a>(
+    ours: &'a [u8],
+    lock: &[u8],
+    udt: &[u8],
+    source: &[u8],
+    cells: &[u8],
+    udt_deps: &'a [u8],
+    lock_dep: &'a [u8],
+    extra_deps: &'a [u8],
+    capacity: Shannons,
+    token: Tokens,
+    taken: usize,
+    change: Tokens,
+    out: &mut [u8],
+) -> Written
+    requires { ⌜ Ready (record { ours = now ours; lock = now lock; udt = now udt; source = now source; cells = now cells; udtDeps = now «udt_deps»; lockDep = now «lock_dep»; extraDeps = now «extra_deps» }) capacity ⌝ }
+    ensures { λ r. ⌜ (told r, now (out .exit)) ≡ written (withPick (record { ours = now (ours .entry); lock = now (lock .entry); udt = now (udt .entry); source = now (source .entry); cells = now (cells .entry); udtDeps = now («udt_deps» .entry); lockDep = now («lock_dep» .entry); extraDeps = now («extra_deps» .entry) }) (cellOf capacity token) (pickOf taken change)) (now (out .entry)) ⌝ }
+{
+    if !is_supplied(taken, udt_deps) {
+        return Written::Refused(Refusal::MissingCellDep);
+    }
+    if !is_supplied(taken, lock_dep) {
+        return Written::Refused(Refusal::MissingCellDep);
+    }
+    assemble_base_tx(
+        ours,
+        lock,
+        udt,
+        source,
+        cells,
+        udt_deps,
+        lock_dep,
+        extra_deps,
+        capacity,
+        token,
+        taken,
+        change,
+        out,
+    )
+}
+
+// Picks token cells for the wanted amount, and writes the base transaction.
+fn with_cell<'a>(
+    ours: &'a [u8],
+    lock: &[u8],
+    udt: &[u8],
+    source: &[u8],
+    cells: &[u8],
+    udt_deps: &'a [u8],
+    lock_dep: &'a [u8],
+    extra_deps: &'a [u8],
+    capacity: Shannons,
+    token: Tokens,
+    wanted: Tokens,
+    out: &mut [u8],
+) -> Written
+    requires { ⌜ Ready (record { ours = now ours; lock = now lock; udt = now udt; source = now source; cells = now cells; udtDeps = now «udt_deps»; lockDep = now «lock_dep»; extraDeps = now «extra_deps» }) capacity ⌝ }
+    ensures { λ r. ⌜ (told r, now (out .exit)) ≡ written (withCell (record { ours = now (ours .entry); lock = now (lock .entry); udt = now (udt .entry); source = now (source .entry); cells = now (cells .entry); udtDeps = now («udt_deps» .entry); lockDep = now («lock_dep» .entry); extraDeps = now («extra_deps» .entry) }) (cellOf capacity token) (tokenCount wanted)) (now (out .entry)) ⌝ }
+{
+    match udt_cells::pick_typed(cells, udt, wanted) {
+        Picked::Cells { taken, change } => with_pick(
+            ours,
+            lock,
+            udt,
+            source,
+            cells,
+            udt_deps,
+            lock_dep,
+            extra_deps,
+            capacity,
+            token,
+            taken,
+            change,
+            out,
+        ),
+        Picked::Refused(e) => Written::Refused(e),
+    }
+}
+
+// Makes the funding cell of the request, and goes on from it.
+fn with_request<'a>(
+    ours: &'a [u8],
+    lock: &[u8],
+    udt: &[u8],
+    source: &[u8],
+    cells: &[u8],
+    udt_deps: &'a [u8],
+    lock_dep: &'a [u8],
+    extra_deps: &'a [u8],
+    request: FundingRequest,
+    out: &mut [u8],
+) -> Written
+    requires { ⌜ Readable (record { ours = now ours; lock = now lock; udt = now udt; source = now source; cells = now cells; udtDeps = now «udt_deps»; lockDep = now «lock_dep»; extraDeps = now «extra_deps» }) ⌝ }
+    ensures { λ r. ⌜ (told r, now (out .exit)) ≡ written (withRequest (record { ours = now (ours .entry); lock = now (lock .entry); udt = now (udt .entry); source = now (source .entry); cells = now (cells .entry); udtDeps = now («udt_deps» .entry); lockDep = now («lock_dep» .entry); extraDeps = now («extra_deps» .entry) }) request) (now (out .entry)) ⌝ }
+{
+    let funded = fields::output_count(ours) != 0;
+    let typed = udt.len() != 0;
+    let local_amount = request.local_amount;
+    let wanted = Tokens(local_amount);
+    match funding_cell::funding_cell(funded, typed, request) {
+        FundingCell::Cell { capacity, token } => with_cell(
+            ours,
+            lock,
+            udt,
+            source,
+            cells,
+            udt_deps,
+            lock_dep,
+            extra_deps,
+            capacity,
+            token,
+            wanted,
+            out,
+        ),
+        FundingCell::Refused(e) => Written::Refused(e),
+    }
+}
+
+// Writes the base transaction of a request to the start of out: our present transaction (empty for none) with the funding cell under the funding lock, of
+// the type (empty for none), the token cells that are picked for the local amount, and the change under our source lock. Deps of the token and of our lock
+// are needed where cells are picked (empty bytes: not supplied). Refused, and out as it was: 1, 3, 7, 12, 10, 9, 11, 13.
+pub fn build_base<'a>(
+    ours: &'a [u8],
+    lock: &[u8],
+    udt: &[u8],
+    source: &[u8],
+    cells: &[u8],
+    udt_deps: &'a [u8],
+    lock_dep: &'a [u8],
+    extra_deps: &'a [u8],
+    request: FundingRequest,
+    out: &mut [u8],
+) -> Written
+    ensures { λ r. ⌜ (told r, now (out .exit)) ≡ written (buildBase (record { ours = now (ours .entry); lock = now (lock .entry); udt = now (udt .entry); source = now (source .entry); cells = now (cells .entry); udtDeps = now («udt_deps» .entry); lockDep = now («lock_dep» .entry); extraDeps = now («extra_deps» .entry) }) request) (now (out .entry)) ⌝ }
+{
+    if !transaction::is_optional_transaction(ours) {
+        return Written::Refused(Refusal::OurTransactionUnreadable);
+    }
+    if !funding_tx::are_scripts(lock, udt, source) {
+        return Written::Refused(Refusal::LentBytesUnreadable);
+    }
+    if !are_lists(cells, udt_deps, lock_dep, extra_deps) {
+        return Written::Refused(Refusal::LentBytesUnreadable);
+    }
+    with_request(
+        ours,
+        lock,
+        udt,
+        source,
+        cells,
+        udt_deps,
+        lock_dep,
+        extra_deps,
+        request,
+        out,
+    )
+}
