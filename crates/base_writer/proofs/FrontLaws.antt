@@ -4,14 +4,14 @@ use Prim.Native.Nat.{ℕ, _+_, _-_, _≤_, _<_, min}
 use mathlib.Core.Bool.{Bool, true, false, not}
 use mathlib.Core.List.{List, [], _∷_, _++_}
 use native.Mathlib.Omega.{arith}
-use borrow.Author.Tests.{le-leb}
 use lib.Dec.{eqb}
 use lib.ListN.{length, length-append}
 use Rattle.molecule.specs.Write.{putAt, putEnd, Put}
-use Rattle.molecule.proofs.WriteLaws.{did, then, and-put, length-kept}
+use Rattle.molecule.proofs.WriteLaws.{and-put}
 use Rattle.transaction_writer.specs.Written.{txHead, putHead, headEnd}
 use Rattle.transaction_writer.proofs.PutLaws.{head-did, head-length}
 use Rattle.list_writer.specs.ListWriter.{putList, putListEnd}
+use Rattle.list_writer.proofs.AnswerLaws.{did-list, and-list}
 use Rattle.units.specs.Units.{tokenCount}
 use Rattle.molecule.specs.Items.{join}
 use Rattle.molecule.specs.Layout.{itemCount, fixCount}
@@ -20,23 +20,6 @@ use Rattle.rules.proofs.CellLaws.{empty-is}
 use Rattle.base_lists.specs.BaseLists.{outputList, dataList, witnessList}
 use Rattle.base_writer.specs.declared.{Plan.Plan, Sizes.Sizes}
 use Rattle.base_writer.specs.Lists.{total, FrontFits, BackFits, front, back}
-
--- what a writer of a list did, where there was room
-module _ (xs out : List ℕ) (at : ℕ) {after : List ℕ} {next : ℕ} (e : after ≡ putList out at xs) (f : next ≡ putListEnd out at xs) (low : length xs ≤ 133116) where
-  is-put : after ≡ putAt out at xs
-  unfolding putList
-  is-put = e ∙ rw (le-leb (length xs) 133116 low)
-
-  is-end : next ≡ putEnd out at xs
-  unfolding putListEnd
-  is-end = f ∙ rw (le-leb (length xs) 133116 low)
-
-  pub list-did : at + length xs ≤ length out → Put out at xs after next
-  list-did h = did xs is-put is-end h
-
-and-list : (ys : List ℕ) {out o₁ o₂ : List ℕ} {at n₁ n₂ : ℕ} {xs : List ℕ} → Put out at xs o₁ n₁ → o₂ ≡ putList o₁ n₁ ys → n₂ ≡ putListEnd o₁ n₁ ys
-    → length ys ≤ 133116 → at + length xs + length ys ≤ length out → Put out at (xs ++ ys) o₂ n₂
-and-list ys {o₁ = o₁} {n₁ = n₁} p e f low h = and-put ys p (is-put ys o₁ n₁ e f low) (is-end ys o₁ n₁ e f low) h
 
 module _ (version : ℕ) (z : Sizes) (a b c out : List ℕ) (h : FrontFits z a b c out) where
   abbrev head : List ℕ
@@ -68,7 +51,7 @@ module _ (d e f out : List ℕ) (at : ℕ) (h : BackFits at d e f out) {o₁ o�
   back-put =
       let low = h .0 in
       let room = h .1 in
-      let p₁ = list-did d out at e₁ f₁ (omega arith) (omega arith) in
+      let p₁ = did-list d e₁ f₁ (omega arith) (omega arith) in
       let p₂ = and-list e p₁ e₂ f₂ (omega arith) (omega arith) in
       and-list f p₂ e₃ f₃ (omega arith) (simp length-append (omega arith))
 

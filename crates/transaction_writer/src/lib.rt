@@ -65,19 +65,6 @@ fn put_five(out: &mut [u8], at: usize, a: &[u8], b: &[u8], c: &[u8], d: &[u8], e
     write::put(out, at, e)
 }
 
-// m + n, and MAX_BYTES + 1, which is too long, for all that is longer: so no sum of lengths overflows.
-pub fn capped(m: usize, n: usize) -> usize
-    ensures { λ r. ⌜ r ≡ min (m + n) 133117 ⌝ }
-{
-    if MAX_BYTES < m {
-        return MAX_BYTES + 1;
-    }
-    if MAX_BYTES - m < n {
-        return MAX_BYTES + 1;
-    }
-    m + n
-}
-
 // How long a transaction is, from the lengths of its lists; MAX_BYTES + 1 for all that is longer.
 pub fn tx_size(
     deps: usize,
@@ -89,12 +76,12 @@ pub fn tx_size(
 ) -> usize
     ensures { λ r. ⌜ r ≡ min (44 + deps + headers + inputs + outputs + datas + witnesses) 133117 ⌝ }
 {
-    let n = capped(44, deps);
-    let n = capped(n, headers);
-    let n = capped(n, inputs);
-    let n = capped(n, outputs);
-    let n = capped(n, datas);
-    capped(n, witnesses)
+    let n = list_writer::capped(44, deps);
+    let n = list_writer::capped(n, headers);
+    let n = list_writer::capped(n, inputs);
+    let n = list_writer::capped(n, outputs);
+    let n = list_writer::capped(n, datas);
+    list_writer::capped(n, witnesses)
 }
 
 // Puts both tables' headers and the version.

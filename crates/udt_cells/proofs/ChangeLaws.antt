@@ -6,7 +6,7 @@ use mathlib.Core.List.{List, [], _∷_, _++_}
 use native.Mathlib.Nat.{le-trans}
 use native.Mathlib.Omega.{arith}
 use borrow.Author.Tests.{le-leb, lt-leb, leb-true, leb-false, lt-ltb, eq-eqb, ne-eqb, eqb-true, eqb-false, not-true, not-false}
-use lib.ListN.{length, take, drop, getD, length-take, length-drop, List·getD-eq-default}
+use lib.ListN.{length, take, drop, length-take, length-drop}
 use lib.Dec.{T, leb, eqb}
 use Rattle.error.specs.Refusal.{number, values}
 use Rattle.error.specs.declared.Refusal.{Refusal}
@@ -37,9 +37,6 @@ use Rattle.udt_cells.proofs.CellOutputLaws.{output-length}
 pub capacity-is : (s t : List ℕ) {x y : List ℕ} {r : CheckedShannons} → x ≡ argsOf s → y ≡ argsOf t → r ≡ changeCapacity (length x) (length y)
     → r ≡ changeCapacity (length (argsOf s)) (length (argsOf t))
 capacity-is s t ex ey e = e ∙ ap₂ (λ (a b : List ℕ). changeCapacity (length a) (length b)) ex ey
-
-pub no-bytes : (s : List ℕ) → length s ≡ 0 → AllBytes s
-no-bytes s h i = let e : getD s i 0 ≡ 0 = List·getD-eq-default s 0 (omega arith) in omega arith
 
 -- the args of a script are a part of it, and a readable script says its length in four bytes
 part-within : (s : List ℕ) (from to : ℕ) → length (part s from to) ≤ length s

@@ -12,7 +12,6 @@ ghost use mathlib.Core.Path.{_≡_};
 ghost use mathlib.Core.Bool.{true};
 ghost use Prim.Native.Nat.{_^_, _<_, min};
 ghost use lib.ListN.{length};
-ghost use Rattle.arithmetic.specs.LittleEndian.{AllBytes};
 ghost use Rattle.units.specs.Units.{tokenCount};
 ghost use Rattle.units.specs.Fee.{changeCapacity};
 ghost use Rattle.molecule.specs.Molecule.{readable, option};
@@ -107,23 +106,13 @@ pub fn pick_typed(cells: &[u8], udt: &[u8], local_amount: Tokens) -> Picked
 
 // ---- the change
 
-// Shows that each element of a slice of bytes is below 256, which a read of any one tells.
-fn are_bytes(s: &[u8]) -> bool
-    ensures { λ _. ⌜ AllBytes (now (s .entry)) ⌝ }
-{
-    if s.len() == 0 {
-        return true;
-    }
-    s[0] == 0
-}
-
 // The capacity of a change output under our lock, of the type. It fits 64 bits for scripts that are readable: they say their length in four bytes.
 pub fn change_capacity(source: &[u8], udt: &[u8]) -> CheckedShannons
     ensures { λ r. ⌜ r ≡ changeCapacity (length (argsOf (now (source .entry)))) (length (argsOf (now (udt .entry)))) ⌝ }
     ensures { λ _. ⌜ (readable Script (now (source .entry)) ≡ true → readable (option Script) (now (udt .entry)) ≡ true → capacityFor (now (source .entry)) (now (udt .entry)) < 2 ^ 64) ⌝ }
 {
-    are_bytes(source);
-    are_bytes(udt);
+    transaction_writer::are_bytes(source);
+    transaction_writer::are_bytes(udt);
     let lock_args = fields::args(source);
     let type_args = fields::args(udt);
     units::fee::change_capacity(lock_args.len() as u64, type_args.len() as u64)
