@@ -1,21 +1,24 @@
 -- What is read is what is written: a readable list is the list of its out points, and the list of out points is read as these.
-use mathlib.Core.Path.{_≡_, refl, sym, ap, ap₂, _∙_}
+use mathlib.Core.Path.{_≡_, refl, sym, ap, ap₂, _∙_, subst}
 use Prim.Native.Nat.{ℕ, zero, suc, _+_, _-_, _*_, _^_, _≤_, _<_}
 use mathlib.Core.List.{List, [], _∷_, _++_, append-assoc, append-nil}
-use mathlib.Core.Bool.{true}
+use mathlib.Core.Bool.{Bool, true, false, cond}
+use borrow.Author.Tests.{leb-true}
+use lib.Dec.{leb, ltb}
 use native.Mathlib.Nat.{mul-suc, mul-zero}
 use native.Mathlib.Omega.{arith}
 use lib.ListN.{length, take, drop, getD, length-append, length-drop}
 use lib.Seq.{take-add, drop-drop, length-take-le, take-length, take-at, drop-append-add, getD-take}
 use Rattle.arithmetic.specs.LittleEndian.{le, toLe, AllBytes, numAt, u32At, u64At}
-use Rattle.arithmetic.proofs.LittleEndianLaws.{num-some, toLe-le, le-toLe, length-toLe}
-use Rattle.molecule.specs.Layout.{span, word, fixCount, fixItem}
+use Rattle.arithmetic.proofs.LittleEndianLaws.{num-some, toLe-le, le-toLe, length-toLe, le-lt, bytes-toLe}
+use Rattle.molecule.specs.Layout.{part, span, word, fixCount, fixItem}
 use Rattle.molecule.specs.Molecule.{readable}
 use Rattle.lists.proofs.RunLaws.{item-run, next-run}
 use Rattle.molecule.specs.Partial.{All}
 use Rattle.transaction.specs.Ckb.{OutPoints as OutPointsForm}
 use Rattle.out_points.specs.declared.{Byte32.Byte32, OutPoint.OutPoint}
-use Rattle.out_points.specs.OutPoints.{byte32At, outPointAt, pointOf, points, hashBytes, pointBytes, bytesOf, pointList}
+use Rattle.out_points.specs.OutPoints.{byte32At, outPointAt, pointOf, points, hashBytes, pointBytes, bytesOf, pointList, Fit}
+use Rattle.out_points.specs.Tables.{written}
 use Rattle.out_points.proofs.PointLaws.{length-point}
 use Rattle.out_points.proofs.ListLaws.{length-points, readable-length}
 
@@ -78,13 +81,6 @@ list-again s b h =
 
 -- ---- an out point whose numbers fit, written and read
 
-pub record Fit (p : OutPoint) : Type 0 where
-  pub a-fits : p .hash .a < 2 ^ 64
-  pub b-fits : p .hash .b < 2 ^ 64
-  pub c-fits : p .hash .c < 2 ^ 64
-  pub d-fits : p .hash .d < 2 ^ 64
-  pub index-fits : p .index < 2 ^ 32
-
 behind : (xs zs : List ℕ) (at : ℕ) → length xs ≡ at → drop at (xs ++ zs) ≡ zs
 behind [] zs at e = rw (← e)
 behind (x ∷ xs) zs at e = rw (← e) (behind xs zs (length xs) refl)
@@ -117,18 +113,67 @@ point-back p ys f =
 
 -- ---- and a list of them
 
-points-back : (s : List ℕ) (i : ℕ) (l : List OutPoint) → i + length l ≤ fixCount s → drop (4 + 36 * i) s ≡ bytesOf l → All Fit l → span (pointOf s) i (length l) ≡ l
+points-back : (s z : List ℕ) (i : ℕ) (l : List OutPoint) → i + length l ≤ fixCount s → drop (4 + 36 * i) s ≡ bytesOf l ++ z → All Fit l → span (pointOf s) i (length l) ≡ l
 unfolding span pointOf bytesOf
-points-back s i [] n e f = refl
-points-back s i (p ∷ l) n e f =
-    let item : fixItem s 36 i ≡ pointBytes p = item-run s 36 i (omega arith) ∙ ap (take 36) e ∙ take-at (pointBytes p) (bytesOf l) 36 (length-point p) in
+points-back s z i [] n e f = refl
+points-back s z i (p ∷ l) n e f =
+    let g : drop (4 + 36 * i) s ≡ pointBytes p ++ (bytesOf l ++ z) = e ∙ append-assoc (pointBytes p) (bytesOf l) z in
+    let item : fixItem s 36 i ≡ pointBytes p = item-run s 36 i (omega arith) ∙ ap (take 36) g ∙ take-at (pointBytes p) (bytesOf l ++ z) 36 (length-point p) in
     let point : outPointAt (fixItem s 36 i) 0 ≡ p = ap (λ (x : List ℕ). outPointAt x 0) (item ∙ sym (append-nil (pointBytes p))) ∙ point-back p [] (f .0) in
-    let next : drop (4 + 36 * suc i) s ≡ bytesOf l = sym (next-run s 36 i) ∙ ap (drop 36) e ∙ behind (pointBytes p) (bytesOf l) 36 (length-point p) in
-    ap₂ (λ (x : OutPoint) (y : List OutPoint). x ∷ y) point (points-back s (suc i) l (omega arith) next (f .1))
+    let next : drop (4 + 36 * suc i) s ≡ bytesOf l ++ z = sym (next-run s 36 i) ∙ ap (drop 36) g ∙ behind (pointBytes p) (bytesOf l ++ z) 36 (length-point p) in
+    ap₂ (λ (x : OutPoint) (y : List OutPoint). x ∷ y) point (points-back s z (suc i) l (omega arith) next (f .1))
+
+-- whatever bytes follow
+list-before : (l : List OutPoint) (z : List ℕ) → length l < 2 ^ 32 → All Fit l → points (pointList l ++ z) ≡ l
+unfolding pointList word
+list-before l z h f =
+    let s : List ℕ = toLe 4 (length l) ++ bytesOf l ++ z in
+    let g : s ≡ toLe 4 (length l) ++ (bytesOf l ++ z) = append-assoc (toLe 4 (length l)) (bytesOf l) z in
+    let n : fixCount s ≡ length l = ap fixCount g ∙ word-back 4 (length l) [] (bytesOf l ++ z) 0 refl h in
+    ap (span (pointOf s) 0) n
+    ∙ points-back s z 0 l (omega (arith, n)) (ap (drop 4) g ∙ behind (toLe 4 (length l)) (bytesOf l ++ z) 4 (length-toLe 4 (length l))) f
 
 pub list-back : (l : List OutPoint) → length l < 2 ^ 32 → All Fit l → points (pointList l) ≡ l
-unfolding pointList word
-list-back l h f =
-    let n : fixCount (toLe 4 (length l) ++ bytesOf l) ≡ length l = word-back 4 (length l) [] (bytesOf l) 0 refl h in
-    ap (span (pointOf (toLe 4 (length l) ++ bytesOf l)) 0) n
-    ∙ points-back (toLe 4 (length l) ++ bytesOf l) 0 l (omega (arith, n)) (behind (toLe 4 (length l)) (bytesOf l) 4 (length-toLe 4 (length l))) f
+list-back l h f = ap points (sym (append-nil (pointList l))) ∙ list-before l [] h f
+
+-- a list that was written into a buffer
+pub written-back : (l : List OutPoint) (out : List ℕ) → length l < 2 ^ 32 → All Fit l → points (written l out) ≡ l
+unfolding written
+written-back l out h f = list-before l (drop (length (pointList l)) out) h f
+
+-- ---- what is read from bytes fits
+
+num-fits : (k : ℕ) (s : List ℕ) (at : ℕ) → AllBytes s → numAt k s at < 256 ^ k
+unfolding numAt
+num-fits k s at b = by (leb (at + k) (length s)) refl
+  where
+    by : (t : Bool) → leb (at + k) (length s) ≡ t → cond t (le (take k (drop at s))) 0 < 256 ^ k
+    by false e = let h : le (toLe k 0) < 256 ^ k = subst (λ (n : ℕ). le (toLe k 0) < 256 ^ n) (length-toLe k 0) (le-lt (toLe k 0) (bytes-toLe k 0)) in omega arith
+    by true e =
+        let h : at + k ≤ length s = leb-true _ _ e in
+        let l : length (take k (drop at s)) ≡ k = length-take-le k (drop at s) (rw (length-drop at s) (omega arith)) in
+        subst (λ (n : ℕ). le (take k (drop at s)) < 256 ^ n) l (le-lt (take k (drop at s)) (bytes-take k (drop at s) (bytes-drop at s b)))
+
+point-fits : (s : List ℕ) → AllBytes s → Fit (outPointAt s 0)
+unfolding outPointAt byte32At
+point-fits s b = record { a-fits = num-fits 8 s 0 b; b-fits = num-fits 8 s 8 b; c-fits = num-fits 8 s 16 b; d-fits = num-fits 8 s 24 b; index-fits = num-fits 4 s 32 b }
+
+item-bytes : (s : List ℕ) (i : ℕ) → AllBytes s → AllBytes (fixItem s 36 i)
+unfolding fixItem part
+item-bytes s i b = by (ltb i (fixCount s))
+  where
+    by : (t : Bool) → AllBytes (cond t (take (4 + 36 * i + 36 - (4 + 36 * i)) (drop (4 + 36 * i) s)) [])
+    by true = bytes-take (4 + 36 * i + 36 - (4 + 36 * i)) (drop (4 + 36 * i) s) (bytes-drop (4 + 36 * i) s b)
+    by false = λ j. omega arith
+
+span-fits : (s : List ℕ) (i k : ℕ) → AllBytes s → All Fit (span (pointOf s) i k)
+unfolding span pointOf
+span-fits s i zero b = tt
+span-fits s i (suc k) b = (point-fits (fixItem s 36 i) (item-bytes s i b), span-fits s (suc i) k b)
+
+pub points-fit : (s : List ℕ) → AllBytes s → All Fit (points s)
+points-fit s b = span-fits s 0 (fixCount s) b
+
+pub count-fits : (s : List ℕ) → AllBytes s → fixCount s < 2 ^ 32
+unfolding word
+count-fits s b = num-fits 4 s 0 b

@@ -1,6 +1,6 @@
 -- When two out points are the same: one law for each way out of the tests, and that the tests say equality.
 use mathlib.Core.Path.{_≡_, refl, sym, ap, _∙_, subst}
-use Prim.Native.Nat.{ℕ, zero, suc, _+_, _-_, _≤_, _<_}
+use Prim.Native.Nat.{ℕ, zero, suc, _+_, _-_, _≤_, _<_, min}
 use mathlib.Core.List.{List, [], _∷_}
 use mathlib.Core.Bool.{Bool, true, false, not, _&&_, cond}
 use native.Mathlib.Omega.{arith}
@@ -100,3 +100,11 @@ module _ {p : OutPoint} {f : ℕ → OutPoint} {n i : ℕ} {R : Bool} (h : Seek 
 
 pub seek-all : (p : OutPoint) (s : List ℕ) {n : ℕ} {r : Bool} → n ≡ fixCount s → r ≡ has p (span (pointOf s) 0 n) → r ≡ has p (points s)
 seek-all p s e h = h ∙ ap (λ (n : ℕ). has p (span (pointOf s) 0 n)) e
+
+-- the first n of them, and all where they are fewer
+module _ (p : OutPoint) (s : List ℕ) {n count : ℕ} {r : Bool} (e : count ≡ fixCount s) where
+  pub before-some : n < count → r ≡ has p (span (pointOf s) 0 n) → r ≡ has p (span (pointOf s) 0 (min n (fixCount s)))
+  before-some l h = let m : n ≡ min n (fixCount s) = omega arith in h ∙ ap (λ (k : ℕ). has p (span (pointOf s) 0 k)) m
+
+  pub before-all : count ≤ n → r ≡ has p (span (pointOf s) 0 count) → r ≡ has p (span (pointOf s) 0 (min n (fixCount s)))
+  before-all l h = let m : count ≡ min n (fixCount s) = omega arith in h ∙ ap (λ (k : ℕ). has p (span (pointOf s) 0 k)) m

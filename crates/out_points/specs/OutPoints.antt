@@ -1,6 +1,6 @@
 -- Out points and lists of them, in bytes (01-scope.md, "The bytes underneath": an out point is a hash of 32 bytes and an index of 4; a list of
 -- sized items is its count, then the items).
-use Prim.Native.Nat.{ℕ, _+_}
+use Prim.Native.Nat.{ℕ, _+_, _^_, _<_}
 use mathlib.Core.List.{List, [], _∷_, _++_}
 use mathlib.Core.Bool.{Bool, true, false, _&&_, cond}
 use lib.Dec.{eqb}
@@ -8,6 +8,14 @@ use lib.ListN.{length}
 use Rattle.arithmetic.specs.LittleEndian.{toLe, u32At, u64At}
 use Rattle.molecule.specs.Layout.{span, fixCount, fixItem}
 use Rattle.out_points.specs.declared.{Byte32.Byte32, OutPoint.OutPoint}
+
+-- its numbers fit their types, as in every value that code has
+pub record Fit (p : OutPoint) : Type 0 where
+  pub a-fits : p .hash .a < 2 ^ 64
+  pub b-fits : p .hash .b < 2 ^ 64
+  pub c-fits : p .hash .c < 2 ^ 64
+  pub d-fits : p .hash .d < 2 ^ 64
+  pub index-fits : p .index < 2 ^ 32
 
 -- ---- when two are the same
 

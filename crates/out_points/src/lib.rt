@@ -3,11 +3,11 @@
 use arithmetic::little_endian;
 use molecule::write;
 ghost use mathlib.Core.Path.{_≡_};
-ghost use Prim.Native.Nat.{_+_, _≤_};
+ghost use Prim.Native.Nat.{_+_, _≤_, min};
 ghost use mathlib.Core.List.{_++_};
 ghost use lib.ListN.{length};
 ghost use Rattle.arithmetic.specs.LittleEndian.{toLe};
-ghost use Rattle.molecule.specs.Layout.{span};
+ghost use Rattle.molecule.specs.Layout.{span, fixCount};
 ghost use Rattle.molecule.specs.Write.{putAt, putEnd, Put};
 ghost use Rattle.out_points.specs.OutPoints.{eqHash, eqPoint, byte32At, outPointAt, pointOf, points, has, hashBytes, pointBytes};
 
@@ -94,8 +94,8 @@ pub fn point_of(s: &[u8], i: usize) -> OutPoint
     out_point_at(x, 0)
 }
 
-// Whether p is among the first n items of the lent list.
-pub fn has_before(s: &[u8], n: usize, p: OutPoint) -> bool
+// Whether p is among the first n items, read as zeros where the list has none.
+fn has_among(s: &[u8], n: usize, p: OutPoint) -> bool
     ensures { λ r. ⌜ r ≡ has p (span (pointOf (now (s .entry))) 0 n) ⌝ }
 {
     let mut i = 0;
@@ -109,12 +109,23 @@ pub fn has_before(s: &[u8], n: usize, p: OutPoint) -> bool
     false
 }
 
+// Whether p is among the first n items of the lent list, or among all where it has fewer.
+pub fn has_before(s: &[u8], n: usize, p: OutPoint) -> bool
+    ensures { λ r. ⌜ r ≡ has p (span (pointOf (now (s .entry))) 0 (min n (fixCount (now (s .entry))))) ⌝ }
+{
+    let count = molecule::fix_count(s) as usize;
+    if n < count {
+        return has_among(s, n, p);
+    }
+    has_among(s, count, p)
+}
+
 // Whether the lent list has p.
 pub fn has_point(s: &[u8], p: OutPoint) -> bool
     ensures { λ r. ⌜ r ≡ has p (points (now (s .entry))) ⌝ }
 {
     let n = molecule::fix_count(s) as usize;
-    has_before(s, n, p)
+    has_among(s, n, p)
 }
 
 // Puts two words of a hash.

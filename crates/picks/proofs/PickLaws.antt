@@ -1,6 +1,6 @@
 -- Picks: the code tests each by its index, the definitions by what came before.
 use mathlib.Core.Path.{_≡_, sym, ap, _∙_}
-use Prim.Native.Nat.{ℕ, suc, _+_, _-_, _*_, _≤_, _<_}
+use Prim.Native.Nat.{ℕ, suc, _+_, _-_, _*_, _≤_, _<_, min}
 use native.Mathlib.Nat.{zero-add}
 use native.Mathlib.Omega.{arith}
 use borrow.Author.Tests.{not-true, not-false}
@@ -33,9 +33,12 @@ module _ (f : OutPoint → Bool) (g : ℕ → OutPoint) (i : ℕ) {p : OutPoint}
   unfolding isFirst
   first-no t = rw (← ep, ← ea, not-true a t)
 
-  pub first-yes : {b : Bool} → not a ≡ false → b ≡ has p (span g 0 i) → not b ≡ isFirst f g i
+  pub first-yes : {b : Bool} {m : ℕ} → i < m → not a ≡ false → b ≡ has p (span g 0 (min i m)) → not b ≡ isFirst f g i
   unfolding isFirst
-  first-yes t e = rw (← ep, ← ea, not-false a t, e)
+  first-yes {b} {m} l t e = let k : min i m ≡ i = omega arith in rw (← ep, ← ea, not-false a t, e, k)
+
+pub pick-below : {n m i : ℕ} → n ≡ m → i < n → i < m
+pick-below e l = omega arith
 
 -- ---- what `select` picks out
 

@@ -9,7 +9,7 @@ use out_points::OutPoint;
 ghost use mathlib.Core.Path.{_≡_};
 ghost use mathlib.Core.Bool.{true, false};
 ghost use mathlib.Core.List.{[]};
-ghost use Prim.Native.Nat.{_+_, _*_, _≤_};
+ghost use Prim.Native.Nat.{_+_, _*_, _≤_, _<_};
 ghost use lib.ListN.{length, drop};
 ghost use Rattle.molecule.specs.Layout.{fixCount};
 ghost use Rattle.molecule.specs.Write.{Put};
@@ -34,6 +34,7 @@ fn passes(h: Held, spent: &[u8], want: bool, p: OutPoint) -> bool
 
 // Whether pick i passes, and no pick before it is the same.
 fn first(h: Held, picked: &[u8], spent: &[u8], want: bool, i: usize) -> bool
+    requires { ⌜ i < fixCount (now picked) ⌝ }
     ensures { λ r. ⌜ r ≡ isFirst (λ p. asked want (isBusy (recordsOf h) (points (now (spent .entry))) p)) (pointOf (now (picked .entry))) i ⌝ }
 {
     let p = out_points::point_of(picked, i);

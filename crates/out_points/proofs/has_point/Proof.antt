@@ -8,5 +8,5 @@ has-point-spec =
     (tie.spec
     (λ c κs. search ways)  -- fix-count-requires
     (λ c. search ways)  -- cast-n
-    (λ c κs. search ways)  -- has-before-requires
+    (λ c κs. search ways)  -- has-among-requires
     (λ c. search ways))  -- returns
