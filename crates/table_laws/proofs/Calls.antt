@@ -14,8 +14,22 @@ use Rattle.out_points.specs.declared.OutPoint.{OutPoint}
 use Rattle.out_points.specs.OutPoints.{points}
 use Rattle.out_points.specs.Tables.{keep, Outcome, done, refused, told, hasRoom, written}
 use Rattle.hold_records.specs.declared.{Owner.Owner, Hold.Hold, Held.Held, Holds.Holds, Taker.Taker}
-use Rattle.hold_records.specs.Holds.{recordsOf, heldBy, cellsOf, atMost256, isNotOf, holdFunding, isUnnamed, releaseForWatchtower, renewAll, holdForWatchtower, lockHeld, isBusy, others, ownerFor, takeCells}
-use Rattle.table_laws.specs.Holds.{unended, given}
+use Rattle.hold_records.specs.Holds.{recordsOf, heldBy, cellsOf, atMost256, isNotOf, holdFunding, isUnnamed, releaseForWatchtower, renewAll, holdForWatchtower, lockHeld, isLive, isBusy, firsts, others, ownerFor, takeCells}
+use Rattle.table_laws.specs.Holds.{Took, Locked}
+
+-- the records that have not ended
+abbrev pub unended : Held → Millis → List Hold
+unended h now = keep (isLive now) (recordsOf h)
+
+-- the picks that `take` gives, and those that it refuses
+abbrev pub isFree : Held → Millis → List OutPoint → OutPoint → Bool
+isFree h now spent p = not (isBusy (unended h now) spent p)
+
+abbrev pub given : Held → Millis → List OutPoint → List OutPoint → List OutPoint
+given h now spent picks = firsts (isFree h now spent) [] picks
+
+abbrev pub kept : Held → Millis → List OutPoint → List OutPoint → List OutPoint
+kept h now spent picks = others (isFree h now spent) [] picks
 
 abbrev pub After : Type 0
 After = Outcome Held (List Hold)
@@ -80,3 +94,56 @@ module _ (P : List Hold → Type 0) (h : Held) where
       (either₃ (hasRoom taken out₁) 13 out₁ out₂ _
       (either₃ (hasRoom rest out₂) 13 out₁ out₂ _
       (either₃ (leb (length left + length taken) 256) 14 out₁ out₂ (done (left ++ map (heldBy (ownerFor taker now)) taken), written taken out₁, written rest out₂) s))))
+
+-- ---- what a call that is done leaves
+
+abbrev Ended₂ : List Hold → List ℕ → After × List ℕ → Type 0
+Ended₂ l a (done k, x) = (k ≡ l) × (x ≡ a)
+Ended₂ l a (refused n g, x) = Unit {0}
+
+abbrev Ended₃ : List Hold → List ℕ → List ℕ → After × List ℕ × List ℕ → Type 0
+Ended₃ l a b (done k, x, y) = (k ≡ l) × (x ≡ a) × (y ≡ b)
+Ended₃ l a b (refused n g, x, y) = Unit {0}
+
+pub locked-done : {h : Held} {r : Holds} {now : Millis} {after : List ℕ} (t : Locked h r now after) → after ≡ written (cellsOf (unended h now)) (t .out)
+unfolding lockHeld told
+locked-done {h} {r} {now} {after} t =
+    let l : List Hold = unended h now in
+    let a : List ℕ = written (cellsOf l) (t .out) in
+    let e : Ended₂ l a (lockHeld h now (t .out)) = by (hasRoom (cellsOf l) (t .out)) in
+    let d : Ended₂ l a (told recordsOf (r .answer) (r .held), after) = subst (Ended₂ l a) (sym (t .says)) e in
+    let f : Ended₂ l a (told recordsOf Answer.Done (r .held), after) = subst (λ (v : Answer). Ended₂ l a (told recordsOf v (r .held), after)) (t .answered) d in
+    f .1
+  where
+    by : (c : Bool) → Ended₂ (unended h now) (written (cellsOf (unended h now)) (t .out))
+        (cond {A = After × List ℕ} c (done (unended h now), written (cellsOf (unended h now)) (t .out)) (refused 13 h, t .out))
+    by true = (refl, refl)
+    by false = tt
+
+module _ (l : List Hold) (a b : List ℕ) (h : Held) (out₁ out₂ : List ℕ) where
+  or-refused : (c : Bool) (n : ℕ) (x : After × List ℕ × List ℕ) → Ended₃ l a b x → Ended₃ l a b (cond {A = After × List ℕ × List ℕ} c x (refused n h, out₁, out₂))
+  or-refused true n x g = g
+  or-refused false n x g = tt
+
+pub take-done : {h : Held} {r : Holds} {picked spent : List ℕ} {taker : Taker} {now : Millis} {taken refused : List ℕ} (t : Took h r picked spent taker now taken refused)
+    → (recordsOf (r .held) ≡ unended h now ++ map (heldBy (ownerFor taker now)) (given h now (points spent) (points picked)))
+    × (taken ≡ written (given h now (points spent) (points picked)) (t .out₁))
+    × (refused ≡ written (kept h now (points spent) (points picked)) (t .out₂))
+unfolding takeCells told
+take-done {h} {r} {picked} {spent} {taker} {now} {taken} {refused} t =
+    let left : List Hold = unended h now in
+    let gave : List OutPoint = given h now (points spent) (points picked) in
+    let rest : List OutPoint = kept h now (points spent) (points picked) in
+    let l : List Hold = left ++ map (heldBy (ownerFor taker now)) gave in
+    let a : List ℕ = written gave (t .out₁) in
+    let b : List ℕ = written rest (t .out₂) in
+    let or = or-refused l a b h (t .out₁) (t .out₂) in
+    let e : Ended₃ l a b (takeCells h picked spent taker now (t .out₁) (t .out₂)) =
+    or (readable OutPoints picked) 3 _
+    (or (readable OutPoints spent) 3 _
+    (or (hasRoom gave (t .out₁)) 13 _
+    (or (hasRoom rest (t .out₂)) 13 _
+    (or (leb (length left + length gave) 256) 14 (done l, a, b) (refl, refl, refl)))))
+    in
+    let d : Ended₃ l a b (told recordsOf (r .answer) (r .held), taken, refused) = subst (Ended₃ l a b) (sym (t .says)) e in
+    subst (λ (v : Answer). Ended₃ l a b (told recordsOf v (r .held), taken, refused)) (t .answered) d

@@ -13,8 +13,8 @@ use Rattle.out_points.specs.Tables.{keep, renew}
 use Rattle.hold_records.specs.declared.{Owner.Owner, Hold.Hold, Held.Held}
 use Rattle.hold_records.specs.Holds.{recordsOf, heldBy, byOwner, cellsOf, isNotOf, isUnnamed, isTowerOn, renewAll, isLive, isBusy, isNew, firsts, ownerFor}
 use Rattle.table_laws.specs.Holds as run
-use Rattle.table_laws.specs.Holds.{Called, Reached, towers, OneEach, unended, given, HeldRefused, GivenHeld, LockedRefused}
-use Rattle.table_laws.proofs.Calls.{After, back, hold-fine, watch-fine, release-fine, locked-fine, take-fine}
+use Rattle.table_laws.specs.Holds.{Called, Reached, towers, OneEach}
+use Rattle.table_laws.proofs.Calls.{unended, After, back, hold-fine, watch-fine, release-fine, locked-fine, take-fine}
 
 abbrev Single : List Hold → Type 0
 Single l = (p : OutPoint) → towers p l ≤ 1
@@ -235,40 +235,7 @@ has-times p (q ∷ l) e = by (eqPoint p q) e (has-times p l)
     by true e ih = absurd (omega (arith, e))
     by false e ih = ih e
 
-busy-held : (left : List Hold) (spent : List OutPoint) (p : OutPoint) → has p (cellsOf left) ≡ true → isBusy left spent p ≡ true
-unfolding isBusy
-busy-held left spent p e = rw e
-
 pub busy-not-given : (left : List Hold) (spent : List OutPoint) (p : OutPoint) (picks : List OutPoint) → isBusy left spent p ≡ true
     → has p (firsts (λ q. not (isBusy left spent q)) [] picks) ≡ false
 busy-not-given left spent p picks e =
     has-times p (firsts (λ (q : OutPoint). not (isBusy left spent q)) [] picks) (firsts-not (λ (q : OutPoint). not (isBusy left spent q)) p [] picks (ap not e))
-
-pub held-refused : HeldRefused
-held-refused h now spent picks p e = busy-not-given (unended h now) spent p picks (busy-held (unended h now) spent p e)
-
-has-held : (p : OutPoint) (owner : Owner) (left : List Hold) (ps : List OutPoint) → has p ps ≡ true → has p (cellsOf (left ++ map (heldBy owner) ps)) ≡ true
-unfolding has
-has-held p owner [] [] e = e
-has-held p owner [] (q ∷ ps) e = by (eqPoint p q) e (has-held p owner [] ps)
-  where
-    by : (b : Bool) → cond b true (has p ps) ≡ true → (has p ps ≡ true → has p (cellsOf (map (heldBy owner) ps)) ≡ true)
-        → cond b true (has p (cellsOf (map (heldBy owner) ps))) ≡ true
-    by true e ih = refl
-    by false e ih = ih e
-has-held p owner (r ∷ left) ps e = by (eqPoint p (r .point)) (has-held p owner left ps e)
-  where
-    by : (b : Bool) → has p (cellsOf (left ++ map (heldBy owner) ps)) ≡ true → cond b true (has p (cellsOf (left ++ map (heldBy owner) ps))) ≡ true
-    by true h = refl
-    by false h = h
-
-pub given-held : GivenHeld
-given-held h now spent picks owner p e = has-held p owner (unended h now) (given h now spent picks) e
-
-pub locked-refused : LockedRefused
-unfolding firsts isNew isBusy has
-locked-refused h now p = by (has p (cellsOf (unended h now)))
-  where
-    by : (b : Bool) → b ≡ not (has p (cond (cond (not (cond b true false)) true false) (p ∷ []) []))
-    by true = refl
-    by false = rw (point-refl p)

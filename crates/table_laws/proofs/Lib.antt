@@ -1,4 +1,5 @@
 pub mod Calls
 pub mod Exclusions
+pub mod Given
 pub mod Holds
 pub mod Stands

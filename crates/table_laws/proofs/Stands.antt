@@ -1,4 +1,4 @@
--- A record stands over any list of calls none of which ends it, and its cell is given to nobody while it lives.
+-- A record stands over any list of calls none of which ends it.
 use mathlib.Core.Path.{_≡_, refl, sym, ap, _∙_, subst}
 use Prim.Native.Nat.{ℕ}
 use native.Mathlib.Omega.{arith}
@@ -6,24 +6,22 @@ use mathlib.Core.Bool.{Bool, true, false, not, cond}
 use mathlib.Core.List.{List, [], _∷_, _++_, map}
 use Rattle.units.specs.declared.{Millis.Millis}
 use Rattle.units.specs.Units.{later}
-use Rattle.error.specs.declared.{Answer.Answer}
 use Rattle.out_points.specs.declared.{OutPoint.OutPoint}
 use Rattle.out_points.specs.OutPoints.{eqPoint, has, points}
 use Rattle.out_points.proofs.EqualLaws.{point-same, point-refl}
-use Rattle.out_points.specs.Tables.{keep, renew, told}
+use Rattle.out_points.specs.Tables.{keep, renew}
 use Rattle.hold_records.specs.declared.{Owner.Owner, Hold.Hold, Held.Held}
-use Rattle.hold_records.specs.Holds.{recordsOf, heldBy, byOwner, cellsOf, isNotOf, isUnnamed, isTowerOn, renewAll, isLive, isBusy, ownerFor, takeCells}
+use Rattle.hold_records.specs.Holds.{recordsOf, heldBy, byOwner, cellsOf, isNotOf, isUnnamed, isTowerOn, renewAll, isLive}
 use Rattle.table_laws.specs.Holds as run
-use Rattle.table_laws.specs.Holds.{Called, Stands, here, there, outlives, Outlived, unended, given, NotGiven, StaysHeld, GivenOnce}
-use Rattle.table_laws.proofs.Calls.{After, Fine, back, hold-fine, watch-fine, release-fine, locked-fine, take-fine}
-use Rattle.table_laws.proofs.Holds.{busy-not-given}
+use Rattle.table_laws.specs.Holds.{Called, Stands, here, there, outlives, Outlived}
+use Rattle.table_laws.proofs.Calls.{unended, After, back, hold-fine, watch-fine, release-fine, locked-fine, take-fine}
 
 abbrev tower : Millis → OutPoint → Hold
 tower t q = heldBy (Owner.Watchtower t) q
 
 -- ---- which calls it outlives
 
-stands-keep : (r : Hold) (f : Hold → Bool) (l : List Hold) → f r ≡ true → Stands r l → Stands r (keep f l)
+pub stands-keep : (r : Hold) (f : Hold → Bool) (l : List Hold) → f r ≡ true → Stands r l → Stands r (keep f l)
 unfolding keep
 stands-keep r f l h (here k) = rw h (here (keep f k))
 stands-keep r f l h (there x k s) = by (f x) (stands-keep r f k h s)
@@ -83,12 +81,12 @@ recorded o p (q ∷ l) h = by (eqPoint p q) refl h (recorded o p l)
     by true e h f = subst (λ (x : OutPoint). Stands (heldBy o p) (heldBy o x ∷ map (heldBy o) l)) (point-same p q e) (here (map (heldBy o) l))
     by false e h f = there (heldBy o q) (map (heldBy o) l) (f h)
 
-taken-stands : (o : Owner) (p : OutPoint) (left : List Hold) (taken : List OutPoint) → has p taken ≡ true → Stands (heldBy o p) (left ++ map (heldBy o) taken)
+pub taken-stands : (o : Owner) (p : OutPoint) (left : List Hold) (taken : List OutPoint) → has p taken ≡ true → Stands (heldBy o p) (left ++ map (heldBy o) taken)
 taken-stands o p left taken h = behind (heldBy o p) left (map (heldBy o) taken) (recorded o p taken h)
 
 -- ---- and its cell is held
 
-stands-has : (r : Hold) (l : List Hold) → Stands r l → has (r .point) (cellsOf l) ≡ true
+pub stands-has : (r : Hold) (l : List Hold) → Stands r l → has (r .point) (cellsOf l) ≡ true
 unfolding has
 stands-has r l (here k) = rw (point-refl (r .point))
 stands-has r l (there x k s) = by (eqPoint (r .point) (x .point)) (stands-has r k s)
@@ -112,24 +110,6 @@ outlived x (run.take {h} r picked spent taker now out₁ out₂ after₁ after�
     back (Stands x) h r _ (ap (λ (y : After × List ℕ × List ℕ). y .0) e)
     (take-fine (Stands x) h picked spent taker now out₁ out₂ (stands-append x (unended h now) _ (stands-keep x (isLive now) (recordsOf h) o s))) s
 
-still : (x : Hold) {g h : Held} → Stands x (recordsOf g) → Outlived x g h → Stands x (recordsOf h)
+pub still : (x : Hold) {g h : Held} → Stands x (recordsOf g) → Outlived x g h → Stands x (recordsOf h)
 still x s run.none = s
 still x s (run.then cs c o) = outlived x c o (still x s cs)
-
-not-given : (x : Hold) (h : Held) → Stands x (recordsOf h) → NotGiven x h
-unfolding isBusy
-not-given x h s now spent picks l = busy-not-given (unended h now) spent (x .point) picks (rw (stands-has x (unended h now) (stands-keep x (isLive now) (recordsOf h) l s)))
-
-pub stays-held : StaysHeld
-stays-held x g h s cs = let t = still x s cs in (t, not-given x h t)
-
-pub given-once : GivenOnce
-unfolding told
-given-once f h r picked spent taker now out₁ out₂ after₁ after₂ e d p k cs =
-    let left : List Hold = unended f now in
-    let taken : List OutPoint = given f now (points spent) (points picked) in
-    let x : Hold = heldBy (ownerFor taker now) p in
-    let a : Fine (Stands x) f (takeCells f picked spent taker now out₁ out₂ .0) = take-fine (Stands x) f picked spent taker now out₁ out₂ (taken-stands (ownerFor taker now) p left taken k) in
-    let b : Fine (Stands x) f (told recordsOf (r .answer) (r .held)) = subst (Fine (Stands x) f) (sym (ap (λ (y : After × List ℕ × List ℕ). y .0) e)) a in
-    let s : Stands x (recordsOf (r .held)) = subst (λ (v : Answer). Fine (Stands x) f (told recordsOf v (r .held))) d b in
-    not-given x h (still x s cs)

@@ -2,14 +2,17 @@
 use mathlib.Core.Path.{_≡_}
 use Prim.Native.Nat.{ℕ, suc, _≤_}
 use mathlib.Core.Bool.{Bool, true, false, not, cond}
-use mathlib.Core.List.{List, [], _∷_, _++_, map}
+use mathlib.Core.List.{List, [], _∷_}
+use lib.ListN.{length}
+use Rattle.arithmetic.specs.LittleEndian.{AllBytes}
 use Rattle.units.specs.declared.Millis.{Millis}
+use Rattle.molecule.specs.Partial.{All}
 use Rattle.out_points.specs.declared.OutPoint.{OutPoint}
 use Rattle.error.specs.declared.{Answer.Answer}
-use Rattle.out_points.specs.OutPoints.{has, points}
-use Rattle.out_points.specs.Tables.{keep, told}
-use Rattle.hold_records.specs.declared.{Owner.Owner, Hold.Hold, Held.Held, Holds.Holds, Taker.Taker}
-use Rattle.hold_records.specs.Holds.{recordsOf, isNotOf, isUnnamed, isTowerOn, ownerFor, holdFunding, releaseForWatchtower, holdForWatchtower, lockHeld, takeCells, isLive, cellsOf, isBusy, firsts, heldBy}
+use Rattle.out_points.specs.OutPoints.{has, points, Fit}
+use Rattle.out_points.specs.Tables.{told}
+use Rattle.hold_records.specs.declared.{Hold.Hold, Held.Held, Holds.Holds, Taker.Taker}
+use Rattle.hold_records.specs.Holds.{recordsOf, isNotOf, isUnnamed, isTowerOn, ownerFor, holdFunding, releaseForWatchtower, holdForWatchtower, lockHeld, takeCells, isLive, cellsOf, heldBy}
 
 -- from one table to the next by a call; `unavailable` changes none
 pub data Called : Held → Held → Type 0 where
@@ -34,35 +37,52 @@ towers p (r ∷ l) = cond (isTowerOn p r) (suc (towers p l)) (towers p l)
 abbrev pub OneEach : Held → Type 0
 OneEach h = (p : OutPoint) → towers p (recordsOf h) ≤ 1
 
--- ---- who gets a cell
-
--- the records that have not ended
-abbrev pub unended : Held → Millis → List Hold
-unended h now = keep (isLive now) (recordsOf h)
-
--- the picks that `take` gives
-abbrev pub given : Held → Millis → List OutPoint → List OutPoint → List OutPoint
-given h now spent picks = firsts (λ p. not (isBusy (unended h now) spent p)) [] picks
-
--- a cell with an unended record is given by no `take`, to anybody
-abbrev pub HeldRefused : Type 0
-HeldRefused = (h : Held) (now : Millis) (spent picks : List OutPoint) (p : OutPoint) → has p (cellsOf (unended h now)) ≡ true → has p (given h now spent picks) ≡ false
-
--- what `take` gives has a record afterwards
-abbrev pub GivenHeld : Type 0
-GivenHeld = (h : Held) (now : Millis) (spent picks : List OutPoint) (owner : Owner) (p : OutPoint) → has p (given h now spent picks) ≡ true
-    → has p (cellsOf (unended h now ++ map (heldBy owner) (given h now spent picks))) ≡ true
-
--- `lock_held` writes exactly the cells that `take` would refuse for being held
-abbrev pub LockedRefused : Type 0
-LockedRefused = (h : Held) (now : Millis) (p : OutPoint) → has p (cellsOf (unended h now)) ≡ not (has p (given h now [] (p ∷ [])))
-
--- ---- how long: over any list of calls
+-- ---- who gets a cell: in the words of the calls' contracts, of the table and the bytes that a call leaves
 
 -- the record stands in the list
 pub data Stands (x : Hold) : List Hold → Type 0 where
   here : (l : List Hold) → Stands x (x ∷ l)
   there : (y : Hold) (l : List Hold) → Stands x l → Stands x (y ∷ l)
+
+-- a `take` that is done: of h it makes the table in r, and leaves `taken` and `refused` in the two buffers
+pub record Took (h : Held) (r : Holds) (picked spent : List ℕ) (taker : Taker) (now : Millis) (taken refused : List ℕ) : Type 0 where
+  pub out₁ : List ℕ
+  pub out₂ : List ℕ
+  pub says : (told recordsOf (r .answer) (r .held), taken, refused) ≡ takeCells h picked spent taker now out₁ out₂
+  pub answered : r .answer ≡ Answer.Done
+  pub lent : AllBytes picked
+
+-- a `lock_held` that is done: it leaves `after` in the buffer
+pub record Locked (h : Held) (r : Holds) (now : Millis) (after : List ℕ) : Type 0 where
+  pub out : List ℕ
+  pub says : (told recordsOf (r .answer) (r .held), after) ≡ lockHeld h now out
+  pub answered : r .answer ≡ Answer.Done
+
+-- a table with no more records than its array holds and whose numbers fit their types, as every table that code has
+pub record InRange (h : Held) : Type 0 where
+  pub few : length (recordsOf h) ≤ 256
+  pub fit : All Fit (cellsOf (recordsOf h))
+
+-- a cell with a record that has not ended is given by no `take`, to anybody; picked, it is among the refused
+abbrev pub HeldRefused : Type 0
+HeldRefused = (h : Held) (r : Holds) (picked spent : List ℕ) (taker : Taker) (now : Millis) (taken refused : List ℕ) → Took h r picked spent taker now taken refused
+    → (x : Hold) → Stands x (recordsOf h) → isLive now x ≡ true
+    → (has (x .point) (points taken) ≡ false) × (has (x .point) (points refused) ≡ has (x .point) (points picked))
+
+-- what `take` gives has a record of the taker's afterwards
+abbrev pub GivenHeld : Type 0
+GivenHeld = (h : Held) (r : Holds) (picked spent : List ℕ) (taker : Taker) (now : Millis) (taken refused : List ℕ) → Took h r picked spent taker now taken refused
+    → (p : OutPoint) → has p (points taken) ≡ true → Stands (heldBy (ownerFor taker now) p) (recordsOf (r .held))
+
+-- `lock_held` writes exactly the cells that `take` refuses for being held: of one pick, and nothing spent
+abbrev pub LockedRefused : Type 0
+LockedRefused = (h : Held) (now : Millis) → InRange h
+    → (r : Holds) (after : List ℕ) → Locked h r now after
+    → (q : Holds) (picked spent : List ℕ) (taker : Taker) (taken refused : List ℕ) → Took h q picked spent taker now taken refused
+    → (p : OutPoint) → points picked ≡ p ∷ [] → points spent ≡ []
+    → (has p (points after) ≡ has p (points refused)) × (has p (points after) ≡ not (has p (points taken)))
+
+-- ---- how long: over any list of calls
 
 -- the record outlives the call. What ends it: `hold_funding` by its own holder; of a watchtower record, `hold_for_watchtower` on its cell, which replaces it,
 -- and `release_for_watchtower` on its cell; `lock_held` and `take` at a time at which it is no longer live
@@ -80,7 +100,8 @@ pub data Outlived (x : Hold) : Held → Held → Type 0 where
 
 -- no `take` from h gives the cell of x to anybody, whenever x is live
 abbrev pub NotGiven : Hold → Held → Type 0
-NotGiven x h = (now : Millis) (spent picks : List OutPoint) → isLive now x ≡ true → has (x .point) (given h now spent picks) ≡ false
+NotGiven x h = (r : Holds) (picked spent : List ℕ) (taker : Taker) (now : Millis) (taken refused : List ℕ) → Took h r picked spent taker now taken refused
+    → isLive now x ≡ true → has (x .point) (points taken) ≡ false
 
 -- a record stands after any list of calls none of which ends it, and so its cell is given to nobody while it is live
 abbrev pub StaysHeld : Type 0
@@ -88,7 +109,6 @@ StaysHeld = (x : Hold) (g h : Held) → Stands x (recordsOf g) → Outlived x g 
 
 -- and so a cell p that a `take` gave is given to nobody by any later `take`, until a call ends its record or its time is over
 abbrev pub GivenOnce : Type 0
-GivenOnce = (f h : Held) (r : Holds) (picked spent : List ℕ) (taker : Taker) (now : Millis) (out₁ out₂ after₁ after₂ : List ℕ)
-    → (told recordsOf (r .answer) (r .held), after₁, after₂) ≡ takeCells f picked spent taker now out₁ out₂ → r .answer ≡ Answer.Done
-    → (p : OutPoint) → has p (given f now (points spent) (points picked)) ≡ true
+GivenOnce = (f h : Held) (r : Holds) (picked spent : List ℕ) (taker : Taker) (now : Millis) (taken refused : List ℕ) → Took f r picked spent taker now taken refused
+    → (p : OutPoint) → has p (points taken) ≡ true
     → Outlived (heldBy (ownerFor taker now) p) (r .held) h → NotGiven (heldBy (ownerFor taker now) p) h

@@ -1,0 +1,168 @@
+-- Who gets a cell: of the bytes that calls leave, read back as lists.
+use mathlib.Core.Path.{_≡_, refl, sym, ap, _∙_, subst}
+use Prim.Native.Nat.{ℕ, suc, _≤_, _<_, _^_}
+use mathlib.Core.List.{List, [], _∷_}
+use mathlib.Core.Bool.{Bool, true, false, not, cond}
+use native.Mathlib.Omega.{arith}
+use lib.ListN.{length}
+use Rattle.units.specs.declared.Millis.{Millis}
+use Rattle.molecule.specs.Partial.{All}
+use Rattle.out_points.specs.declared.OutPoint.{OutPoint}
+use Rattle.out_points.specs.OutPoints.{eqPoint, has, points, Fit}
+use Rattle.out_points.specs.Tables.{keep}
+use Rattle.out_points.proofs.EqualLaws.{point-same, point-refl}
+use Rattle.out_points.proofs.ListLaws.{length-points}
+use Rattle.out_points.proofs.AgainLaws.{written-back, points-fit, count-fits}
+use Rattle.hold_records.specs.declared.{Hold.Hold, Held.Held, Holds.Holds, Taker.Taker}
+use Rattle.hold_records.specs.Holds.{recordsOf, cellsOf, isLive, isBusy, isNew, firsts, others, ownerFor}
+use Rattle.table_laws.specs.Holds.{Stands, Took, Locked, InRange, HeldRefused, GivenHeld, LockedRefused, NotGiven, StaysHeld, GivenOnce}
+use Rattle.table_laws.proofs.Calls.{unended, isFree, given, kept, locked-done, take-done}
+use Rattle.table_laws.proofs.Holds.{busy-not-given}
+use Rattle.table_laws.proofs.Stands.{stands-keep, stands-has, taken-stands, still}
+
+-- ---- parts of lists whose numbers fit: they are no longer, and theirs fit too
+
+module _ (f : OutPoint → Bool) where
+  firsts-few : (before l : List OutPoint) → length (firsts f before l) ≤ length l
+  unfolding firsts
+  firsts-few before [] = omega arith
+  firsts-few before (p ∷ l) = by (isNew f before p) (firsts-few (p ∷ before) l) (firsts-few before l)
+    where
+      by : (b : Bool) → length (firsts f (p ∷ before) l) ≤ length l → length (firsts f before l) ≤ length l → length (cond b (p ∷ firsts f (p ∷ before) l) (firsts f before l)) ≤ suc (length l)
+      by true x y = omega (arith, x)
+      by false x y = omega (arith, y)
+
+  others-few : (before l : List OutPoint) → length (others f before l) ≤ length l
+  unfolding others
+  others-few before [] = omega arith
+  others-few before (p ∷ l) = by (isNew f before p) (others-few (p ∷ before) l) (others-few before l)
+    where
+      by : (b : Bool) → length (others f (p ∷ before) l) ≤ length l → length (others f before l) ≤ length l → length (cond b (others f (p ∷ before) l) (p ∷ others f before l)) ≤ suc (length l)
+      by true x y = omega (arith, x)
+      by false x y = omega (arith, y)
+
+  firsts-fit : (before l : List OutPoint) → All Fit l → All Fit (firsts f before l)
+  unfolding firsts
+  firsts-fit before [] a = tt
+  firsts-fit before (p ∷ l) (a, b) = by (isNew f before p) (firsts-fit (p ∷ before) l b) (firsts-fit before l b)
+    where
+      by : (b : Bool) → All Fit (firsts f (p ∷ before) l) → All Fit (firsts f before l) → All Fit (cond b (p ∷ firsts f (p ∷ before) l) (firsts f before l))
+      by true x y = (a, x)
+      by false x y = y
+
+  others-fit : (before l : List OutPoint) → All Fit l → All Fit (others f before l)
+  unfolding others
+  others-fit before [] a = tt
+  others-fit before (p ∷ l) (a, b) = by (isNew f before p) (others-fit (p ∷ before) l b) (others-fit before l b)
+    where
+      by : (b : Bool) → All Fit (others f (p ∷ before) l) → All Fit (others f before l) → All Fit (cond b (others f (p ∷ before) l) (p ∷ others f before l))
+      by true x y = x
+      by false x y = (a, y)
+
+module _ (f : Hold → Bool) where
+  keep-few : (l : List Hold) → length (cellsOf (keep f l)) ≤ length l
+  unfolding keep
+  keep-few [] = omega arith
+  keep-few (r ∷ l) = by (f r) (keep-few l)
+    where
+      by : (b : Bool) → length (cellsOf (keep f l)) ≤ length l → length (cellsOf (cond b (r ∷ keep f l) (keep f l))) ≤ suc (length l)
+      by true x = omega (arith, x)
+      by false x = omega (arith, x)
+
+  keep-fit : (l : List Hold) → All Fit (cellsOf l) → All Fit (cellsOf (keep f l))
+  unfolding keep
+  keep-fit [] a = tt
+  keep-fit (r ∷ l) (a, b) = by (f r) (keep-fit l b)
+    where
+      by : (b : Bool) → All Fit (cellsOf (keep f l)) → All Fit (cellsOf (cond b (r ∷ keep f l) (keep f l)))
+      by true x = (a, x)
+      by false x = x
+
+-- ---- the written lists, read back
+
+module _ {h : Held} {r : Holds} {picked spent : List ℕ} {taker : Taker} {now : Millis} {taken refused : List ℕ} (t : Took h r picked spent taker now taken refused) where
+  short : length (points picked) < 2 ^ 32
+  short = let a = length-points picked in let b = count-fits picked (t .lent) in omega arith
+
+  taken-is : points taken ≡ given h now (points spent) (points picked)
+  taken-is =
+      let f = isFree h now (points spent) in
+      let a = firsts-few f [] (points picked) in
+      let b = short in
+      ap points (take-done t .1) ∙ written-back (given h now (points spent) (points picked)) (t .out₁) (omega arith) (firsts-fit f [] (points picked) (points-fit picked (t .lent)))
+
+  refused-is : points refused ≡ kept h now (points spent) (points picked)
+  refused-is =
+      let f = isFree h now (points spent) in
+      let a = others-few f [] (points picked) in
+      let b = short in
+      ap points (take-done t .2) ∙ written-back (kept h now (points spent) (points picked)) (t .out₂) (omega arith) (others-fit f [] (points picked) (points-fit picked (t .lent)))
+
+locked-is : {h : Held} {r : Holds} {now : Millis} {after : List ℕ} → InRange h → Locked h r now after → points after ≡ cellsOf (unended h now)
+locked-is {h} {r} {now} {after} i t =
+    let a = keep-few (isLive now) (recordsOf h) in
+    let b = i .few in
+    ap points (locked-done t) ∙ written-back (cellsOf (unended h now)) (t .out) (omega arith) (keep-fit (isLive now) (recordsOf h) (i .fit))
+
+-- ---- the laws
+
+no-path : false ≡ true → ⊥
+no-path e = let z : _≡_ {A = ℕ} 0 1 = cc in omega arith
+
+-- one that fails the test is among the others, if it is picked
+others-has : (f : OutPoint → Bool) (p : OutPoint) (before l : List OutPoint) → f p ≡ false → has p (others f before l) ≡ has p l
+unfolding others isNew has
+others-has f p before [] e = refl
+others-has f p before (q ∷ l) e = by (f q) (not (has q before)) (eqPoint p q) refl refl (others-has f p (q ∷ before) l e) (others-has f p before l e)
+  where
+    by : (t u b : Bool) → f q ≡ t → eqPoint p q ≡ b → has p (others f (q ∷ before) l) ≡ has p l → has p (others f before l) ≡ has p l
+        → has p (cond (cond t u false) (others f (q ∷ before) l) (q ∷ others f before l)) ≡ cond b true (has p l)
+    by true true true ft k x y = absurd (no-path (sym e ∙ ap f (point-same p q k) ∙ ft))
+    by true true false ft k x y = x
+    by true false true ft k x y = rw k
+    by true false false ft k x y = rw k y
+    by false u true ft k x y = rw k
+    by false u false ft k x y = rw k y
+
+live-busy : (h : Held) (now : Millis) (spent : List OutPoint) (x : Hold) → Stands x (recordsOf h) → isLive now x ≡ true → isBusy (unended h now) spent (x .point) ≡ true
+unfolding isBusy
+live-busy h now spent x s l = rw (stands-has x (unended h now) (stands-keep x (isLive now) (recordsOf h) l s))
+
+pub held-refused : HeldRefused
+held-refused h r picked spent taker now taken refused t x s l =
+    let b = live-busy h now (points spent) x s l in (
+      ap (has (x .point)) (taken-is t) ∙ busy-not-given (unended h now) (points spent) (x .point) (points picked) b,
+      ap (has (x .point)) (refused-is t) ∙ others-has (isFree h now (points spent)) (x .point) [] (points picked) (ap not b),
+    )
+
+pub given-held : GivenHeld
+given-held h r picked spent taker now taken refused t p k =
+    subst (Stands _) (sym (take-done t .0))
+    (taken-stands (ownerFor taker now) p (unended h now) (given h now (points spent) (points picked)) (sym (ap (has p) (taken-is t)) ∙ k))
+
+-- of one pick, and nothing spent
+one-pick : (left : List Hold) (p : OutPoint)
+    → (has p (cellsOf left) ≡ has p (others (λ q. not (isBusy left [] q)) [] (p ∷ []))) × (has p (cellsOf left) ≡ not (has p (firsts (λ q. not (isBusy left [] q)) [] (p ∷ []))))
+unfolding firsts others isNew isBusy has
+one-pick left p = by (has p (cellsOf left))
+  where
+    by : (b : Bool) → (b ≡ has p (cond (cond (not (cond b true false)) true false) [] (p ∷ []))) × (b ≡ not (has p (cond (cond (not (cond b true false)) true false) (p ∷ []) [])))
+    by true = (rw (point-refl p), refl)
+    by false = (refl, rw (point-refl p))
+
+pub locked-refused : LockedRefused
+locked-refused h now i r after l q picked spent taker taken refused t p e f =
+    let o = one-pick (unended h now) p in
+    let a : has p (points after) ≡ has p (cellsOf (unended h now)) = ap (has p) (locked-is i l) in
+    let g : given h now (points spent) (points picked) ≡ given h now [] (p ∷ []) = rw (e, f) in
+    let k : kept h now (points spent) (points picked) ≡ kept h now [] (p ∷ []) = rw (e, f) in
+    (a ∙ o .0 ∙ sym (ap (has p) (refused-is t ∙ k)), a ∙ o .1 ∙ sym (ap (λ (x : List OutPoint). not (has p x)) (taken-is t ∙ g)))
+
+not-given : (x : Hold) (h : Held) → Stands x (recordsOf h) → NotGiven x h
+not-given x h s r picked spent taker now taken refused t l = held-refused h r picked spent taker now taken refused t x s l .0
+
+pub stays-held : StaysHeld
+stays-held x g h s cs = let t = still x s cs in (t, not-given x h t)
+
+pub given-once : GivenOnce
+given-once f h r picked spent taker now taken refused t p k cs = not-given _ h (still _ (given-held f r picked spent taker now taken refused t p k) cs)
