@@ -1,0 +1,45 @@
+-- What a call's contract says is a step.
+use mathlib.Core.Path.{_≡_}
+use Prim.Native.Nat.{ℕ}
+use mathlib.Core.List.{List}
+use Rattle.units.specs.declared.{Millis.Millis, BlockNumber.BlockNumber}
+use Rattle.out_points.specs.Tables.{told}
+use Rattle.hold_records.specs.declared.{Held.Held, Holds.Holds, Taker.Taker}
+use Rattle.hold_records.specs.Holds.{recordsOf, holdFunding, releaseForWatchtower, holdForWatchtower, lockHeld, takeCells}
+use Rattle.exclusions.specs.declared.{LiveCellsExclusionMap.LiveCellsExclusionMap, Excluded.Excluded}
+use Rattle.exclusions.specs.Exclusions.{entriesOf, commitCall, removeCall, truncated, addCall, migrateCall}
+use Rattle.table_laws.specs.Holds as holds
+use Rattle.table_laws.specs.Exclusions as maps
+
+module _ {h : Held} (r : Holds) where
+  pub hold-step : (holder : ℕ) (cells : List ℕ) → told recordsOf (r .answer) (r .held) ≡ holdFunding h holder cells → holds.Called h (r .held)
+  hold-step holder cells e = holds.hold r holder cells e
+
+  pub release-step : (cells : List ℕ) → told recordsOf (r .answer) (r .held) ≡ releaseForWatchtower h cells → holds.Called h (r .held)
+  release-step cells e = holds.release r cells e
+
+  pub watch-step : (cells : List ℕ) (time : Millis) → told recordsOf (r .answer) (r .held) ≡ holdForWatchtower h cells time → holds.Called h (r .held)
+  watch-step cells time e = holds.watch r cells time e
+
+  pub lock-step : (time : Millis) (out after : List ℕ) → (told recordsOf (r .answer) (r .held), after) ≡ lockHeld h time out → holds.Called h (r .held)
+  lock-step time out after e = holds.locked r time out after e
+
+  pub take-step : (picked spent : List ℕ) (taker : Taker) (time : Millis) (out₁ out₂ after₁ after₂ : List ℕ)
+      → (told recordsOf (r .answer) (r .held), after₁, after₂) ≡ takeCells h picked spent taker time out₁ out₂ → holds.Called h (r .held)
+  take-step picked spent taker time out₁ out₂ after₁ after₂ e = holds.take r picked spent taker time out₁ out₂ after₁ after₂ e
+
+module _ {m : LiveCellsExclusionMap} (r : Excluded) where
+  pub commit-step : (hash : List ℕ) (block : BlockNumber) → told entriesOf (r .answer) (r .map) ≡ commitCall m hash block → maps.Called m (r .map)
+  commit-step hash block e = maps.commit r hash block e
+
+  pub remove-step : (hash : List ℕ) → told entriesOf (r .answer) (r .map) ≡ removeCall m hash → maps.Called m (r .map)
+  remove-step hash e = maps.remove r hash e
+
+  pub add-step : (hash tx : List ℕ) → told entriesOf (r .answer) (r .map) ≡ addCall m hash tx → maps.Called m (r .map)
+  add-step hash tx e = maps.add r hash tx e
+
+  pub migrate-step : (old new tx : List ℕ) → told entriesOf (r .answer) (r .map) ≡ migrateCall m old new tx → maps.Called m (r .map)
+  migrate-step old new tx e = maps.migrate r old new tx e
+
+pub truncate-step : {m n : LiveCellsExclusionMap} (tip : BlockNumber) → entriesOf n ≡ truncated tip (entriesOf m) → maps.Called m n
+truncate-step tip e = maps.truncate tip e

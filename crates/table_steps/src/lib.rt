@@ -1,0 +1,46 @@
+// Each call on the table of holds, with the contract that it is a step of a list of calls (`Called`, crates/table_laws): the laws over such lists are
+// about calls of the code. The same for the exclusion map in `maps`.
+use hold_records::Held;
+use hold_records::Holds;
+use hold_records::Taker;
+use units::Millis;
+ghost use Rattle.table_laws.specs.Holds.{Called};
+pub mod maps;
+
+pub fn hold_funding(held: Held, holder: u64, cells: &[u8]) -> Holds
+    ensures { λ r. ⌜ Called held (r .held) ⌝ }
+{
+    held_cells::hold_funding(held, holder, cells)
+}
+
+pub fn release_for_watchtower(held: Held, cells: &[u8]) -> Holds
+    ensures { λ r. ⌜ Called held (r .held) ⌝ }
+{
+    held_cells::release_for_watchtower(held, cells)
+}
+
+pub fn hold_for_watchtower(held: Held, cells: &[u8], time: Millis) -> Holds
+    ensures { λ r. ⌜ Called held (r .held) ⌝ }
+{
+    held_cells::hold_for_watchtower(held, cells, time)
+}
+
+pub fn lock_held(held: Held, time: Millis, out: &mut [u8]) -> Holds
+    ensures { λ r. ⌜ Called held (r .held) ⌝ }
+{
+    held_cells::lock_held(held, time, out)
+}
+
+pub fn take(
+    held: Held,
+    picked: &[u8],
+    spent: &[u8],
+    taker: Taker,
+    time: Millis,
+    taken: &mut [u8],
+    refused: &mut [u8],
+) -> Holds
+    ensures { λ r. ⌜ Called held (r .held) ⌝ }
+{
+    held_cells::take(held, picked, spent, taker, time, taken, refused)
+}
