@@ -3,6 +3,8 @@ use mathlib.Core.Path.{_≡_}
 use Prim.Native.Nat.{ℕ}
 use mathlib.Core.List.{List}
 use Rattle.units.specs.declared.{Millis.Millis, BlockNumber.BlockNumber}
+use Rattle.arithmetic.specs.LittleEndian.{AllBytes}
+use Rattle.error.specs.declared.{Answer.Answer}
 use Rattle.out_points.specs.Tables.{told}
 use Rattle.hold_records.specs.declared.{Held.Held, Holds.Holds, Taker.Taker}
 use Rattle.hold_records.specs.Holds.{recordsOf, holdFunding, releaseForWatchtower, holdForWatchtower, lockHeld, takeCells}
@@ -27,6 +29,14 @@ module _ {h : Held} (r : Holds) where
   pub take-step : (picked spent : List ℕ) (taker : Taker) (time : Millis) (out₁ out₂ after₁ after₂ : List ℕ)
       → (told recordsOf (r .answer) (r .held), after₁, after₂) ≡ takeCells h picked spent taker time out₁ out₂ → holds.Called h (r .held)
   take-step picked spent taker time out₁ out₂ after₁ after₂ e = holds.take r picked spent taker time out₁ out₂ after₁ after₂ e
+
+  pub lock-done : (time : Millis) (out after : List ℕ) → (told recordsOf (r .answer) (r .held), after) ≡ lockHeld h time out → (r .answer ≡ Answer.Done → holds.Locked h r time after)
+  lock-done time out after e d = record { out = out; says = e; answered = d }
+
+  pub take-done : (picked spent : List ℕ) (taker : Taker) (time : Millis) (out₁ out₂ after₁ after₂ : List ℕ)
+      → (told recordsOf (r .answer) (r .held), after₁, after₂) ≡ takeCells h picked spent taker time out₁ out₂
+      → (AllBytes picked → r .answer ≡ Answer.Done → holds.Took h r picked spent taker time after₁ after₂)
+  take-done picked spent taker time out₁ out₂ after₁ after₂ e b d = record { out₁ = out₁; out₂ = out₂; says = e; answered = d; lent = b }
 
 module _ {m : LiveCellsExclusionMap} (r : Excluded) where
   pub commit-step : (hash : List ℕ) (block : BlockNumber) → told entriesOf (r .answer) (r .map) ≡ commitCall m hash block → maps.Called m (r .map)

@@ -1,5 +1,5 @@
 -- What closes the needs of this crate's functions: `search ways`.
 use borrow.Author.Needs.{needs}
-use Rattle.table_steps.proofs.StepLaws.{hold-step, release-step, watch-step, lock-step, take-step, commit-step, remove-step, truncate-step, add-step, migrate-step}
+use Rattle.table_steps.proofs.StepLaws.{hold-step, release-step, watch-step, lock-step, take-step, lock-done, take-done, commit-step, remove-step, truncate-step, add-step, migrate-step}
 
-pub ruleset ways = (needs, hold-step, release-step, watch-step, lock-step, take-step, commit-step, remove-step, truncate-step, add-step, migrate-step)
+pub ruleset ways = (needs, hold-step, release-step, watch-step, lock-step, take-step, lock-done, take-done, commit-step, remove-step, truncate-step, add-step, migrate-step)

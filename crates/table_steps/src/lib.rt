@@ -1,10 +1,14 @@
 // Each call on the table of holds, with the contract that it is a step of a list of calls (`Called`, crates/table_laws): the laws over such lists are
-// about calls of the code. The same for the exclusion map in `maps`.
+// about calls of the code. `Locked` and `Took` are what those laws say of a call that is done. The same for the exclusion map in `maps`.
 use hold_records::Held;
 use hold_records::Holds;
 use hold_records::Taker;
 use units::Millis;
-ghost use Rattle.table_laws.specs.Holds.{Called};
+ghost use mathlib.Core.Path.{_≡_};
+ghost use Rattle.arithmetic.specs.LittleEndian.{AllBytes};
+ghost use Rattle.error.specs.declared.{Answer.Answer};
+ghost use Rattle.table_laws.specs.Holds.{Called, Locked, Took};
+
 pub mod maps;
 
 pub fn hold_funding(held: Held, holder: u64, cells: &[u8]) -> Holds
@@ -27,6 +31,7 @@ pub fn hold_for_watchtower(held: Held, cells: &[u8], time: Millis) -> Holds
 
 pub fn lock_held(held: Held, time: Millis, out: &mut [u8]) -> Holds
     ensures { λ r. ⌜ Called held (r .held) ⌝ }
+    ensures { λ r. ⌜ (r .answer ≡ Answer.Done → Locked held r time (now (out .exit))) ⌝ }
 {
     held_cells::lock_held(held, time, out)
 }
@@ -41,6 +46,7 @@ pub fn take(
     refused: &mut [u8],
 ) -> Holds
     ensures { λ r. ⌜ Called held (r .held) ⌝ }
+    ensures { λ r. ⌜ (AllBytes (now (picked .entry)) → r .answer ≡ Answer.Done → Took held r (now (picked .entry)) (now (spent .entry)) taker time (now (taken .exit)) (now (refused .exit))) ⌝ }
 {
     held_cells::take(held, picked, spent, taker, time, taken, refused)
 }
