@@ -1,0 +1,199 @@
+-- The claims on the base transaction, proved.
+use mathlib.Core.Path.{_≡_, refl, sym, ap, ap₂, _∙_, subst}
+use Prim.Native.Nat.{ℕ, zero, suc, _+_, _-_, _^_, _≤_, _<_}
+use mathlib.Core.Bool.{Bool, true, false, not, cond, _&&_}
+use mathlib.Core.List.{List, [], _∷_, _++_, map}
+use native.Mathlib.Omega.{arith}
+use lib.Dec.{T, ltb, ltb→lt}
+use lib.ListN.{length, drop, getD}
+use Rattle.arithmetic.specs.LittleEndian.{toLe, AllBytes}
+use Rattle.arithmetic.proofs.LittleEndianLaws.{length-toLe}
+use Rattle.arithmetic.specs.Amount.{value}
+use Rattle.molecule.specs.Partial.{All}
+use Rattle.molecule.specs.Items.{join}
+use Rattle.molecule.specs.Layout.{span, itemsOf, itemOf, itemCount, fixItems, content}
+use Rattle.molecule.specs.Molecule.{readable, option}
+use Rattle.molecule.proofs.ItemsLaws.{short-join}
+use Rattle.molecule.proofs.ReadableLaws.{every}
+use Rattle.transaction.specs.Ckb.{Bytes, CellDep, CellDeps, Script, CellOutput, Transaction, TokenCells}
+use Rattle.transaction.specs.Tx.{txAt, rawField, capacityOf, lockOf, typeOf}
+use Rattle.transaction.proofs.ListLaws.{option-none}
+use Rattle.transaction_writer.proofs.PutLaws.{tx-length}
+use Rattle.rules.specs.Cells.{Cell, pair, cells}
+use Rattle.rules.specs.Outcome.{Outcome, fine, check, _>>=_, _>>_}
+use Rattle.rules.specs.Surplus.{isEmpty}
+use Rattle.rules.specs.Judge.{Figures, scripts}
+use Rattle.rules.specs.Step.{Prefix, start, more}
+use Rattle.rules.proofs.Tests.{fine-inj, bind-fine, check-fine, check-last, then-fine}
+use Rattle.funding_cell.specs.declared.FundingRequest.{FundingRequest}
+use Rattle.funding_cell.specs.FundingCell.{fundingCell, cellOfSums, cellOf}
+use Rattle.udt_cells.specs.CellOutput.{cellOutput as plainOutput}
+use Rattle.udt_cells.proofs.OutputReads.{output-lock, output-type, output-capacity}
+use Rattle.udt_cells.specs.Pick.{Pick, pickTyped}
+use Rattle.list_writer.specs.ListWriter.{fixList, bytesItem, later, ifAny, ifPositive}
+use Rattle.base_inputs.specs.BaseInputs.{picked, inputList}
+use Rattle.base_lists.specs.BaseLists.{cellOutput, amountItem, outputList, dataList, witnessList}
+use Rattle.cell_deps.specs.CellDeps.{cellDeps}
+use Rattle.cell_deps.proofs.LongLaws.{long-append, cell-deps-long}
+use Rattle.funding_builder.specs.Base.{Lent, Packed, packed, baseTx, changeCapacity, supplied, lists, withPick, withCell, withRequest, buildBase}
+use Rattle.funding_builder.proofs.PresentLaws.{deps-readable, option-of}
+use Rattle.base_theorems.proofs.Claims.{Figured, ReadsBack, Funds, Keeps, Readable, FirstOutput, Kept}
+use Rattle.base_theorems.proofs.PackedLaws.{Formed, ReadsAs, reads-as, item-readable, item-content}
+use Rattle.base_theorems.proofs.FormLaws.{of-T, Present, present, version-low, every-append, later-is, later-outputs, later-data, all-right, last-every, cell-readable, witnesses-readable, picked-long}
+
+-- ---- what a call that is not refused has found
+
+record Made (l : Lent) (request : FundingRequest) (bytes : List ℕ) : Type 0 where
+  pub cell : Figures
+  pub pick : Pick
+  pub figured : Figured l request cell pick
+  pub is : packed (baseTx l cell pick) ≡ bytes
+  pub ours : readable (option Transaction) (l .ours) ≡ true
+  pub lock : readable Script (l .lock) ≡ true
+  pub udt : readable (option Script) (l .udt) ≡ true
+  pub source : readable Script (l .source) ≡ true
+  pub cells : readable TokenCells (l .cells) ≡ true
+  pub udtDeps : readable (option CellDeps) (l .udtDeps) ≡ true
+  pub lockDep : readable (option CellDep) (l .lockDep) ≡ true
+  pub extraDeps : readable CellDeps (l .extraDeps) ≡ true
+
+made : (l : Lent) (request : FundingRequest) (bytes : List ℕ) → buildBase l request ≡ fine bytes → Made l request bytes
+unfolding buildBase withRequest withCell withPick scripts lists
+made l request bytes e =
+    let (o, e₁) = check-fine 1 (readable (option Transaction) (l .ours)) _ bytes e in
+    let (s, e₂) = then-fine (scripts (l .lock) (l .udt) (l .source)) _ bytes e₁ in
+    let (i, e₃) = then-fine (lists (l .cells) (l .udtDeps) (l .lockDep) (l .extraDeps)) _ bytes e₂ in
+    let (cell, c, e₄) = bind-fine (fundingCell (not (isEmpty (txAt (l .ours) .outputs))) (not (isEmpty (l .udt))) request) _ bytes e₃ in
+    let (pick, p, e₅) = bind-fine (pickTyped (l .udt) (value (request .«local_amount»)) (itemsOf (l .cells))) _ bytes e₄ in
+    let (_, e₆) = check-fine 11 (supplied (pick .taken) (l .udtDeps)) _ bytes e₅ in
+    let (_, e₇) = check-fine 11 (supplied (pick .taken) (l .lockDep)) _ bytes e₆ in
+    let s₁ = check-fine 3 (readable Script (l .lock)) _ tt s in
+    let s₂ = check-fine 3 (readable (option Script) (l .udt)) _ tt (s₁ .1) in
+    let i₁ = check-fine 3 (readable TokenCells (l .cells)) _ tt i in
+    let i₂ = check-fine 3 (readable (option CellDeps) (l .udtDeps)) _ tt (i₁ .1) in
+    let i₃ = check-fine 3 (readable (option CellDep) (l .lockDep)) _ tt (i₂ .1) in
+    record {
+      cell = cell;
+      pick = pick;
+      figured = record { isCell = c; isPick = p };
+      is = fine-inj e₇;
+      ours = of-T _ o;
+      lock = of-T _ (s₁ .0);
+      udt = of-T _ (s₂ .0);
+      source = of-T _ (check-last 3 (readable Script (l .source)) tt (s₂ .1));
+      cells = of-T _ (i₁ .0);
+      udtDeps = of-T _ (i₂ .0);
+      lockDep = of-T _ (i₃ .0);
+      extraDeps = of-T _ (check-last 3 (readable CellDeps (l .extraDeps)) tt (i₃ .1));
+    }
+
+if-readable : (n : ℕ) (s : List ℕ) → readable (option CellDeps) s ≡ true → readable (option CellDeps) (ifPositive n s) ≡ true
+unfolding ifPositive
+if-readable zero s h = sym (option-none CellDeps [] refl)
+if-readable (suc n) s h = h
+
+if-dep : (n : ℕ) (s : List ℕ) → readable (option CellDep) s ≡ true → readable (option CellDep) (ifPositive n s) ≡ true
+unfolding ifPositive
+if-dep zero s h = sym (option-none CellDep [] refl)
+if-dep (suc n) s h = h
+
+-- a token amount as data
+amount-readable : (n : ℕ) → readable Bytes (amountItem n) ≡ true
+amount-readable n = item-readable (toLe 16 n) (omega (arith, length-toLe 16 n))
+
+module _ (l : Lent) (request : FundingRequest) (bytes : List ℕ) (b : AllBytes (l .ours)) (e : buildBase l request ≡ fine bytes) (short : length bytes ≤ 133116) where
+  abbrev m : Made l request bytes
+  m = made l request bytes e
+
+  abbrev base : Packed
+  base = baseTx l (m .cell) (m .pick)
+
+  abbrev ours : Present (l .ours)
+  ours = present (l .ours) (m .ours)
+
+  abbrev after : ℕ
+  after = length (txAt (l .ours) .outputs) - 1
+
+  abbrev back : ℕ
+  back = changeCapacity (m .pick .change) (l .source) (l .udt)
+
+  base-short : length (packed base) ≤ 133116
+  base-short = rw (m .is) short
+
+  outputs-are : base .outputs ≡ cellOutput (m .cell .capacity) (l .lock) (l .udt) ∷ later (rawField (l .ours) 4) after ++ ifAny (ifPositive back (cellOutput back (l .source) (l .udt)))
+  unfolding baseTx outputList
+  outputs-are = refl
+
+  data-are : base .outputsData ≡ cond (not (isEmpty (l .udt))) (amountItem (m .cell .token)) (bytesItem []) ∷ later (rawField (l .ours) 5) after ++ ifAny (ifPositive (m .pick .change) (amountItem (m .pick .change)))
+  unfolding baseTx dataList
+  data-are = refl
+
+  outputs-all : All (λ (x : List ℕ). length x < 2 ^ 32) (cellOutput (m .cell .capacity) (l .lock) (l .udt) ∷ later (rawField (l .ours) 4) after ++ ifAny (ifPositive back (cellOutput back (l .source) (l .udt))))
+  unfolding packed
+  outputs-all =
+      let n = tx-length (base .version) (fixList (base .cellDeps)) (fixList (base .headerDeps)) (fixList (base .inputs)) (join (base .outputs)) (join (base .outputsData)) (join (base .witnesses)) in
+      let j : length (join (base .outputs)) < 2 ^ 32 = omega (arith, base-short) in
+      rw outputs-are at (short-join (2 ^ 32) (base .outputs) j)
+
+  outputs-readable : every (readable CellOutput) (base .outputs) ≡ true
+  unfolding every
+  outputs-readable =
+      ap (every (readable CellOutput)) outputs-are
+      ∙ ap₂ _&&_ (cell-readable (m .cell .capacity) (l .lock) (l .udt) (m .lock) (m .udt) (outputs-all .0))
+      (every-append (readable CellOutput) (later (rawField (l .ours) 4) after) (ifAny (ifPositive back (cellOutput back (l .source) (l .udt))))
+      (later-outputs (rawField (l .ours) 4) after refl (ours .outputs))
+      (last-every (readable CellOutput) back (cellOutput back (l .source) (l .udt)) (cell-readable back (l .source) (l .udt) (m .source) (m .udt))
+      (all-right (λ (x : List ℕ). length x < 2 ^ 32) (later (rawField (l .ours) 4) after) _ (outputs-all .1))))
+
+  first-data : (typed : Bool) → readable Bytes (cond typed (amountItem (m .cell .token)) (bytesItem [])) ≡ true
+  first-data true = amount-readable (m .cell .token)
+  first-data false = item-readable [] (omega arith)
+
+  last-data : (n k : ℕ) → every (readable Bytes) (ifAny (ifPositive k (amountItem n))) ≡ true
+  unfolding ifAny ifPositive every
+  last-data n zero = refl
+  last-data n (suc k) = by (amountItem n) (amount-readable n)
+    where
+      by : (x : List ℕ) → readable Bytes x ≡ true → every (readable Bytes) (ifAny x) ≡ true
+      by [] h = refl
+      by (c ∷ x) h = ap (λ (d : Bool). d && true) h
+
+  data-readable : every (readable Bytes) (base .outputsData) ≡ true
+  unfolding every
+  data-readable =
+      ap (every (readable Bytes)) data-are
+      ∙ ap₂ _&&_ (first-data (not (isEmpty (l .udt))))
+      (every-append (readable Bytes) (later (rawField (l .ours) 5) after) (ifAny (ifPositive (m .pick .change) (amountItem (m .pick .change))))
+      (later-data (rawField (l .ours) 5) after (ours .outputsData)) (last-data (m .pick .change) (m .pick .change)))
+
+  formed : Formed base
+  unfolding baseTx inputList
+  formed = record {
+    low = version-low (l .ours) (m .ours) b;
+    cellDeps =
+        cell-deps-long (rawField (l .ours) 1) (ifPositive (m .pick .taken) (l .udtDeps)) (ifPositive (m .pick .taken) (l .lockDep)) (l .extraDeps)
+        (deps-readable (l .ours) (m .ours)) (if-readable (m .pick .taken) (l .udtDeps) (m .udtDeps)) (if-dep (m .pick .taken) (l .lockDep) (m .lockDep)) (option-of CellDeps (l .extraDeps) (m .extraDeps));
+    headerDeps = ours .headerDeps;
+    inputs =
+        long-append 44 (fixItems 44 (rawField (l .ours) 3)) (span (picked (l .cells)) 0 (m .pick .taken)) (ours .inputs)
+        (picked-long (l .udt) (l .cells) (value (request .«local_amount»)) (m .pick) (m .cells) (m .figured .isPick));
+    outputs = outputs-readable;
+    outputsData = data-readable;
+    witnesses = witnesses-readable (length (txAt (l .ours) .inputs)) (m .pick .taken);
+  }
+
+  reads : ReadsAs base bytes
+  reads = rw (m .is) at (reads-as base formed base-short)
+
+  reads-back : ReadsBack l request bytes
+  reads-back = record {
+    cell = m .cell;
+    pick = m .pick;
+    figured = m .figured;
+    isReadable = reads .isReadable;
+    fields = reads .fields;
+  }
+
+-- "the result is readable"
+pub is-readable : Readable
+is-readable l request bytes b e short = reads-back l request bytes b e short

@@ -1,0 +1,74 @@
+-- What is proved of the base transaction (01-scope.md, "Our own side"): of every call of `buildBase` that is not refused, where the bytes fit a
+-- transaction. The proofs are proofs/Base.antt.
+use mathlib.Core.Path.{_≡_}
+use Prim.Native.Nat.{ℕ, _≤_}
+use mathlib.Core.Bool.{true, not, cond}
+use mathlib.Core.List.{List, [], _∷_, _++_}
+use lib.ListN.{length, drop}
+use Rattle.arithmetic.specs.LittleEndian.{toLe, AllBytes}
+use Rattle.arithmetic.specs.Amount.{value}
+use Rattle.molecule.specs.Items.{join}
+use Rattle.molecule.specs.Layout.{itemsOf}
+use Rattle.molecule.specs.Molecule.{readable}
+use Rattle.transaction.specs.Ckb.{Transaction}
+use Rattle.transaction.specs.Tx.{txAt, capacityOf, lockOf, typeOf}
+use Rattle.rules.specs.Cells.{Cell, cells}
+use Rattle.rules.specs.Outcome.{Outcome, fine}
+use Rattle.rules.specs.Surplus.{isEmpty}
+use Rattle.rules.specs.Judge.{Figures}
+use Rattle.rules.specs.Step.{Prefix}
+use Rattle.funding_cell.specs.declared.FundingRequest.{FundingRequest}
+use Rattle.funding_cell.specs.FundingCell.{fundingCell}
+use Rattle.udt_cells.specs.Pick.{Pick, pickTyped}
+use Rattle.list_writer.specs.ListWriter.{fixList}
+use Rattle.transaction_theorems.proofs.WrittenReads.{HasFields}
+use Rattle.funding_builder.specs.Base.{Lent, Packed, baseTx, buildBase}
+
+-- P holds of the bytes of each call that is not refused, if they fit a transaction
+abbrev pub Built : (Lent → FundingRequest → List ℕ → Type 0) → Type 0
+Built P = (l : Lent) (request : FundingRequest) (bytes : List ℕ) → AllBytes (l .ours) → buildBase l request ≡ fine bytes → length bytes ≤ 133116 → P l request bytes
+
+-- the figures of the funding cell, and the pick
+pub record Figured (l : Lent) (request : FundingRequest) (cell : Figures) (pick : Pick) : Type 0 where
+  pub isCell : fundingCell (not (isEmpty (txAt (l .ours) .outputs))) (not (isEmpty (l .udt))) request ≡ fine cell
+  pub isPick : pickTyped (l .udt) (value (request .«local_amount»)) (itemsOf (l .cells)) ≡ fine pick
+
+-- what the bytes say their fields are: each list of t, in its list form
+abbrev pub Holds : Packed → List ℕ → Type 0
+Holds t s = HasFields s (t .version) (fixList (t .cellDeps)) (fixList (t .headerDeps)) (fixList (t .inputs)) (join (t .outputs)) (join (t .outputsData)) (join (t .witnesses))
+
+-- "the result is readable": and its lists are those of `baseTx`
+pub record ReadsBack (l : Lent) (request : FundingRequest) (bytes : List ℕ) : Type 0 where
+  pub cell : Figures
+  pub pick : Pick
+  pub figured : Figured l request cell pick
+  pub isReadable : readable Transaction bytes ≡ true
+  pub fields : Holds (baseTx l cell pick) bytes
+
+-- "its output 0 has the funding lock and type": and the capacity and data of the funding cell
+pub record Funds (l : Lent) (request : FundingRequest) (bytes : List ℕ) : Type 0 where
+  pub cell : Figures
+  pub isCell : fundingCell (not (isEmpty (txAt (l .ours) .outputs))) (not (isEmpty (l .udt))) request ≡ fine cell
+  pub first : Cell
+  pub later : List Cell
+  pub isFirst : cells (txAt bytes) ≡ first ∷ later
+  pub lock : lockOf (first .output) ≡ l .lock
+  pub typeScript : typeOf (first .output) ≡ l .udt
+  pub capacity : capacityOf (first .output) ≡ cell .capacity
+  pub content : first .cellData ≡ cond (not (isEmpty (l .udt))) (toLe 16 (cell .token)) []
+
+-- "present inputs and outputs after 0 keep their places": and version and header deps are the same
+pub record Keeps (l : Lent) (request : FundingRequest) (bytes : List ℕ) : Type 0 where
+  pub version : txAt bytes .version ≡ txAt (l .ours) .version
+  pub headerDeps : txAt bytes .headerDeps ≡ txAt (l .ours) .headerDeps
+  pub inputs : Prefix (txAt (l .ours) .inputs) (txAt bytes .inputs)
+  pub outputs : Prefix (drop 1 (txAt (l .ours) .outputs)) (drop 1 (txAt bytes .outputs))
+
+abbrev pub Readable : Type 0
+Readable = Built ReadsBack
+
+abbrev pub FirstOutput : Type 0
+FirstOutput = Built Funds
+
+abbrev pub Kept : Type 0
+Kept = Built Keeps

@@ -1,0 +1,4 @@
+pub mod Base
+pub mod Claims
+pub mod FormLaws
+pub mod PackedLaws
