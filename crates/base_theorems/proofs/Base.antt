@@ -101,6 +101,36 @@ if-dep (suc n) s h = h
 amount-readable : (n : ℕ) → readable Bytes (amountItem n) ≡ true
 amount-readable n = item-readable (toLe 16 n) (omega (arith, length-toLe 16 n))
 
+plain : (c : ℕ) (lock udt : List ℕ) → cellOutput c lock udt ≡ plainOutput c lock udt
+unfolding cellOutput plainOutput
+plain c lock udt = refl
+
+-- the funding cell's capacity is a number of 64 bits
+cell-low : (c t : ℕ) (f : Figures) → cellOf c t ≡ fine f → f .capacity < 2 ^ 64
+unfolding cellOf
+cell-low c t f e =
+    let (narrow, e₁) = check-fine 7 (ltb c (2 ^ 64)) _ f e in
+    let (low, e₂) = check-fine 7 (ltb t (2 ^ 128)) _ f e₁ in
+    subst (λ (x : Figures). x .capacity < 2 ^ 64) (fine-inj e₂) (ltb→lt c (2 ^ 64) narrow)
+
+sums-low : (typed : Bool) (amounts reserves : ℕ) (f : Figures) → cellOfSums typed amounts reserves ≡ fine f → f .capacity < 2 ^ 64
+unfolding cellOfSums
+sums-low true amounts reserves f e = cell-low reserves amounts f e
+sums-low false amounts reserves f e = cell-low (amounts + reserves) 0 f e
+
+capacity-low : (funded typed : Bool) (r : FundingRequest) (f : Figures) → fundingCell funded typed r ≡ fine f → f .capacity < 2 ^ 64
+unfolding fundingCell
+capacity-low true typed r f e = sums-low typed _ _ f e
+capacity-low false typed r f e = sums-low typed _ _ f e
+
+first-content : (typed : Bool) (n : ℕ) → content (cond typed (amountItem n) (bytesItem [])) ≡ cond typed (toLe 16 n) []
+first-content true n = item-content (toLe 16 n)
+first-content false n = item-content []
+
+prefix-append : (xs ys : List (List ℕ)) → Prefix xs (xs ++ ys)
+prefix-append [] ys = start
+prefix-append (x ∷ xs) ys = more (prefix-append xs ys)
+
 module _ (l : Lent) (request : FundingRequest) (bytes : List ℕ) (b : AllBytes (l .ours)) (e : buildBase l request ≡ fine bytes) (short : length bytes ≤ 133116) where
   abbrev m : Made l request bytes
   m = made l request bytes e
@@ -194,6 +224,71 @@ module _ (l : Lent) (request : FundingRequest) (bytes : List ℕ) (b : AllBytes 
     fields = reads .fields;
   }
 
+  -- ---- output 0
+
+  abbrev changes : List (List ℕ)
+  changes = ifAny (ifPositive back (cellOutput back (l .source) (l .udt)))
+
+  abbrev changed : List (List ℕ)
+  changed = ifAny (ifPositive (m .pick .change) (amountItem (m .pick .change)))
+
+  abbrev output : List ℕ
+  output = cellOutput (m .cell .capacity) (l .lock) (l .udt)
+
+  abbrev item : List ℕ
+  item = cond (not (isEmpty (l .udt))) (amountItem (m .cell .token)) (bytesItem [])
+
+  all-outputs : txAt bytes .outputs ≡ output ∷ later (rawField (l .ours) 4) after ++ changes
+  all-outputs = reads .outputs ∙ outputs-are
+
+  all-data : txAt bytes .outputsData ≡ content item ∷ map content (later (rawField (l .ours) 5) after ++ changed)
+  all-data = reads .outputsData ∙ ap (map content) data-are
+
+  cells-are : cells (txAt bytes) ≡ record { output = output; cellData = content item } ∷ pair (later (rawField (l .ours) 4) after ++ changes) (map content (later (rawField (l .ours) 5) after ++ changed))
+  cells-are = ap₂ pair all-outputs all-data
+
+  funds : Funds l request bytes
+  funds =
+      let same = plain (m .cell .capacity) (l .lock) (l .udt) in
+      let s : length (plainOutput (m .cell .capacity) (l .lock) (l .udt)) < 2 ^ 32 = rw (← same) (outputs-all .0) in
+      record {
+        cell = m .cell;
+        isCell = m .figured .isCell;
+        first = record { output = output; cellData = content item };
+        later = pair (later (rawField (l .ours) 4) after ++ changes) (map content (later (rawField (l .ours) 5) after ++ changed));
+        isFirst = cells-are;
+        lock = ap lockOf same ∙ output-lock (m .cell .capacity) (l .lock) (l .udt) s;
+        typeScript = ap typeOf same ∙ output-type (m .cell .capacity) (l .lock) (l .udt) s;
+        capacity =
+            ap capacityOf same
+            ∙ output-capacity (m .cell .capacity) (l .lock) (l .udt) s (capacity-low (not (isEmpty (txAt (l .ours) .outputs))) (not (isEmpty (l .udt))) request (m .cell) (m .figured .isCell));
+        content = first-content (not (isEmpty (l .udt))) (m .cell .token);
+      }
+
+  -- ---- what stands at its place
+
+  keeps : Keeps l request bytes
+  keeps = record {
+    version = unfold baseTx in reads .fields .version;
+    headerDeps = unfold baseTx in reads .headerDeps;
+    inputs = subst (λ (xs : List (List ℕ)). Prefix (txAt (l .ours) .inputs) xs) (sym all-inputs) (prefix-append (txAt (l .ours) .inputs) (span (picked (l .cells)) 0 (m .pick .taken)));
+    outputs = subst (λ (xs : List (List ℕ)). Prefix (drop 1 (txAt (l .ours) .outputs)) xs) (sym later-outputs-are) (prefix-append (drop 1 (txAt (l .ours) .outputs)) changes);
+  }
+    where
+      all-inputs : txAt bytes .inputs ≡ txAt (l .ours) .inputs ++ span (picked (l .cells)) 0 (m .pick .taken)
+      all-inputs = unfold baseTx in unfold inputList in reads .inputs
+
+      later-outputs-are : drop 1 (txAt bytes .outputs) ≡ drop 1 (txAt (l .ours) .outputs) ++ changes
+      later-outputs-are = ap (drop 1) all-outputs ∙ ap (λ (xs : List (List ℕ)). xs ++ changes) (later-is (rawField (l .ours) 4) after refl)
+
 -- "the result is readable"
 pub is-readable : Readable
 is-readable l request bytes b e short = reads-back l request bytes b e short
+
+-- "its output 0 has the funding lock and type"
+pub first-output : FirstOutput
+first-output l request bytes b e short = funds l request bytes b e short
+
+-- "present inputs and outputs after 0 keep their places"
+pub kept : Kept
+kept l request bytes b e short = keeps l request bytes b e short
