@@ -5,40 +5,44 @@ use mathlib.Core.Bool.{Bool, true, false, not, cond, _&&_}
 use mathlib.Core.List.{List, [], _∷_, _++_, map}
 use native.Mathlib.Omega.{arith}
 use lib.Dec.{T, ltb, ltb→lt}
-use lib.ListN.{length, drop, getD}
+use lib.ListN.{length, drop, length-append, length-drop}
 use Rattle.arithmetic.specs.LittleEndian.{toLe, AllBytes}
 use Rattle.arithmetic.proofs.LittleEndianLaws.{length-toLe}
 use Rattle.arithmetic.specs.Amount.{value}
 use Rattle.molecule.specs.Partial.{All}
 use Rattle.molecule.specs.Items.{join}
-use Rattle.molecule.specs.Layout.{span, itemsOf, itemOf, itemCount, fixItems, content}
+use Rattle.molecule.specs.Layout.{span, itemsOf, itemOf, itemCount, fixItems, content, entryOf}
 use Rattle.molecule.specs.Molecule.{readable, option}
 use Rattle.molecule.proofs.ItemsLaws.{short-join}
+use Rattle.molecule.proofs.Offsets.{span-length}
 use Rattle.molecule.proofs.ReadableLaws.{every}
+use Rattle.lists.proofs.SpanLaws.{span-drop}
 use Rattle.transaction.specs.Ckb.{Bytes, CellDep, CellDeps, Script, CellOutput, Transaction, TokenCells}
-use Rattle.transaction.specs.Tx.{txAt, rawField, capacityOf, lockOf, typeOf}
+use Rattle.transaction.specs.Tx.{Tx, txAt, rawField, capacityOf, lockOf, typeOf}
 use Rattle.transaction.proofs.ListLaws.{option-none}
 use Rattle.transaction_writer.proofs.PutLaws.{tx-length}
 use Rattle.rules.specs.Cells.{Cell, pair, cells}
-use Rattle.rules.specs.Outcome.{Outcome, fine, check, _>>=_, _>>_}
+use Rattle.rules.specs.Outcome.{Outcome, fine, check, checkWith, _>>=_, _>>_}
 use Rattle.rules.specs.Surplus.{isEmpty}
 use Rattle.rules.specs.Judge.{Figures, scripts}
-use Rattle.rules.specs.Step.{Prefix, start, more}
+use Rattle.rules.specs.Step.{Prefix}
+use Rattle.rules.proofs.Telescope.{prefix-refl, prefix-trans, prefix-length}
 use Rattle.rules.proofs.Tests.{fine-inj, bind-fine, check-fine, check-last, then-fine}
 use Rattle.funding_cell.specs.declared.FundingRequest.{FundingRequest}
 use Rattle.funding_cell.specs.FundingCell.{fundingCell, cellOfSums, cellOf}
 use Rattle.udt_cells.specs.CellOutput.{cellOutput as plainOutput}
 use Rattle.udt_cells.proofs.OutputReads.{output-lock, output-type, output-capacity}
 use Rattle.udt_cells.specs.Pick.{Pick, pickTyped}
-use Rattle.list_writer.specs.ListWriter.{fixList, bytesItem, later, ifAny, ifPositive}
+use Rattle.list_writer.specs.ListWriter.{fixList, bytesItem, itemOr, later, ifAny, ifPositive}
 use Rattle.base_inputs.specs.BaseInputs.{picked, inputList}
 use Rattle.base_lists.specs.BaseLists.{cellOutput, amountItem, outputList, dataList, witnessList}
-use Rattle.cell_deps.specs.CellDeps.{cellDeps}
+use Rattle.cell_deps.specs.CellDeps.{pushAll, allDeps, cellDeps}
 use Rattle.cell_deps.proofs.LongLaws.{long-append, cell-deps-long}
 use Rattle.funding_builder.specs.Base.{Lent, Packed, packed, baseTx, changeCapacity, supplied, lists, withPick, withCell, withRequest, buildBase}
 use Rattle.funding_builder.proofs.PresentLaws.{deps-readable, option-of}
-use Rattle.base_theorems.proofs.Claims.{Figured, ReadsBack, Funds, Keeps, Readable, FirstOutput, Kept}
+use Rattle.base_theorems.proofs.Claims.{Figured, ReadsBack, Funds, Keeps, Distinct, Passes, Readable, FirstOutput, Kept, Compared}
 use Rattle.base_theorems.proofs.PackedLaws.{Formed, ReadsAs, reads-as, item-readable, item-content}
+use Rattle.base_theorems.proofs.CompareLaws.{prefix-append, deps-begin, entries-begin, map-append, has-lock, has-type, has-data, passes}
 use Rattle.base_theorems.proofs.FormLaws.{of-T, Present, present, version-low, every-append, later-is, later-outputs, later-data, all-right, last-every, cell-readable, witnesses-readable, picked-long}
 
 -- ---- what a call that is not refused has found
@@ -127,9 +131,9 @@ first-content : (typed : Bool) (n : ℕ) → content (cond typed (amountItem n) 
 first-content true n = item-content (toLe 16 n)
 first-content false n = item-content []
 
-prefix-append : (xs ys : List (List ℕ)) → Prefix xs (xs ++ ys)
-prefix-append [] ys = start
-prefix-append (x ∷ xs) ys = more (prefix-append xs ys)
+map-length : (xs : List (List ℕ)) → length (map content xs) ≡ length xs
+map-length [] = refl
+map-length (x ∷ xs) = ap suc (map-length xs)
 
 module _ (l : Lent) (request : FundingRequest) (bytes : List ℕ) (b : AllBytes (l .ours)) (e : buildBase l request ≡ fine bytes) (short : length bytes ≤ 133116) where
   abbrev m : Made l request bytes
@@ -281,6 +285,62 @@ module _ (l : Lent) (request : FundingRequest) (bytes : List ℕ) (b : AllBytes 
       later-outputs-are : drop 1 (txAt bytes .outputs) ≡ drop 1 (txAt (l .ours) .outputs) ++ changes
       later-outputs-are = ap (drop 1) all-outputs ∙ ap (λ (xs : List (List ℕ)). xs ++ changes) (later-is (rawField (l .ours) 4) after refl)
 
+  -- ---- the comparison
+
+  abbrev before : Tx
+  before = txAt (l .ours)
+
+  deps-kept : Distinct (before .cellDeps) → Prefix (before .cellDeps) (txAt bytes .cellDeps)
+  deps-kept d =
+      subst (λ (xs : List (List ℕ)). Prefix (before .cellDeps) xs) (sym all-deps)
+      (deps-begin (before .cellDeps) (fixItems 37 (ifPositive (m .pick .taken) (l .udtDeps))) (ifAny (ifPositive (m .pick .taken) (l .lockDep))) (fixItems 37 (l .extraDeps)) d)
+    where
+      all-deps : txAt bytes .cellDeps ≡ pushAll [] (allDeps (rawField (l .ours) 1) (ifPositive (m .pick .taken) (l .udtDeps)) (ifPositive (m .pick .taken) (l .lockDep)) (l .extraDeps))
+      all-deps = unfold baseTx in unfold cellDeps in reads .cellDeps
+
+  outputs-count : length (before .outputs) ≤ length (txAt bytes .outputs)
+  outputs-count =
+      let p = prefix-length (keeps .outputs) in
+      let n : length (txAt bytes .outputs) ≡ suc (length (later (rawField (l .ours) 4) after ++ changes)) = ap length all-outputs in
+      omega (arith, length-drop 1 (before .outputs), length-drop 1 (txAt bytes .outputs))
+
+  abbrev entries : List ℕ
+  entries = rawField (l .ours) 5
+
+  later-count : length (map content (later entries after ++ changed)) ≡ after + length changed
+  unfolding later
+  later-count =
+      ap length (map-append (later entries after) changed) ∙ length-append (map content (later entries after)) (map content changed)
+      ∙ ap₂ _+_ (map-length (later entries after) ∙ span-length (itemOr entries) 1 after) (map-length changed)
+
+  data-count : length (before .outputsData) ≤ length (before .outputs) → length (before .outputsData) ≤ length (txAt bytes .outputsData)
+  data-count h =
+      let n : length (txAt bytes .outputsData) ≡ suc (length (map content (later entries after ++ changed))) = ap length all-data in
+      omega (arith, later-count)
+
+  data-kept : length (before .outputsData) ≤ length (before .outputs) → Prefix (drop 1 (before .outputsData)) (drop 1 (txAt bytes .outputsData))
+  data-kept h = rw (tail, rest) (prefix-trans here (prefix-append (map content (later entries after)) (map content changed)))
+    where
+      tail : drop 1 (before .outputsData) ≡ span (entryOf entries) 1 (itemCount entries - 1)
+      tail = span-drop (entryOf entries) 1 0 (itemCount entries)
+
+      rest : drop 1 (txAt bytes .outputsData) ≡ map content (later entries after) ++ map content changed
+      rest = ap (drop 1) all-data ∙ map-append (later entries after) changed
+
+      here : Prefix (span (entryOf entries) 1 (itemCount entries - 1)) (map content (later entries after))
+      here = unfold later in
+          (let n : length (before .outputsData) ≡ itemCount entries = span-length (entryOf entries) 0 (itemCount entries) in
+          entries-begin entries 1 (itemCount entries - 1) after (omega arith) (omega arith))
+
+  compares : Passes l request bytes
+  compares d n =
+      let f = funds in
+      let k = keeps in
+      sym (passes (l .lock) (l .udt) before (txAt bytes) (sym (k .version)) (deps-kept d) (subst (λ (xs : List (List ℕ)). Prefix (before .headerDeps) xs) (sym (k .headerDeps)) (prefix-refl (before .headerDeps)))
+      (k .inputs) outputs-count (has-lock (l .lock) (l .udt) (f .isFirst) (f .lock)) (has-type (l .lock) (l .udt) (f .isFirst) (f .typeScript))
+      (has-data (l .lock) (l .udt) (f .isFirst) (toLe 16 (f .cell .token)) (f .content)) (k .outputs) (data-count n) (data-kept n))
+      ∙ (unfold check in unfold checkWith in refl)
+
 -- "the result is readable"
 pub is-readable : Readable
 is-readable l request bytes b e short = reads-back l request bytes b e short
@@ -292,3 +352,7 @@ first-output l request bytes b e short = funds l request bytes b e short
 -- "present inputs and outputs after 0 keep their places"
 pub kept : Kept
 kept l request bytes b e short = keeps l request bytes b e short
+
+-- "a peer that receives it with the same lock and type finds nothing of its own changed"
+pub compared : Compared
+compared l request bytes b e short = compares l request bytes b e short

@@ -2,7 +2,7 @@
 -- transaction. The proofs are proofs/Base.antt.
 use mathlib.Core.Path.{_≡_}
 use Prim.Native.Nat.{ℕ, _≤_}
-use mathlib.Core.Bool.{true, not, cond}
+use mathlib.Core.Bool.{true, false, not, cond}
 use mathlib.Core.List.{List, [], _∷_, _++_}
 use lib.ListN.{length, drop}
 use Rattle.arithmetic.specs.LittleEndian.{toLe, AllBytes}
@@ -10,12 +10,13 @@ use Rattle.arithmetic.specs.Amount.{value}
 use Rattle.molecule.specs.Items.{join}
 use Rattle.molecule.specs.Layout.{itemsOf}
 use Rattle.molecule.specs.Molecule.{readable}
+use Rattle.lists.specs.Lists.{contains}
 use Rattle.transaction.specs.Ckb.{Transaction}
 use Rattle.transaction.specs.Tx.{txAt, capacityOf, lockOf, typeOf}
 use Rattle.rules.specs.Cells.{Cell, cells}
 use Rattle.rules.specs.Outcome.{Outcome, fine}
 use Rattle.rules.specs.Surplus.{isEmpty}
-use Rattle.rules.specs.Judge.{Figures}
+use Rattle.rules.specs.Judge.{Figures, comparison}
 use Rattle.rules.specs.Step.{Prefix}
 use Rattle.funding_cell.specs.declared.FundingRequest.{FundingRequest}
 use Rattle.funding_cell.specs.FundingCell.{fundingCell}
@@ -64,6 +65,19 @@ pub record Keeps (l : Lent) (request : FundingRequest) (bytes : List ℕ) : Type
   pub inputs : Prefix (txAt (l .ours) .inputs) (txAt bytes .inputs)
   pub outputs : Prefix (drop 1 (txAt (l .ours) .outputs)) (drop 1 (txAt bytes .outputs))
 
+-- none of them stands there twice
+abbrev pub Distinct : List (List ℕ) → Type 0
+Distinct [] = Unit {0}
+Distinct (x ∷ xs) = (contains x xs ≡ false) × Distinct xs
+
+-- "a peer that receives it with the same lock and type finds nothing of its own changed (our base passes 01's comparison against the present
+-- transaction, but for the cases that DIFFERENCES.md names with their smallest inputs: repeated cell deps, and data entries beyond the outputs, both
+-- dropped as in the Rust)"
+abbrev pub Passes : Lent → FundingRequest → List ℕ → Type 0
+Passes l request bytes =
+    Distinct (txAt (l .ours) .cellDeps) → length (txAt (l .ours) .outputsData) ≤ length (txAt (l .ours) .outputs)
+    → comparison (l .lock) (l .udt) (txAt (l .ours)) (txAt bytes) ≡ fine tt
+
 abbrev pub Readable : Type 0
 Readable = Built ReadsBack
 
@@ -72,3 +86,6 @@ FirstOutput = Built Funds
 
 abbrev pub Kept : Type 0
 Kept = Built Keeps
+
+abbrev pub Compared : Type 0
+Compared = Built Passes

@@ -1,4 +1,5 @@
 pub mod Base
 pub mod Claims
+pub mod CompareLaws
 pub mod FormLaws
 pub mod PackedLaws
