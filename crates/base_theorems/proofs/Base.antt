@@ -1,11 +1,13 @@
 -- The claims on the base transaction, proved.
 use mathlib.Core.Path.{_≡_, refl, sym, ap, ap₂, _∙_, subst}
 use Prim.Native.Nat.{ℕ, zero, suc, _+_, _-_, _^_, _≤_, _<_}
-use mathlib.Core.Bool.{Bool, true, false, not, cond, _&&_}
+use mathlib.Core.Bool.{Bool, true, false, not, cond, _&&_, and-eq-true-iff}
 use mathlib.Core.List.{List, [], _∷_, _++_, map}
 use native.Mathlib.Omega.{arith}
-use lib.Dec.{T, ltb, ltb→lt}
-use lib.ListN.{length, drop, length-append, length-drop}
+use borrow.Author.Tests.{leb-true}
+use lib.Dec.{T, leb, ltb, ltb→lt}
+use lib.ListN.{length, take, drop, length-append, length-drop}
+use lib.Seq.{take-at}
 use Rattle.arithmetic.specs.LittleEndian.{toLe, AllBytes}
 use Rattle.arithmetic.proofs.LittleEndianLaws.{length-toLe}
 use Rattle.arithmetic.specs.Amount.{value}
@@ -20,14 +22,16 @@ use Rattle.lists.proofs.SpanLaws.{span-drop}
 use Rattle.transaction.specs.Ckb.{Bytes, CellDep, CellDeps, Script, CellOutput, Transaction, TokenCells}
 use Rattle.transaction.specs.Tx.{Tx, txAt, rawField, capacityOf, lockOf, typeOf}
 use Rattle.transaction.proofs.ListLaws.{option-none}
+use Rattle.transaction_writer.specs.declared.Written.{Written}
+use Rattle.transaction_writer.specs.Written.{fits}
 use Rattle.transaction_writer.proofs.PutLaws.{tx-length}
 use Rattle.rules.specs.Cells.{Cell, pair, cells}
-use Rattle.rules.specs.Outcome.{Outcome, fine, check, checkWith, _>>=_, _>>_}
+use Rattle.rules.specs.Outcome.{Outcome, fine, refused, check, checkWith, _>>=_, _>>_}
 use Rattle.rules.specs.Surplus.{isEmpty}
 use Rattle.rules.specs.Judge.{Figures, scripts}
 use Rattle.rules.specs.Step.{Prefix}
 use Rattle.rules.proofs.Telescope.{prefix-refl, prefix-trans, prefix-length}
-use Rattle.rules.proofs.Tests.{fine-inj, bind-fine, check-fine, check-last, then-fine}
+use Rattle.rules.proofs.Tests.{never, fine-inj, bind-fine, check-fine, check-last, then-fine}
 use Rattle.funding_cell.specs.declared.FundingRequest.{FundingRequest}
 use Rattle.funding_cell.specs.FundingCell.{fundingCell, cellOfSums, cellOf}
 use Rattle.udt_cells.specs.CellOutput.{cellOutput as plainOutput}
@@ -38,9 +42,10 @@ use Rattle.base_inputs.specs.BaseInputs.{picked, inputList}
 use Rattle.base_lists.specs.BaseLists.{cellOutput, amountItem, outputList, dataList, witnessList}
 use Rattle.cell_deps.specs.CellDeps.{pushAll, allDeps, cellDeps}
 use Rattle.cell_deps.proofs.LongLaws.{long-append, cell-deps-long}
+use Rattle.base_writer.specs.Answer.{inRoom, leaves, written, told}
 use Rattle.funding_builder.specs.Base.{Lent, Packed, packed, baseTx, changeCapacity, supplied, lists, withPick, withCell, withRequest, buildBase}
 use Rattle.funding_builder.proofs.PresentLaws.{deps-readable, option-of}
-use Rattle.base_theorems.proofs.Claims.{Figured, ReadsBack, Funds, Keeps, Distinct, Passes, Readable, FirstOutput, Kept, Compared}
+use Rattle.base_theorems.proofs.Claims.{Figured, ReadsBack, Funds, Keeps, Distinct, Passes, Readable, FirstOutput, Kept, Compared, OfCalls}
 use Rattle.base_theorems.proofs.PackedLaws.{Formed, ReadsAs, reads-as, item-readable, item-content}
 use Rattle.base_theorems.proofs.CompareLaws.{prefix-append, deps-begin, entries-begin, map-append, has-lock, has-type, has-data, passes}
 use Rattle.base_theorems.proofs.FormLaws.{of-T, Present, present, version-low, every-append, later-is, later-outputs, later-data, all-right, last-every, cell-readable, witnesses-readable, picked-long}
@@ -356,3 +361,40 @@ kept l request bytes b e short = keeps l request bytes b e short
 -- "a peer that receives it with the same lock and type finds nothing of its own changed"
 pub compared : Compared
 compared l request bytes b e short = compares l request bytes b e short
+
+-- ---- what `build_base` leaves in the lent buffer
+
+record Left (tx : Outcome (List ℕ)) (after : List ℕ) (n : ℕ) : Type 0 where
+  pub bytes : List ℕ
+  pub isBuilt : tx ≡ fine bytes
+  pub short : length bytes ≤ 133116
+  pub begins : take n after ≡ bytes
+
+fits-short : (n room : ℕ) → fits n room ≡ true → n ≤ 133116
+unfolding fits
+fits-short n room h = leb-true n 133116 (and-eq-true-iff (leb n 133116) (leb n room) .0 h .0)
+
+left : (tx : Outcome (List ℕ)) (out after : List ℕ) (n : ℕ) → (told (Written.Wrote n), after) ≡ written tx out → Left tx after n
+unfolding leaves
+left tx out after n e = by (inRoom out tx) refl e
+  where
+    by : (o : Outcome (List ℕ)) → inRoom out tx ≡ o → (told (Written.Wrote n), after) ≡ leaves o out → Left tx after n
+    by (refused k x) f g = absurd (never k x n (sym (ap (λ (p : Outcome ℕ × List ℕ). p .0) g)))
+    by (fine bytes) f g =
+        let many : n ≡ length bytes = fine-inj (ap (λ (p : Outcome ℕ × List ℕ). p .0) g) in
+        let holds : after ≡ bytes ++ drop (length bytes) out = ap (λ (p : Outcome ℕ × List ℕ). p .1) g in
+        let (made, i, h) = bind-fine tx (λ (x : List ℕ). check 13 (fits (length x) (length out)) >> fine x) bytes (unfold inRoom in f) in
+        let (room, q) = check-fine 13 (fits (length made) (length out)) (fine made) bytes h in
+        let same : made ≡ bytes = fine-inj q in
+        record {
+          bytes = bytes;
+          isBuilt = i ∙ ap fine same;
+          short = subst (λ (x : List ℕ). length x ≤ 133116) same (fits-short (length made) (length out) (of-T _ room));
+          begins = ap (take n) holds ∙ take-at bytes (drop (length bytes) out) n (sym many);
+        }
+
+-- what is proved of built bytes holds of those that a call writes
+pub of-calls : OfCalls
+of-calls P h l request out after n b e =
+    let x = left (buildBase l request) out after n e in
+    subst (λ (s : List ℕ). P l request s) (sym (x .begins)) (h l request (x .bytes) b (x .isBuilt) (x .short))

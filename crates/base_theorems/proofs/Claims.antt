@@ -1,10 +1,10 @@
--- What is proved of the base transaction (01-scope.md, "Our own side"): of every call of `buildBase` that is not refused, where the bytes fit a
--- transaction. The proofs are proofs/Base.antt.
+-- What is proved of the base transaction (01-scope.md, "Our own side"): of the bytes of `buildBase`, where they fit a transaction, and so (`of-calls`)
+-- of what `build_base` writes. The proofs are proofs/Base.antt.
 use mathlib.Core.Path.{_≡_}
 use Prim.Native.Nat.{ℕ, _≤_}
 use mathlib.Core.Bool.{true, false, not, cond}
 use mathlib.Core.List.{List, [], _∷_, _++_}
-use lib.ListN.{length, drop}
+use lib.ListN.{length, take, drop}
 use Rattle.arithmetic.specs.LittleEndian.{toLe, AllBytes}
 use Rattle.arithmetic.specs.Amount.{value}
 use Rattle.molecule.specs.Items.{join}
@@ -22,12 +22,21 @@ use Rattle.funding_cell.specs.declared.FundingRequest.{FundingRequest}
 use Rattle.funding_cell.specs.FundingCell.{fundingCell}
 use Rattle.udt_cells.specs.Pick.{Pick, pickTyped}
 use Rattle.list_writer.specs.ListWriter.{fixList}
+use Rattle.transaction_writer.specs.declared.Written.{Written}
+use Rattle.base_writer.specs.Answer.{written, told}
 use Rattle.transaction_theorems.proofs.WrittenReads.{HasFields}
 use Rattle.funding_builder.specs.Base.{Lent, Packed, baseTx, buildBase}
 
 -- P holds of the bytes of each call that is not refused, if they fit a transaction
 abbrev pub Built : (Lent → FundingRequest → List ℕ → Type 0) → Type 0
 Built P = (l : Lent) (request : FundingRequest) (bytes : List ℕ) → AllBytes (l .ours) → buildBase l request ≡ fine bytes → length bytes ≤ 133116 → P l request bytes
+
+-- P holds of the bytes that a call of `build_base` leaves at the start of the lent buffer, where it answers that it wrote n bytes: the premise is its
+-- contract
+abbrev pub Called : (Lent → FundingRequest → List ℕ → Type 0) → Type 0
+Called P =
+    (l : Lent) (request : FundingRequest) (out after : List ℕ) (n : ℕ) → AllBytes (l .ours) → (told (Written.Wrote n), after) ≡ written (buildBase l request) out
+    → P l request (take n after)
 
 -- the figures of the funding cell, and the pick
 pub record Figured (l : Lent) (request : FundingRequest) (cell : Figures) (pick : Pick) : Type 0 where
@@ -89,3 +98,6 @@ Kept = Built Keeps
 
 abbrev pub Compared : Type 0
 Compared = Built Passes
+
+abbrev pub OfCalls : Type 1
+OfCalls = (P : Lent → FundingRequest → List ℕ → Type 0) → Built P → Called P
