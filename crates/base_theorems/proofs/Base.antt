@@ -36,6 +36,8 @@ use Rattle.funding_cell.specs.declared.FundingRequest.{FundingRequest}
 use Rattle.funding_cell.specs.FundingCell.{fundingCell, cellOfSums, cellOf}
 use Rattle.udt_cells.specs.CellOutput.{cellOutput as plainOutput}
 use Rattle.udt_cells.proofs.OutputReads.{output-lock, output-type, output-capacity}
+use Rattle.udt_cells.specs.Change.{capacityFor}
+use Rattle.udt_cells.proofs.CellOutputLaws.{output-length}
 use Rattle.udt_cells.specs.Pick.{Pick, pickTyped}
 use Rattle.list_writer.specs.ListWriter.{fixList, bytesItem, itemOr, later, ifAny, ifPositive}
 use Rattle.base_inputs.specs.BaseInputs.{picked, inputList}
@@ -45,9 +47,9 @@ use Rattle.cell_deps.proofs.LongLaws.{long-append, cell-deps-long}
 use Rattle.base_writer.specs.Answer.{inRoom, leaves, written, told}
 use Rattle.funding_builder.specs.Base.{Lent, Packed, packed, baseTx, changeCapacity, supplied, lists, withPick, withCell, withRequest, buildBase}
 use Rattle.funding_builder.proofs.PresentLaws.{deps-readable, option-of}
-use Rattle.base_theorems.proofs.Claims.{Figured, ReadsBack, Funds, Keeps, Distinct, Passes, Readable, FirstOutput, Kept, Compared, OfCalls}
+use Rattle.base_theorems.proofs.Claims.{Figured, ReadsBack, Funds, Keeps, Distinct, Passes, Readable, FirstOutput, Kept, Compared, Tidy, Tidied, OfCalls}
 use Rattle.base_theorems.proofs.PackedLaws.{Formed, ReadsAs, reads-as, item-readable, item-content}
-use Rattle.base_theorems.proofs.CompareLaws.{prefix-append, deps-begin, entries-begin, map-append, has-lock, has-type, has-data, passes}
+use Rattle.base_theorems.proofs.CompareLaws.{prefix-append, deps-begin, all-distinct, entries-begin, map-append, has-lock, has-type, has-data, passes}
 use Rattle.base_theorems.proofs.FormLaws.{of-T, Present, present, version-low, every-append, later-is, later-outputs, later-data, all-right, last-every, cell-readable, witnesses-readable, picked-long}
 
 -- ---- what a call that is not refused has found
@@ -135,6 +137,38 @@ capacity-low false typed r f e = sums-low typed _ _ f e
 first-content : (typed : Bool) (n : ℕ) → content (cond typed (amountItem n) (bytesItem [])) ≡ cond typed (toLe 16 n) []
 first-content true n = item-content (toLe 16 n)
 first-content false n = item-content []
+
+-- there is a change output exactly if there is change
+positive-is : (n : ℕ) (x : List ℕ) → 0 < n → ifPositive n x ≡ x
+unfolding ifPositive
+positive-is zero x h = let z : ⊥ = omega arith in absurd z
+positive-is (suc n) x h = refl
+
+any-one : (x : List ℕ) → 0 < length x → length (ifAny x) ≡ 1
+unfolding ifAny
+any-one [] h = let z : ⊥ = omega arith in absurd z
+any-one (b ∷ x) h = refl
+
+some-count : (n : ℕ) (x : List ℕ) → 0 < n → 0 < length x → length (ifAny (ifPositive n x)) ≡ 1
+some-count n x h k = ap (λ (y : List ℕ). length (ifAny y)) (positive-is n x h) ∙ any-one x k
+
+output-some : (c : ℕ) (lock udt : List ℕ) → 0 < length (cellOutput c lock udt)
+output-some c lock udt = omega (arith, ap length (plain c lock udt), output-length c lock udt)
+
+amount-some : (n : ℕ) → 0 < length (amountItem n)
+unfolding bytesItem
+amount-some n = omega (arith, length-append (toLe 4 (length (toLe 16 n))) (toLe 16 n), length-toLe 16 n)
+
+capacity-some : (source udt : List ℕ) → 0 < capacityFor source udt
+capacity-some source udt = omega arith
+
+change-count : (source udt : List ℕ) (c : ℕ)
+    → length (ifAny (ifPositive (changeCapacity c source udt) (cellOutput (changeCapacity c source udt) source udt))) ≡ length (ifAny (ifPositive c (amountItem c)))
+unfolding changeCapacity
+change-count source udt zero = unfold ifPositive in unfold ifAny in refl
+change-count source udt (suc n) =
+    some-count (capacityFor source udt) (cellOutput (capacityFor source udt) source udt) (capacity-some source udt) (output-some (capacityFor source udt) source udt)
+    ∙ sym (some-count (suc n) (amountItem (suc n)) (omega arith) (amount-some (suc n)))
 
 map-length : (xs : List (List ℕ)) → length (map content xs) ≡ length xs
 map-length [] = refl
@@ -295,13 +329,14 @@ module _ (l : Lent) (request : FundingRequest) (bytes : List ℕ) (b : AllBytes 
   abbrev before : Tx
   before = txAt (l .ours)
 
+  all-deps : txAt bytes .cellDeps ≡ pushAll [] (allDeps (rawField (l .ours) 1) (ifPositive (m .pick .taken) (l .udtDeps)) (ifPositive (m .pick .taken) (l .lockDep)) (l .extraDeps))
+  unfolding baseTx cellDeps
+  all-deps = reads .cellDeps
+
   deps-kept : Distinct (before .cellDeps) → Prefix (before .cellDeps) (txAt bytes .cellDeps)
   deps-kept d =
       subst (λ (xs : List (List ℕ)). Prefix (before .cellDeps) xs) (sym all-deps)
       (deps-begin (before .cellDeps) (fixItems 37 (ifPositive (m .pick .taken) (l .udtDeps))) (ifAny (ifPositive (m .pick .taken) (l .lockDep))) (fixItems 37 (l .extraDeps)) d)
-    where
-      all-deps : txAt bytes .cellDeps ≡ pushAll [] (allDeps (rawField (l .ours) 1) (ifPositive (m .pick .taken) (l .udtDeps)) (ifPositive (m .pick .taken) (l .lockDep)) (l .extraDeps))
-      all-deps = unfold baseTx in unfold cellDeps in reads .cellDeps
 
   outputs-count : length (before .outputs) ≤ length (txAt bytes .outputs)
   outputs-count =
@@ -346,6 +381,18 @@ module _ (l : Lent) (request : FundingRequest) (bytes : List ℕ) (b : AllBytes 
       (has-data (l .lock) (l .udt) (f .isFirst) (toLe 16 (f .cell .token)) (f .content)) (k .outputs) (data-count n) (data-kept n))
       ∙ (unfold check in unfold checkWith in refl)
 
+  -- ---- deps and data of the base itself
+
+  tidy : Tidy l request bytes
+  tidy =
+      let n : length (txAt bytes .outputs) ≡ suc (length (later (rawField (l .ours) 4) after ++ changes)) = ap length all-outputs in
+      let k : length (txAt bytes .outputsData) ≡ suc (length (map content (later entries after ++ changed))) = ap length all-data in
+      let o : length (later (rawField (l .ours) 4) after) ≡ after = unfold later in span-length (itemOr (rawField (l .ours) 4)) 1 after in
+      record {
+        cellDeps = subst (λ (xs : List (List ℕ)). Distinct xs) (sym all-deps) (all-distinct [] (allDeps (rawField (l .ours) 1) (ifPositive (m .pick .taken) (l .udtDeps)) (ifPositive (m .pick .taken) (l .lockDep)) (l .extraDeps)) tt);
+        outputsData = omega (arith, later-count, length-append (later (rawField (l .ours) 4) after) changes, change-count (l .source) (l .udt) (m .pick .change));
+      }
+
 -- "the result is readable"
 pub is-readable : Readable
 is-readable l request bytes b e short = reads-back l request bytes b e short
@@ -361,6 +408,10 @@ kept l request bytes b e short = keeps l request bytes b e short
 -- "a peer that receives it with the same lock and type finds nothing of its own changed"
 pub compared : Compared
 compared l request bytes b e short = compares l request bytes b e short
+
+-- "first occurrence only"; "each output's data, empty if missing"
+pub tidied : Tidied
+tidied l request bytes b e short = tidy l request bytes b e short
 
 -- ---- what `build_base` leaves in the lent buffer
 

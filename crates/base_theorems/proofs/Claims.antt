@@ -87,6 +87,12 @@ Passes l request bytes =
     Distinct (txAt (l .ours) .cellDeps) → length (txAt (l .ours) .outputsData) ≤ length (txAt (l .ours) .outputs)
     → comparison (l .lock) (l .udt) (txAt (l .ours)) (txAt bytes) ≡ fine tt
 
+-- "first occurrence only"; "each output's data, empty if missing": so the premises of `Passes` hold of a base that is the present transaction of a
+-- further one
+pub record Tidy (l : Lent) (request : FundingRequest) (bytes : List ℕ) : Type 0 where
+  pub cellDeps : Distinct (txAt bytes .cellDeps)
+  pub outputsData : length (txAt bytes .outputsData) ≡ length (txAt bytes .outputs)
+
 abbrev pub Readable : Type 0
 Readable = Built ReadsBack
 
@@ -98,6 +104,9 @@ Kept = Built Keeps
 
 abbrev pub Compared : Type 0
 Compared = Built Passes
+
+abbrev pub Tidied : Type 0
+Tidied = Built Tidy
 
 abbrev pub OfCalls : Type 1
 OfCalls = (P : Lent → FundingRequest → List ℕ → Type 0) → Built P → Called P

@@ -136,6 +136,26 @@ deps-begin a b c d h =
     prefix-trans (all-grow (pushAll [] a) b) (prefix-trans (all-grow (pushAll (pushAll [] a) b) c) (all-grow (pushAll (pushAll (pushAll [] a) b) c) d)) in
     subst (λ (l : List (List ℕ)). Prefix a l) (sym q) (subst (λ (l : List (List ℕ)). Prefix l (pushAll (pushAll (pushAll (pushAll [] a) b) c) d)) e p)
 
+distinct-last : (deps : List (List ℕ)) (x : List ℕ) → Distinct deps → contains x deps ≡ false → Distinct (deps ++ (x ∷ []))
+unfolding contains
+distinct-last [] x d h = (refl, tt)
+distinct-last (y ∷ deps) x d h =
+    let c = cond-false (eqBytes x y) (contains x deps) h in
+    (not-last y x deps (d .0) (other x y (c .0)), distinct-last deps x (d .1) (c .1))
+
+pushed-distinct : (deps : List (List ℕ)) (x : List ℕ) → Distinct deps → Distinct (pushed deps x)
+unfolding pushed
+pushed-distinct deps x d = by (contains x deps) refl
+  where
+    by : (b : Bool) → contains x deps ≡ b → Distinct (cond b deps (deps ++ (x ∷ [])))
+    by true h = d
+    by false h = distinct-last deps x d h
+
+pub all-distinct : (deps xs : List (List ℕ)) → Distinct deps → Distinct (pushAll deps xs)
+unfolding pushAll
+all-distinct deps [] d = d
+all-distinct deps (x ∷ xs) d = all-distinct (pushed deps x) xs (pushed-distinct deps x d)
+
 -- ---- data entries
 
 -- those of ours, and empty ones for the outputs that have none
