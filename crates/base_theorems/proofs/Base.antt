@@ -5,7 +5,7 @@ use mathlib.Core.Bool.{Bool, true, false, not, cond, _&&_, and-eq-true-iff}
 use mathlib.Core.List.{List, [], _∷_, _++_, map}
 use native.Mathlib.Omega.{arith}
 use borrow.Author.Tests.{leb-true}
-use lib.Dec.{T, leb, ltb, ltb→lt}
+use lib.Dec.{leb, ltb, ltb→lt}
 use lib.ListN.{length, take, drop, length-append, length-drop}
 use lib.Seq.{take-at}
 use Rattle.arithmetic.specs.LittleEndian.{toLe, AllBytes}
@@ -13,7 +13,7 @@ use Rattle.arithmetic.proofs.LittleEndianLaws.{length-toLe}
 use Rattle.arithmetic.specs.Amount.{value}
 use Rattle.molecule.specs.Partial.{All}
 use Rattle.molecule.specs.Items.{join}
-use Rattle.molecule.specs.Layout.{span, itemsOf, itemOf, itemCount, fixItems, content, entryOf}
+use Rattle.molecule.specs.Layout.{span, itemsOf, itemCount, fixItems, content, entryOf}
 use Rattle.molecule.specs.Molecule.{readable, option}
 use Rattle.molecule.proofs.ItemsLaws.{short-join}
 use Rattle.molecule.proofs.Offsets.{span-length}
@@ -25,8 +25,8 @@ use Rattle.transaction.proofs.ListLaws.{option-none}
 use Rattle.transaction_writer.specs.declared.Written.{Written}
 use Rattle.transaction_writer.specs.Written.{fits}
 use Rattle.transaction_writer.proofs.PutLaws.{tx-length}
-use Rattle.rules.specs.Cells.{Cell, pair, cells}
-use Rattle.rules.specs.Outcome.{Outcome, fine, refused, check, checkWith, _>>=_, _>>_}
+use Rattle.rules.specs.Cells.{pair, cells}
+use Rattle.rules.specs.Outcome.{Outcome, fine, refused, check, checkWith, _>>_}
 use Rattle.rules.specs.Surplus.{isEmpty}
 use Rattle.rules.specs.Judge.{Figures, scripts}
 use Rattle.rules.specs.Step.{Prefix}
@@ -41,7 +41,7 @@ use Rattle.udt_cells.proofs.CellOutputLaws.{output-length}
 use Rattle.udt_cells.specs.Pick.{Pick, pickTyped}
 use Rattle.list_writer.specs.ListWriter.{fixList, bytesItem, itemOr, later, ifAny, ifPositive}
 use Rattle.base_inputs.specs.BaseInputs.{picked, inputList}
-use Rattle.base_lists.specs.BaseLists.{cellOutput, amountItem, outputList, dataList, witnessList}
+use Rattle.base_lists.specs.BaseLists.{cellOutput, amountItem, outputList, dataList}
 use Rattle.cell_deps.specs.CellDeps.{pushAll, allDeps, cellDeps}
 use Rattle.cell_deps.proofs.LongLaws.{long-append, cell-deps-long}
 use Rattle.base_writer.specs.Answer.{inRoom, leaves, written, told}

@@ -3,7 +3,7 @@
 use mathlib.Core.Path.{_≡_}
 use Prim.Native.Nat.{ℕ, _≤_}
 use mathlib.Core.Bool.{true, false, not, cond}
-use mathlib.Core.List.{List, [], _∷_, _++_}
+use mathlib.Core.List.{List, [], _∷_}
 use lib.ListN.{length, take, drop}
 use Rattle.arithmetic.specs.LittleEndian.{toLe, AllBytes}
 use Rattle.arithmetic.specs.Amount.{value}
@@ -14,7 +14,7 @@ use Rattle.lists.specs.Lists.{contains}
 use Rattle.transaction.specs.Ckb.{Transaction}
 use Rattle.transaction.specs.Tx.{txAt, capacityOf, lockOf, typeOf}
 use Rattle.rules.specs.Cells.{Cell, cells}
-use Rattle.rules.specs.Outcome.{Outcome, fine}
+use Rattle.rules.specs.Outcome.{fine}
 use Rattle.rules.specs.Surplus.{isEmpty}
 use Rattle.rules.specs.Judge.{Figures, comparison}
 use Rattle.rules.specs.Step.{Prefix}

@@ -1,25 +1,24 @@
 -- A transaction that begins as ours passes the comparison; distinct deps, pushed one by one, stand where they stood.
 use mathlib.Core.Path.{_≡_, refl, sym, ap, ap₂, _∙_, subst}
-use Prim.Native.Nat.{ℕ, zero, suc, _+_, _-_, _≤_, _<_}
+use Prim.Native.Nat.{ℕ, zero, suc, _-_, _≤_}
 use mathlib.Core.Bool.{Bool, true, false, not, cond, _&&_, _||_, and-eq-true-iff}
 use mathlib.Core.List.{List, [], _∷_, _++_, map, append-assoc, append-nil}
 use native.Mathlib.Omega.{arith}
 use borrow.Author.Tests.{lt-ltb, le-leb, eq-eqb}
-use lib.Dec.{leb, eqb}
 use lib.ListN.{length, drop}
 use Rattle.molecule.specs.Partial.{All}
-use Rattle.molecule.specs.Layout.{span, itemOf, itemCount, content, entryOf}
+use Rattle.molecule.specs.Layout.{span, itemCount, content, entryOf}
 use Rattle.lists.specs.Lists.{eqBytes, agree, contains, containsAll}
 use Rattle.lists.proofs.EqualLaws.{eq-refl, eq-true}
 use Rattle.transaction.specs.Tx.{Tx, lockOf, typeOf}
 use Rattle.rules.specs.Cells.{Cell, cells}
-use Rattle.rules.specs.Outcome.{Outcome, fine, check, checkWith, _>>_}
+use Rattle.rules.specs.Outcome.{check}
 use Rattle.rules.specs.Surplus.{isOf, isEmpty}
 use Rattle.rules.specs.Judge.{atFirst, hasLock, noDataUntyped, comparison}
 use Rattle.rules.specs.Step.{Prefix, start, more}
 use Rattle.rules.proofs.Telescope.{prefix-refl, prefix-trans, prefix-length}
 use Rattle.rules.proofs.Checks.{pass, last-is}
-use Rattle.list_writer.specs.ListWriter.{itemOr, bytesItem}
+use Rattle.list_writer.specs.ListWriter.{itemOr}
 use Rattle.cell_deps.specs.CellDeps.{pushed, pushAll}
 use Rattle.base_theorems.proofs.Claims.{Distinct}
 

@@ -1,33 +1,32 @@
 -- The lists of a base transaction are in their forms.
 use mathlib.Core.Path.{_≡_, refl, sym, ap, ap₂, _∙_, subst}
 use Prim.Native.Nat.{ℕ, zero, suc, _+_, _-_, _^_, _≤_, _<_}
-use mathlib.Core.Bool.{Bool, true, false, not, cond, _&&_, and-eq-true-iff}
+use mathlib.Core.Bool.{Bool, true, false, cond, _&&_, and-eq-true-iff}
 use mathlib.Core.List.{List, [], _∷_, _++_, flatten}
 use native.Mathlib.Omega.{arith}
 use borrow.Author.Tests.{lt-ltb, ltb-true, leb-true, eqb-true, ne-eqb}
-use lib.Dec.{T, eqb, ltb, leb}
+use lib.Dec.{T, ltb, leb}
 use lib.ListN.{length, take, drop, replicate, length-append}
 use lib.Seq.{length-take-le}
 use Rattle.arithmetic.specs.LittleEndian.{le, toLe, numAt, AllBytes, u32At}
 use Rattle.arithmetic.proofs.LittleEndianLaws.{length-toLe, le-lt}
 use Rattle.molecule.specs.Partial.{All}
 use Rattle.molecule.specs.Items.{join, unwords, offsets}
-use Rattle.molecule.specs.Layout.{part, start, word, span, fieldOf, hasItems, itemOf, itemCount, itemsOf, fixItem, fixItems, fixCount}
-use Rattle.molecule.specs.Molecule.{Ty, fixvec, dynvec, option, table, end, _&_, size, sizes, readable}
+use Rattle.molecule.specs.Layout.{part, start, word, span, fieldOf, hasItems, itemOf, itemCount, itemsOf, fixItems}
+use Rattle.molecule.specs.Molecule.{Ty, fixvec, dynvec, option, end, _&_, size, sizes, readable}
 use Rattle.molecule.proofs.Valid.{fixed, allFixed}
 use Rattle.molecule.proofs.LayoutLaws.{part-none}
-use Rattle.molecule.proofs.ItemsLaws.{bytes-take, bytes-drop, short-join}
-use Rattle.molecule.proofs.Offsets.{upTo, up-all, span-length}
+use Rattle.molecule.proofs.ItemsLaws.{bytes-take, bytes-drop}
+use Rattle.molecule.proofs.Offsets.{up-all, span-length}
 use Rattle.molecule.proofs.ChunksLaws.{Long}
 use Rattle.molecule.proofs.HeaderLaws.{count, dynvec-readable, table-readable}
 use Rattle.molecule.proofs.ReadableLaws.{every, allReadable, readable-option, readable-fixed}
 use Rattle.lists.proofs.SpanLaws.{span-drop}
-use Rattle.transaction.specs.Ckb.{Byte32, Bytes, OutPoint, CellDep, CellDeps, CellInput, Script, CellOutput, Transaction, TokenCell, TokenCells}
+use Rattle.transaction.specs.Ckb.{Byte32, Bytes, OutPoint, CellDep, CellInput, Script, CellOutput, Transaction, TokenCell, TokenCells}
 use Rattle.transaction.specs.Tx.{txAt, rawField, witnessesOf, firstOf}
-use Rattle.transaction.proofs.ListLaws.{option-none}
 use Rattle.transaction_writer.specs.Written.{inForm}
 use Rattle.transaction_writer.proofs.RewriteLaws.{lists-in-form}
-use Rattle.rules.specs.Outcome.{Outcome, fine, refused, _>>=_}
+use Rattle.rules.specs.Outcome.{fine}
 use Rattle.rules.specs.Surplus.{isEmpty}
 use Rattle.rules.proofs.Tests.{never, fine-inj, bind-fine}
 use Rattle.udt_cells.specs.Pick.{Pick, plusCell, enoughOr, pickFrom, pickTyped}
@@ -37,7 +36,6 @@ use Rattle.list_writer.specs.ListWriter.{bytesItem, itemOr, later, ifAny, ifPos
 use Rattle.list_writer.proofs.AgainLaws.{items-long}
 use Rattle.base_inputs.specs.BaseInputs.{pickedInput, picked}
 use Rattle.base_lists.specs.BaseLists.{cellOutput, placeholder, witnessList}
-use Rattle.cell_deps.proofs.LongLaws.{long-append}
 use Rattle.base_theorems.proofs.PackedLaws.{item-readable}
 
 pub of-T : (b : Bool) → T b → b ≡ true

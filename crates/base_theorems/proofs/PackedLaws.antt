@@ -1,8 +1,8 @@
 -- A transaction packed from lists of items in their forms is readable, and its lists are those lists.
-use mathlib.Core.Path.{_≡_, refl, sym, ap, ap₂, _∙_}
+use mathlib.Core.Path.{_≡_, refl, ap, ap₂, _∙_}
 use Prim.Native.Nat.{ℕ, zero, suc, _+_, _-_, _*_, _^_, _≤_, _<_}
-use mathlib.Core.Bool.{Bool, true, false, _&&_}
-use mathlib.Core.List.{List, [], _∷_, _++_, map, flatten}
+use mathlib.Core.Bool.{true}
+use mathlib.Core.List.{List, _∷_, map, flatten}
 use mathlib.Core.Option.{Option}
 use native.Mathlib.Omega.{arith}
 use borrow.Author.Tests.{lt-ltb, le-leb, eq-eqb}
@@ -12,7 +12,7 @@ use lib.Seq.{take-at, drop-at, take-all}
 use Rattle.arithmetic.specs.LittleEndian.{le, toLe}
 use Rattle.arithmetic.proofs.LittleEndianLaws.{length-toLe, le-toLe}
 use Rattle.molecule.specs.Items.{join}
-use Rattle.molecule.specs.Layout.{part, span, itemOf, itemCount, itemsOf, fixItems, content, entryOf, entriesOf}
+use Rattle.molecule.specs.Layout.{part, span, itemOf, itemsOf, fixItems, content, entryOf}
 use Rattle.molecule.specs.Molecule.{Ty, byte, fixvec, dynvec, size, sizes, readable, chunks}
 use Rattle.molecule.proofs.Valid.{fixed, allFixed}
 use Rattle.molecule.proofs.ItemsLaws.{split-join}
@@ -20,8 +20,8 @@ use Rattle.molecule.proofs.ChunksLaws.{Long, chunks-flatten}
 use Rattle.molecule.proofs.ReadableLaws.{holds, every, readable-dynvec, readable-fixvec}
 use Rattle.molecule.proofs.DecodedLaws.{fix-chunks, split-items}
 use Rattle.transaction.specs.Ckb.{Byte32, Bytes, CellDep, CellInput, CellOutput, Transaction}
-use Rattle.transaction.specs.Tx.{txAt, rawField, witnessesOf}
-use Rattle.transaction_writer.specs.Written.{txBytes, inForm}
+use Rattle.transaction.specs.Tx.{txAt}
+use Rattle.transaction_writer.specs.Written.{inForm}
 use Rattle.transaction_writer.proofs.PutLaws.{tx-length}
 use Rattle.list_writer.specs.ListWriter.{bytesItem, fixList}
 use Rattle.cell_deps.proofs.LongLaws.{list-long}
