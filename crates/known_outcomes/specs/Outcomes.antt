@@ -1,9 +1,8 @@
 -- The known outcomes (01-scope.md, "Case file and known outcomes", the starred ones), as one table: what the definitions compute, and what the
 -- paper says. proofs/KnownOutcomes.antt proves all rows at once.
-use Prim.Native.Nat.{ℕ, _+_, _-_, _^_}
-use mathlib.Core.Bool.{Bool, not}
-use mathlib.Core.List.{List, [], _∷_, map}
-use mathlib.Core.Option.{none, some}
+use Prim.Native.Nat.{ℕ, _+_, _-_, _*_, _^_}
+use mathlib.Core.List.{List, [], _∷_, _++_, map}
+use mathlib.Core.Option.{Option, none, some}
 use lib.ListN.{length, replicate}
 use Rattle.units.specs.declared.{Shannons.Shannons, CheckedShannons.CheckedShannons}
 use Rattle.arithmetic.specs.Amount.{value}
@@ -12,11 +11,14 @@ use Rattle.molecule.specs.Molecule.{encode}
 use Rattle.transaction.specs.Ckb.{CellOutput}
 use Rattle.rules.specs.Outcome as verdict
 use Rattle.rules.specs.Judge.{Figures}
-use Rattle.units.specs.Units.{later}
-use Rattle.out_points.specs.declared.OutPoint.{OutPoint}
-use Rattle.out_points.specs.Tables.{keep}
-use Rattle.hold_records.specs.Holds.{isLive, renewAll, isBusy, firsts, others}
-use Rattle.exclusions.specs.Exclusions.{truncated}
+use Rattle.units.specs.declared.{Millis.Millis, BlockNumber.BlockNumber}
+use Rattle.out_points.specs.declared.{Byte32.Byte32, OutPoint.OutPoint}
+use Rattle.out_points.specs.OutPoints.{points, pointList}
+use Rattle.out_points.specs.Tables as table
+use Rattle.hold_records.specs.declared.{Hold.Hold, Held.Held, Taker.Taker}
+use Rattle.hold_records.specs.Holds.{holdForWatchtower, unavailable, takeCells}
+use Rattle.exclusions.specs.declared.{Row.Row, Slot.Slot, LiveCellsExclusionMap.LiveCellsExclusionMap}
+use Rattle.exclusions.specs.Exclusions.{Entry, entriesOf, commitCall, truncated, applyCall, addCall}
 use Rattle.case_file.specs.CaseFile.{caseLine}
 use Rattle.known_outcomes.specs.CaseFiles.{ascii, file, fileAt, firstFile}
 use Rattle.known_outcomes.specs.Cases.{expectedLock, tokenType, inputs, output, plain, token, amount, spending, crowd, cell, notLive, atRate, offer, Case, untyped, judged}
@@ -73,25 +75,76 @@ inputsTx n = spending (inputs n) (plain 100 ∷ []) ([] ∷ [])
 abbrev pub tokensTx : List ℕ
 tokensTx = spending (inputs 2) (token 100 ∷ []) (amount 5 ∷ [])
 
--- two cells, of index 0 and 1
+-- two cells, of index 1 and 2
 abbrev cellA : OutPoint
-cellA = record { hash = record { a = 0; b = 0; c = 0; d = 0 }; index = 0 }
+cellA = record { hash = record { a = 0; b = 0; c = 0; d = 0 }; index = 1 }
 
 abbrev cellB : OutPoint
-cellB = record { hash = record { a = 0; b = 0; c = 0; d = 0 }; index = 1 }
+cellB = record { hash = record { a = 0; b = 0; c = 0; d = 0 }; index = 2 }
 
--- how many records are left at a time, of one that the watchtower got at 1,000
-abbrev holdsAt : ℕ → List ℕ
-holdsAt time = length (keep (isLive (record { 0 = time })) (renewAll (later (record { 0 = 1000 }) (record { 0 = 1800000 })) [] (cellA ∷ []))) ∷ []
+abbrev ms : ℕ → Millis
+ms n = record { 0 = n }
 
--- held by nobody and not spent
-abbrev isFree : OutPoint → Bool
-isFree p = not (isBusy [] [] p)
+-- room for so many out points
+abbrev room : ℕ → List ℕ
+room n = replicate (4 + 36 * n) 0
 
--- how many entries are left at a tip, of one that was committed at 100
-abbrev entriesAt : ℕ → List ℕ
-entriesAt tip =
-    length (truncated (record { 0 = tip }) (record { hash = record { a = 0; b = 0; c = 0; d = 0 }; committed = some (record { 0 = 100 }); points = [] } ∷ [])) ∷ []
+-- a call's number, and the index of each out point in the buffer that it leaves
+abbrev listed : ℕ × List ℕ → List ℕ
+listed (n, out) = n ∷ map (λ p. p .index) (points out)
+
+-- the number of a call that returns a table, and what the table then means
+abbrev numberOf : {T M : Type 0} → table.Outcome T M → ℕ
+numberOf (table.done l) = 0
+numberOf (table.refused n t) = n
+
+abbrev meantBy : {T A : Type 0} → table.Outcome T (List A) → List A
+meantBy (table.done l) = l
+meantBy (table.refused n t) = []
+
+-- ---- the table of holds
+
+abbrev holdsOf : List Hold → Held
+holdsOf l = record { records = l; count = length l }
+
+-- what is unavailable of A at a time, which the watchtower got at 1,000
+abbrev busyAt : ℕ → List ℕ
+busyAt time = listed (unavailable (holdsOf (meantBy (holdForWatchtower (holdsOf []) (pointList (cellA ∷ [])) (ms 1000)))) (pointList (cellA ∷ [])) (pointList []) (ms time) (room 1))
+
+-- A, A, B picked from an empty table
+abbrev pickedAAB : table.Outcome Held (List Hold) × List ℕ × List ℕ
+pickedAAB = takeCells (holdsOf []) (pointList (cellA ∷ cellA ∷ cellB ∷ [])) (pointList []) Taker.Watchtower (ms 1000) (room 2) (room 1)
+
+abbrev taken : table.Outcome Held (List Hold) × List ℕ × List ℕ → List ℕ
+taken (o, out₁, out₂) = listed (numberOf o, out₁)
+
+abbrev turnedAway : table.Outcome Held (List Hold) × List ℕ × List ℕ → List ℕ
+turnedAway (o, out₁, out₂) = listed (numberOf o, out₂)
+
+-- ---- the exclusion map
+
+-- a map that means these entries
+abbrev rowFor : Byte32 → Option BlockNumber → Row
+rowFor hash none = Row.Pending hash
+rowFor hash (some block) = Row.Committed hash block
+
+abbrev rowsFor : List Entry → List Slot
+rowsFor [] = []
+rowsFor (e ∷ l) = record { row = rowFor (e .hash) (e .committed) } ∷ (map (λ p. record { row = Row.Input p }) (e .points) ++ rowsFor l)
+
+abbrev mapOf : List Entry → LiveCellsExclusionMap
+mapOf l = record { rows = rowsFor l; count = length (rowsFor l) }
+
+-- a transaction's hash, and what is in the map when it was added and committed at 100
+abbrev hashOf7 : List ℕ
+hashOf7 = replicate 32 7
+
+abbrev committed100 : List Entry
+committed100 = meantBy (commitCall (mapOf (meantBy (addCall (mapOf []) hashOf7 (spending (inputs 2) [] [])))) hashOf7 (record { 0 = 100 }))
+
+-- what is excluded at a tip: the out points that it spends, of index 0 and 1
+abbrev excludedAt : ℕ → List ℕ
+excludedAt tip = listed (applyCall (mapOf (truncated (record { 0 = tip }) (entriesOf (mapOf committed100)))) (room 2))
 
 -- the file of so many inputs and cell deps
 abbrev crowded : ℕ → ℕ → List ℕ
@@ -136,13 +189,13 @@ outcomes =
     -- lock args 20, type args 32: change capacity 14,200,000,000
     ∷ (ifFits (changeCapacity 20 32) gives 14200000000 ∷ [])
     -- held by watchtower at 1,000: busy at 1,800,999, free at 1,801,000
-    ∷ (holdsAt 1800999 gives 1 ∷ [])
-    ∷ (holdsAt 1801000 gives 0 ∷ [])
+    ∷ (busyAt 1800999 gives 0 ∷ 1 ∷ [])
+    ∷ (busyAt 1801000 gives 0 ∷ [])
     -- free A, B; pick A, A, B: taken A, B; refused A
-    ∷ (map (λ p. p .index) (firsts isFree [] (cellA ∷ cellA ∷ cellB ∷ [])) gives 0 ∷ 1 ∷ [])
-    ∷ (map (λ p. p .index) (others isFree [] (cellA ∷ cellA ∷ cellB ∷ [])) gives 0 ∷ [])
+    ∷ (taken pickedAAB gives 0 ∷ 1 ∷ 2 ∷ [])
+    ∷ (turnedAway pickedAAB gives 0 ∷ 1 ∷ [])
     -- committed 100: kept at tip 99 and 112, dropped at 113
-    ∷ (entriesAt 99 gives 1 ∷ [])
-    ∷ (entriesAt 112 gives 1 ∷ [])
-    ∷ (entriesAt 113 gives 0 ∷ [])
+    ∷ (excludedAt 99 gives 0 ∷ 0 ∷ 1 ∷ [])
+    ∷ (excludedAt 112 gives 0 ∷ 0 ∷ 1 ∷ [])
+    ∷ (excludedAt 113 gives 0 ∷ [])
     ∷ []
