@@ -20,9 +20,11 @@ use Rattle.out_points.specs.Tables.{keep, renew, hasRoom, written}
 use Rattle.hold_records.specs.Holds.{recordsOf, byOwner, atMost256, isLive, isTowerOn, renewAll, holdForWatchtower, isBusy, isNew, firsts, others, unavailable, ownerFor, takeCells}
 use Rattle.exclusions.specs.Exclusions.{readRow, readRows, entriesOf, hasHash, committedAt, commitCall, isRecent, truncated, excluded, applyCall, pending, entering, addCall}
 use Rattle.verdict_line.specs.VerdictLine.{digit, hex, digits, decimal, spaced, accepted, refusedWith, lineOf}
+use Rattle.funding_cell.specs.FundingCell.{cellOf, cellOfSums, fundingCell, buildFundingCell}
+use Rattle.udt_cells.specs.Pick.{plusCell, enoughOr, pickFrom, pickTyped}
 use Rattle.case_file.specs.CaseFile as case
 use Rattle.case_file.specs.CaseFile.{kindAt, lengthAt, allZero, itemAt, optionalAt, rateAt, deadAt, cellAt, recordsFrom, recordBytes, readCase, caseOf, verdictOf, caseLine}
 
 unfoldable pub computing : Unit {0}
-unfolding later eqHash eqPoint has byte32At outPointAt pointOf hashBytes pointBytes bytesOf pointList keep renew hasRoom written recordsOf byOwner atMost256 isLive isTowerOn renewAll holdForWatchtower isBusy isNew firsts others unavailable ownerFor takeCells isAtLeast readRow readRows entriesOf hasHash committedAt commitCall isRecent truncated excluded applyCall pending entering addCall previousOutputOf encode join unwords offsets flatten toLe requiredFee changeCapacity le numAt only pick there both each words cuts items split size chunks pieces oneByte decode readable bind part word start span fieldOf itemCount itemOf fixItem content entryOf eqBytes agree contains containsAll rawField witnessesOf readTx capacityOf lockOf typeOf firstOf dataOf readOurs recordAt readRecords check checkWith given _>>=_ _>>_ isEmpty total first figure.capacityOf hasAmount amountOf isOf surplus judge txOf scripts limits atFirst hasLock noDataUntyped comparison live liveCells spent tokenDelta fundingOutputDelta covered counted tally settled account tokenAccount accounts contribution digit hex digits decimal spaced accepted refusedWith lineOf case._>>=_ kindAt lengthAt allZero itemAt optionalAt rateAt deadAt cellAt case.recordAt recordsFrom recordBytes readCase caseOf verdictOf caseLine
+unfolding cellOf cellOfSums fundingCell buildFundingCell plusCell enoughOr pickFrom pickTyped later eqHash eqPoint has byte32At outPointAt pointOf hashBytes pointBytes bytesOf pointList keep renew hasRoom written recordsOf byOwner atMost256 isLive isTowerOn renewAll holdForWatchtower isBusy isNew firsts others unavailable ownerFor takeCells isAtLeast readRow readRows entriesOf hasHash committedAt commitCall isRecent truncated excluded applyCall pending entering addCall previousOutputOf encode join unwords offsets flatten toLe requiredFee changeCapacity le numAt only pick there both each words cuts items split size chunks pieces oneByte decode readable bind part word start span fieldOf itemCount itemOf fixItem content entryOf eqBytes agree contains containsAll rawField witnessesOf readTx capacityOf lockOf typeOf firstOf dataOf readOurs recordAt readRecords check checkWith given _>>=_ _>>_ isEmpty total first figure.capacityOf hasAmount amountOf isOf surplus judge txOf scripts limits atFirst hasLock noDataUntyped comparison live liveCells spent tokenDelta fundingOutputDelta covered counted tally settled account tokenAccount accounts contribution digit hex digits decimal spaced accepted refusedWith lineOf case._>>=_ kindAt lengthAt allZero itemAt optionalAt rateAt deadAt cellAt case.recordAt recordsFrom recordBytes readCase caseOf verdictOf caseLine
 computing = tt

@@ -11,4 +11,4 @@ unfolding computing
 known-outcomes =
     refl and refl and refl and refl and refl and refl and refl and refl and refl and refl and refl and refl and refl
     and refl and refl and refl and refl and refl and refl and refl and refl and bytes-pass and bytes-over and refl
-    and refl and refl and refl and refl and refl and refl and refl and refl and refl and done
+    and refl and refl and refl and refl and refl and refl and refl and refl and refl and refl and refl and refl and refl and refl and refl and refl and done

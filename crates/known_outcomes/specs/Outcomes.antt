@@ -5,10 +5,12 @@ use mathlib.Core.List.{List, [], _∷_, _++_, map}
 use mathlib.Core.Option.{Option, none, some}
 use lib.ListN.{length, replicate}
 use Rattle.units.specs.declared.{Shannons.Shannons, CheckedShannons.CheckedShannons}
-use Rattle.arithmetic.specs.Amount.{value}
+use Rattle.arithmetic.specs.LittleEndian.{toLe}
+use Rattle.arithmetic.specs.Amount.{value, amountOf}
 use Rattle.units.specs.Fee.{requiredFee, changeCapacity}
-use Rattle.molecule.specs.Molecule.{encode}
-use Rattle.transaction.specs.Ckb.{CellOutput}
+use Rattle.molecule.specs.Molecule.{Value, encode}
+use Rattle.molecule.specs.Layout.{itemsOf}
+use Rattle.transaction.specs.Ckb.{CellOutput, TokenCell, TokenCells}
 use Rattle.rules.specs.Outcome as verdict
 use Rattle.rules.specs.Judge.{Figures}
 use Rattle.units.specs.declared.{Millis.Millis, BlockNumber.BlockNumber}
@@ -19,6 +21,9 @@ use Rattle.hold_records.specs.declared.{Hold.Hold, Held.Held, Taker.Taker}
 use Rattle.hold_records.specs.Holds.{holdForWatchtower, unavailable, takeCells}
 use Rattle.exclusions.specs.declared.{Row.Row, Slot.Slot, LiveCellsExclusionMap.LiveCellsExclusionMap}
 use Rattle.exclusions.specs.Exclusions.{Entry, entriesOf, commitCall, truncated, applyCall, addCall}
+use Rattle.funding_cell.specs.declared.{FundingRequest.FundingRequest}
+use Rattle.funding_cell.specs.FundingCell.{buildFundingCell}
+use Rattle.udt_cells.specs.Pick.{Pick, pickTyped}
 use Rattle.case_file.specs.CaseFile.{caseLine}
 use Rattle.known_outcomes.specs.CaseFiles.{ascii, file, fileAt, firstFile}
 use Rattle.known_outcomes.specs.Cases.{expectedLock, tokenType, inputs, output, plain, token, amount, spending, crowd, cell, notLive, atRate, offer, Case, untyped, judged}
@@ -146,6 +151,21 @@ committed100 = meantBy (commitCall (mapOf (meantBy (addCall (mapOf []) hashOf7 (
 abbrev excludedAt : ℕ → List ℕ
 excludedAt tip = listed (applyCall (mapOf (truncated (record { 0 = tip }) (entriesOf (mapOf committed100)))) (room 2))
 
+-- a request of local 5, reserve 7, remote 11, reserve 13
+abbrev figures : FundingRequest
+figures = record { «local_amount» = amountOf 5; «local_reserved_ckb_amount» = 7; «remote_amount» = amountOf 11; «remote_reserved_ckb_amount» = 13 }
+
+-- 0, how many cells are taken of 30, 50 and 40, and the change; or the refusal's number
+abbrev tokenCell : ℕ → Value TokenCell
+tokenCell n = ((replicate 32 0, (toLe 4 0, tt)), (amount n, tt))
+
+abbrev pickNumbers : verdict.Outcome Pick → List ℕ
+pickNumbers (verdict.fine p) = 0 ∷ p .taken ∷ p .change ∷ []
+pickNumbers (verdict.refused n l) = n ∷ l
+
+abbrev picked : ℕ → List ℕ
+picked wanted = pickNumbers (pickTyped tokenType wanted (itemsOf (encode TokenCells (tokenCell 30 ∷ tokenCell 50 ∷ tokenCell 40 ∷ []))))
+
 -- the file of so many inputs and cell deps
 abbrev crowded : ℕ → ℕ → List ℕ
 crowded ins ds = file [] [] (crowd ins 1 ds 0 .peer) (replicate ins (cell (plain 200000) []))
@@ -186,6 +206,15 @@ outcomes =
     ∷ (caseLine (file (inputsTx 2) [] (inputsTx 4) (cell (output 1 none 5) [] ∷ notLive ∷ [])) gives ascii "6 2\n")
     -- token records 2^128 - 1 and 1: 7
     ∷ (caseLine (file [] tokenType tokensTx (cell (token 1000) (amount (2 ^ 128 - 1)) ∷ cell (token 1000) (amount 1) ∷ [])) gives ascii "7\n")
+    -- figures local 5, reserve 7, remote 11, reserve 13: 12 unfunded, 36 funded; typed 5 and 7 (tokens, and reserves as capacity), then 16 and 20
+    ∷ (numbers (buildFundingCell [] [] figures) gives 0 ∷ 12 ∷ 0 ∷ [])
+    ∷ (numbers (buildFundingCell peerTx [] figures) gives 0 ∷ 36 ∷ 0 ∷ [])
+    ∷ (numbers (buildFundingCell [] tokenType figures) gives 0 ∷ 7 ∷ 5 ∷ [])
+    ∷ (numbers (buildFundingCell peerTx tokenType figures) gives 0 ∷ 20 ∷ 16 ∷ [])
+    -- cells 30, 50, 40: wanted 70 takes two, change 10; 80 none; 121 gets 9
+    ∷ (picked 70 gives 0 ∷ 2 ∷ 10 ∷ [])
+    ∷ (picked 80 gives 0 ∷ 2 ∷ 0 ∷ [])
+    ∷ (picked 121 gives 9 ∷ [])
     -- lock args 20, type args 32: change capacity 14,200,000,000
     ∷ (ifFits (changeCapacity 20 32) gives 14200000000 ∷ [])
     -- held by watchtower at 1,000: busy at 1,800,999, free at 1,801,000
