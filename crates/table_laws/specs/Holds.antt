@@ -44,7 +44,7 @@ pub data Stands (x : Hold) : List Hold → Type 0 where
   here : (l : List Hold) → Stands x (x ∷ l)
   there : (y : Hold) (l : List Hold) → Stands x l → Stands x (y ∷ l)
 
--- a `take` that is done: of h it makes the table in r, and leaves `taken` and `refused` in the two buffers
+-- a `take` that is done: of h it makes the table in r, and leaves `taken` and `refused` in the two buffers; the picks are bytes, as every lent slice is
 pub record Took (h : Held) (r : Holds) (picked spent : List ℕ) (taker : Taker) (now : Millis) (taken refused : List ℕ) : Type 0 where
   pub out₁ : List ℕ
   pub out₂ : List ℕ
