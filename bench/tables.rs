@@ -64,6 +64,26 @@ fn parsed(points: &[Vec<u8>]) -> Vec<OutPoint> {
     points.iter().map(|p| OutPoint::read(p).unwrap()).collect()
 }
 
+/// Fills a table with the cells and takes the picks from it.
+fn take(cells: &[u8], picks: &[u8], spent: &[u8], taken: &mut [u8], refused: &mut [u8]) {
+    // The function reads and writes only the slices that it is lent.
+    black_box(unsafe {
+        timed_take(
+            cells.as_ptr(),
+            cells.len(),
+            picks.as_ptr(),
+            picks.len(),
+            spent.as_ptr(),
+            spent.len(),
+            5,
+            taken.as_mut_ptr(),
+            taken.len(),
+            refused.as_mut_ptr(),
+            refused.len(),
+        )
+    });
+}
+
 pub fn run() {
     println!("{:<40} {:>9} {:>12} {:>6}", "", "here (us)", "original (us)", "ratio");
     let cases = [
@@ -82,27 +102,13 @@ pub fn run() {
             let rounds = 20;
             let start = Instant::now();
             for _ in 0..rounds {
-                // Each function reads and writes only the slices that it is lent.
+                // The function reads only the slice that it is lent.
                 black_box(unsafe { timed_hold(cell_list.as_ptr(), cell_list.len()) });
             }
             hold = hold.min(start.elapsed().as_secs_f64() / rounds as f64);
             let start = Instant::now();
             for _ in 0..rounds {
-                black_box(unsafe {
-                    timed_take(
-                        cell_list.as_ptr(),
-                        cell_list.len(),
-                        pick_list.as_ptr(),
-                        pick_list.len(),
-                        none.as_ptr(),
-                        none.len(),
-                        5,
-                        taken.as_mut_ptr(),
-                        taken.len(),
-                        refused.as_mut_ptr(),
-                        refused.len(),
-                    )
-                });
+                take(&cell_list, &pick_list, &none, &mut taken, &mut refused);
             }
             hold_and_take = hold_and_take.min(start.elapsed().as_secs_f64() / rounds as f64);
             for _ in 0..rounds {
@@ -123,26 +129,10 @@ pub fn run() {
     // Version 0 and empty lists: 68 bytes.
     let words = [68u32, 12, 64, 52, 28, 32, 36, 40, 44, 48, 0, 0, 0, 0, 4, 4, 4];
     let tx: Vec<u8> = words.iter().flat_map(|w| w.to_le_bytes()).collect();
-    let take = stack_use(|| {
-        black_box(unsafe {
-            timed_take(
-                cells.as_ptr(),
-                cells.len(),
-                picks.as_ptr(),
-                picks.len(),
-                none.as_ptr(),
-                none.len(),
-                5,
-                taken.as_mut_ptr(),
-                taken.len(),
-                refused.as_mut_ptr(),
-                refused.len(),
-            )
-        });
-    });
+    let of_take = stack_use(|| take(&cells, &picks, &none, &mut taken, &mut refused));
     let migrate = stack_use(|| {
         let count = black_box(unsafe { timed_migrate(old.as_ptr(), 32, new.as_ptr(), 32, tx.as_ptr(), tx.len()) });
         assert_eq!(count, 1);
     });
-    println!("stack: hold_funding and take {take} bytes, add and migrate_funding_tx {migrate} bytes");
+    println!("stack: hold_funding and take {of_take} bytes, add and migrate_funding_tx {migrate} bytes");
 }

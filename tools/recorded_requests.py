@@ -22,8 +22,6 @@ requests. A request is a table of 11 fields:
     1  to 8  what is lent: our transaction, the funding lock, the type, our source lock, the token cells, the token's deps, the lock's dep, the extra deps
     9  what `build_base` writes, from the start of the buffer; nothing where it refuses. Bytes behind it stay
    10  what `build_udt_inputs_outputs` writes into a buffer of that length: the change output, or nothing"""
-import argparse
-import os
 import subprocess
 import sys
 
@@ -316,13 +314,7 @@ def numbers_of(asked):
 
 
 def main():
-    p = argparse.ArgumentParser()
-    p.add_argument('oracle')
-    p.add_argument('--fresh', type=int)
-    p.add_argument('--seed', type=int, default=1)
-    a = p.parse_args()
-    if not (os.path.isfile(a.oracle) and os.access(a.oracle, os.X_OK)):
-        sys.exit('%s is no program: nothing is compared or recorded' % a.oracle)
+    a = replayed.arguments()
     if a.fresh is None:
         asked = [Asked(*x) for x in cases.requests()]
     else:

@@ -48,8 +48,6 @@ Calls on exclusions:
     6  apply                     0, 0, room                    4 the out points
 The table after: field 6 is a list of items of 41 bytes, in order: for each entry 0, its hash and 8 zeros, or 1, its hash and the block in which it is
 committed, and behind it for each of its out points 2, the out point and 4 zeros; field 7 is empty."""
-import argparse
-import os
 import subprocess
 import sys
 
@@ -435,13 +433,7 @@ TABLES = [(Holds, HOLD_KINDS, cases.hold_runs, cases.random_holds), (Exclusions,
 
 
 def main():
-    p = argparse.ArgumentParser()
-    p.add_argument('oracle')
-    p.add_argument('--fresh', type=int)
-    p.add_argument('--seed', type=int, default=1)
-    a = p.parse_args()
-    if not (os.path.isfile(a.oracle) and os.access(a.oracle, os.X_OK)):
-        sys.exit('%s is no program: nothing is compared or recorded' % a.oracle)
+    a = replayed.arguments()
     made, missing = [], 0
     for what, kinds, all_runs, random_runs in TABLES:
         runs = list(all_runs() if a.fresh is None else random_runs(Rng(a.seed), a.fresh))
