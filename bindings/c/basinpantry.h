@@ -1,0 +1,182 @@
+/* Basinpantry: judges the funding transactions that a peer proposes when a CKB payment channel is opened. Every function here is a thin one over the
+   proved library; link target/staticlib/libcapi.a (`rt staticlib capi`).
+
+   Lent bytes are a pointer and a length. A pointer is never null, also where the length is 0, and a buffer that is written to overlaps nothing else
+   that is lent to the same call. Numbers in bytes are little-endian; transactions, scripts and lists have the Molecule forms of RFC 0008 and 0019.
+
+   A call returns 0, or the number of its refusal (1 to 15, BASINPANTRY_...), and then nothing that was lent has changed, but for `values` where a
+   refusal carries values. Where a function has `values`, it is an array of at least four words, which it then sets, the unused ones to 0; with fewer the
+   answer is 13 before all else. */
+#ifndef BASINPANTRY_H
+#define BASINPANTRY_H
+
+#include <stdbool.h>
+#include <stddef.h>
+#include <stdint.h>
+
+#ifdef __cplusplus
+extern "C" {
+#endif
+
+/* Why a call is refused. */
+#define BASINPANTRY_OUR_TRANSACTION_UNREADABLE 1        /* our own transaction's bytes are no transaction */
+#define BASINPANTRY_PEER_TRANSACTION_UNREADABLE 2       /* the peer's bytes are no transaction */
+#define BASINPANTRY_LENT_BYTES_UNREADABLE 3             /* a lent script, list, record, hash or table is unreadable, or the records are not one for each added input */
+#define BASINPANTRY_PEER_FUNDING_TX_EXCEEDS_LIMIT 4     /* the peer's transaction is over the size limit, or adds too many inputs, outputs or cell deps */
+#define BASINPANTRY_INVALID_PEER_FUNDING_TX 5           /* the peer's funding transaction is invalid */
+#define BASINPANTRY_PEER_INPUT_USES_OUR_FUNDING_LOCK 6  /* an added input spends a cell under our own source lock. values[0]: its index among all inputs */
+#define BASINPANTRY_OVERFLOW 7                          /* a figure, or a sum of figures, is too wide */
+#define BASINPANTRY_PEER_FUNDING_FEE_TOO_LOW 8          /* the fee is too low. values: fee paid, fee required, fee rate, size */
+#define BASINPANTRY_INSUFFICIENT_CELLS 9                /* the token cells ended before their total reached the wanted amount */
+#define BASINPANTRY_TOKEN_TOTAL_OVERFLOW 10             /* the total of the picked token cells is 2^128 or more */
+#define BASINPANTRY_MISSING_CELL_DEP 11                 /* tokens were picked, and the token's cell deps or the lock's were not supplied */
+#define BASINPANTRY_TOKEN_CELL_DATA_TOO_SHORT 12        /* a token cell's data is under 16 bytes */
+#define BASINPANTRY_BUFFER_TOO_SHORT 13                 /* the result is over the lent buffer, or over 133,116 bytes */
+#define BASINPANTRY_TOO_MANY_HOLDS 14                   /* the call would leave more than 256 hold records */
+#define BASINPANTRY_TOO_MANY_EXCLUSIONS 15              /* the call would leave more than 64 excluded transactions or 512 out points */
+
+/* The longest transaction that is judged or written. */
+#define BASINPANTRY_MAX_TRANSACTION_BYTES 133116
+
+/* ---- reading and writing */
+
+/* Whether the bytes are a transaction (RFC 0019). */
+bool basinpantry_is_transaction(const uint8_t *s, size_t s_len);
+
+/* Whether the bytes are a script. */
+bool basinpantry_is_script(const uint8_t *s, size_t s_len);
+
+/* Whether the bytes are a list of resolved cells: a list of unsized items, each empty (not live) or a table of output and data. */
+bool basinpantry_is_records(const uint8_t *s, size_t s_len);
+
+/* Whether the bytes are a list of out points: a count of four bytes and 36 bytes for each. */
+bool basinpantry_is_out_points(const uint8_t *s, size_t s_len);
+
+/* The version of a transaction; 0 for bytes that have none. */
+uint32_t basinpantry_version(const uint8_t *tx, size_t tx_len);
+
+/* The lists of a transaction, by number. */
+#define BASINPANTRY_CELL_DEPS 0
+#define BASINPANTRY_HEADER_DEPS 1
+#define BASINPANTRY_INPUTS 2
+#define BASINPANTRY_OUTPUTS 3
+#define BASINPANTRY_OUTPUTS_DATA 4
+#define BASINPANTRY_WITNESSES 5
+
+/* How many items a list of a transaction has. Another number of a list, or bytes that are no transaction, are no error: there is nothing there. */
+uint32_t basinpantry_item_count(const uint8_t *tx, size_t tx_len, uint32_t list);
+
+/* Writes item i of a list of a transaction to the start of out: a cell dep (37 bytes), header dep (32), input (44), output (a table), or the bytes of a
+   data entry or a witness. values[0]: how many bytes. No item is no bytes. Refused: 13. */
+uint32_t basinpantry_item(const uint8_t *tx, size_t tx_len, uint32_t list, size_t i, uint8_t *out, size_t out_len, uint64_t *values, size_t values_len);
+
+/* Writes a transaction from its version and six lists. values[0]: how many bytes. Refused: 3, 13. */
+uint32_t basinpantry_write_transaction(uint32_t version, const uint8_t *cell_deps, size_t cell_deps_len, const uint8_t *header_deps, size_t header_deps_len,
+                                       const uint8_t *inputs, size_t inputs_len, const uint8_t *outputs, size_t outputs_len, const uint8_t *outputs_data,
+                                       size_t outputs_data_len, const uint8_t *witnesses, size_t witnesses_len, uint8_t *out, size_t out_len,
+                                       uint64_t *values, size_t values_len);
+
+/* Reads the fields of a transaction and writes them again. values[0]: how many bytes. Refused: 1, 13. */
+uint32_t basinpantry_rewrite(const uint8_t *tx, size_t tx_len, uint8_t *out, size_t out_len, uint64_t *values, size_t values_len);
+
+/* ---- a peer's update */
+
+/* Judges the peer's transaction against ours (no bytes: none), under the expected funding lock, the expected token type (no bytes: untyped), our source
+   lock and a fee rate, over one record for each input that the peer added. After 0 the peer's transaction is in force, after a refusal ours.
+   values of 0: the capacity surplus (low half, high half) and the token surplus (low half, high half). Refused: 1 to 8. */
+uint32_t basinpantry_update_for_peer(const uint8_t *ours, size_t ours_len, const uint8_t *peer, size_t peer_len, const uint8_t *lock, size_t lock_len,
+                                     const uint8_t *udt, size_t udt_len, const uint8_t *source, size_t source_len, uint64_t rate, const uint8_t *records,
+                                     size_t records_len, uint64_t *values, size_t values_len);
+
+/* Judges a list of updates, each against the transaction that the one before it left in force, under one expected lock and type. `updates` is a list of
+   unsized items, each a table of four fields: the peer's transaction, the records and the source lock, each as bytes with their count, and the fee rate
+   (8 bytes). For update k, answers[5 * k] is its number and the four words after it are its values, as above. values: how many updates, how many
+   accepted, and which transaction is then in force: 0 for the one at the start, k + 1 for that of update k. Refused, before any update is judged: 3 where
+   `updates` is not such a list, 13 where `answers` has fewer than five words for each update. */
+uint32_t basinpantry_replay(const uint8_t *start, size_t start_len, const uint8_t *lock, size_t lock_len, const uint8_t *udt, size_t udt_len,
+                            const uint8_t *updates, size_t updates_len, uint64_t *answers, size_t answers_len, uint64_t *values, size_t values_len);
+
+/* Writes the verdict line of a case file to the start of `line`, which has room for at least 105 bytes; the answer is how many bytes the line has, 0 where
+   there is no such room. */
+size_t basinpantry_check_case(const uint8_t *file, size_t file_len, uint8_t *line, size_t line_len);
+
+/* ---- our own side */
+
+/* The figures of a funding request: amounts in two halves, reserves in shannons. */
+
+/* The funding cell beside our present transaction (no bytes: none), of this token type (no bytes: untyped).
+   values of 0: the capacity, and the token amount (low half, high half). Refused: 1, 3, 7. */
+uint32_t basinpantry_build_funding_cell(const uint8_t *ours, size_t ours_len, const uint8_t *udt, size_t udt_len, uint64_t local_low, uint64_t local_high,
+                                        uint64_t local_reserved, uint64_t remote_low, uint64_t remote_high, uint64_t remote_reserved, uint64_t *values,
+                                        size_t values_len);
+
+/* Picks token cells, a list of tables of out point and data, until their total reaches the wanted amount; the change output, if any, goes to the start
+   of out. values of 0: how many cells, the change (low half, high half), the capacity of its output. Refused: 3, 12, 10, 9, 13. */
+uint32_t basinpantry_build_udt_inputs_outputs(const uint8_t *cells, size_t cells_len, const uint8_t *udt, size_t udt_len, const uint8_t *source,
+                                              size_t source_len, uint64_t wanted_low, uint64_t wanted_high, uint8_t *out, size_t out_len,
+                                              uint64_t *values, size_t values_len);
+
+/* Writes the base transaction of a request to the start of out. `udt_deps` is a list of cell deps and `lock_dep` one cell dep; no bytes: not supplied.
+   values[0] of 0: how many bytes. Refused: 1, 3, 7, 12, 10, 9, 11, 13. */
+uint32_t basinpantry_build_base(const uint8_t *ours, size_t ours_len, const uint8_t *lock, size_t lock_len, const uint8_t *udt, size_t udt_len,
+                                const uint8_t *source, size_t source_len, const uint8_t *cells, size_t cells_len, const uint8_t *udt_deps,
+                                size_t udt_deps_len, const uint8_t *lock_dep, size_t lock_dep_len, const uint8_t *extra_deps, size_t extra_deps_len,
+                                uint64_t local_low, uint64_t local_high, uint64_t local_reserved, uint64_t remote_low, uint64_t remote_high,
+                                uint64_t remote_reserved, uint8_t *out, size_t out_len, uint64_t *values, size_t values_len);
+
+/* ---- tables of cells: bytes that the caller keeps and lends to each call. All zeros are the empty table; any other content is safe.
+   A table is a count (4 bytes), then places of 48 bytes: an out point or a hash with four bytes of 0 behind it (36), a kind (4), a number (8). The places
+   beyond the count mean nothing. A table of another length is 3, before all else. */
+
+/* Held cells: 256 places. Kind 0 is a funding, and the number its holder; any other kind the watchtower, and the number the end in milliseconds. */
+#define BASINPANTRY_HELD_BYTES 12292
+
+/* The funding inputs that `holder` holds now, in place of the ones that it held before. Refused: 3, 14. */
+uint32_t basinpantry_hold_funding(uint8_t *held, size_t held_len, uint64_t holder, const uint8_t *cells, size_t cells_len);
+
+/* The cells of a transaction that the watchtower sent at `time`: held for 1,800,000 ms. Refused: 3, 14. */
+uint32_t basinpantry_hold_for_watchtower(uint8_t *held, size_t held_len, const uint8_t *cells, size_t cells_len, uint64_t time);
+
+/* The cells of a transaction that the watchtower could not send are free again. Refused: 3. */
+uint32_t basinpantry_release_for_watchtower(uint8_t *held, size_t held_len, const uint8_t *cells, size_t cells_len);
+
+/* Writes the out points of every cell that is held at `time`; watchtower records that have ended are dropped. Refused: 3, 13. */
+uint32_t basinpantry_lock_held(uint8_t *held, size_t held_len, uint64_t time, uint8_t *out, size_t out_len);
+
+/* Writes the out points of `picked` that are held at `time` or in `spent`. Refused: 3, 13. */
+uint32_t basinpantry_unavailable(const uint8_t *held, size_t held_len, const uint8_t *picked, size_t picked_len, const uint8_t *spent, size_t spent_len,
+                                 uint64_t time, uint8_t *out, size_t out_len);
+
+/* Takes the cells `picked` for the watchtower, or for the funding of `holder`: the lists of those taken and of those refused go into the two buffers.
+   Refused: 3, 13, 14. */
+uint32_t basinpantry_take(uint8_t *held, size_t held_len, const uint8_t *picked, size_t picked_len, const uint8_t *spent, size_t spent_len, bool watchtower,
+                          uint64_t holder, uint64_t time, uint8_t *taken, size_t taken_len, uint8_t *refused, size_t refused_len);
+
+/* Excluded cells (LiveCellsExclusionMap): 576 places. Kind 0 is a pending transaction by its hash, 1 a committed one with its block; any other kind is an
+   out point that the transaction above it spends. */
+#define BASINPANTRY_EXCLUSIONS_BYTES 27652
+
+/* Enters the inputs of a transaction (no bytes: none) under its hash of 32 bytes. Refused: 3 (the table), 1, 3, 15. */
+uint32_t basinpantry_exclusions_add(uint8_t *map, size_t map_len, const uint8_t *hash, size_t hash_len, const uint8_t *tx, size_t tx_len);
+
+/* The transaction of this hash was committed in this block. Refused: 3. */
+uint32_t basinpantry_exclusions_commit(uint8_t *map, size_t map_len, const uint8_t *hash, size_t hash_len, uint64_t block);
+
+/* Removes the transaction of this hash. Refused: 3. */
+uint32_t basinpantry_exclusions_remove(uint8_t *map, size_t map_len, const uint8_t *hash, size_t hash_len);
+
+/* Moves an entry to the transaction that replaces it. Refused: 3 (the table), 1, 3, 15. */
+uint32_t basinpantry_exclusions_migrate_funding_tx(uint8_t *map, size_t map_len, const uint8_t *old_hash, size_t old_hash_len, const uint8_t *new_hash,
+                                                   size_t new_hash_len, const uint8_t *tx, size_t tx_len);
+
+/* Drops what was committed 13 blocks before the tip, or earlier. Refused: 3. */
+uint32_t basinpantry_exclusions_truncate(uint8_t *map, size_t map_len, uint64_t tip);
+
+/* Writes the out points of all entries, in their order, as a list. Refused: 3, 13. */
+uint32_t basinpantry_exclusions_apply(const uint8_t *map, size_t map_len, uint8_t *out, size_t out_len);
+
+#ifdef __cplusplus
+}
+#endif
+
+#endif
