@@ -10,9 +10,6 @@ use lib.ListN.{length, getD, take}
 use lib.Seq.{take-nil}
 use lib.Dec.{ltb}
 use Rattle.molecule.specs.Layout.{span, fixCount, fixItem, fixItems}
-use Rattle.lists.specs.Lists.{contains}
-use Rattle.lists.proofs.SpanLaws.{span-whole}
-use Rattle.lists.proofs.LoopLaws.{Seek}
 use Rattle.list_writer.specs.ListWriter.{ifAny}
 use Rattle.cell_deps.specs.declared.Chosen.{Chosen}
 use Rattle.cell_deps.specs.CellDeps.{before, anyCount, lastDepAt, ownDepAt, depAt, depCount, allDeps, depsAt}
@@ -150,12 +147,3 @@ map-span f (x ∷ l) (suc n) h =
     after : (j : ℕ) → 1 ≤ j → j < 1 + n → f (getD (x ∷ l) j 0) ≡ f (getD l (j - 1) 0)
     after zero p q = absurd (omega arith)
     after (suc j) p q = let e : suc j - 1 ≡ j = omega arith in ap (λ i. f (getD l i 0)) (sym e)
-
--- n of them are looked at
-pub seek-chosen : (a b c d y : List ℕ) (x : Chosen) {n : ℕ} → n ≡ min (x .count) 3597 → length (x .places) ≡ 3597
-    → Seek y (λ j. depAt a b c d (getD (x .places) j 0)) n 0 (contains y (depsAt a b c d x))
-unfolding depsAt
-seek-chosen a b c d y x {n} e l =
-    let q : take n (x .places) ≡ take (x .count) (x .places) = take-used (x .places) n (x .count) 3597 l e in
-    let h : n ≤ length (x .places) = omega arith in
-    record { rest = ap (contains y) (ap (map (depAt a b c d)) (sym q) ∙ map-span (depAt a b c d) (x .places) n h ∙ span-whole _ n) }

@@ -1,4 +1,6 @@
 pub mod DepLaws
+pub mod OrderLaws
+pub mod SortedLaws
 pub mod ChooseLaws
 pub mod PutLaws
 pub mod LongLaws

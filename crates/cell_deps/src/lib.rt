@@ -5,9 +5,9 @@ ghost use Prim.Native.Nat.{_+_, _*_, _≤_, _<_, min};
 ghost use mathlib.Core.List.{flatten};
 ghost use lib.ListN.{length, take};
 ghost use Rattle.molecule.specs.Write.{Put};
-ghost use Rattle.lists.specs.Lists.{contains};
 ghost use Rattle.list_writer.specs.ListWriter.{fixList, putList, putListEnd};
 ghost use Rattle.cell_deps.specs.CellDeps.{anyCount, lastDepAt, ownDepAt, depAt, depCount, depsAt, Chooses};
+ghost use Rattle.cell_deps.specs.Sorted.{isBefore, placedAt, Ordered, Lower, Sought, Inserted};
 
 // How many bytes a cell dep has: an out point and the dep type.
 const CELL_DEP_BYTES: u32 = 37;
@@ -19,6 +19,12 @@ const MOST_DEPS: usize = 3597;
 pub struct Chosen {
     pub places: [usize; 3597],
     pub count: usize,
+}
+
+// Where a dep stands among sorted ones, or where it is to be put.
+struct Found {
+    at: usize,
+    there: bool,
 }
 
 // Whether there is a dep: none is empty.
@@ -81,28 +87,96 @@ fn used(count: usize) -> usize
     MOST_DEPS
 }
 
-// Whether x is among the chosen deps.
-fn has_dep<'a>(
+// Whether a comes before b in the order of their bytes.
+fn precedes(a: &[u8], b: &[u8]) -> bool
+    ensures { λ r. ⌜ r ≡ isBefore (now (a .entry)) (now (b .entry)) ⌝ }
+{
+    let mut i: usize = 0;
+    while i < a.len() {
+        if b.len() <= i {
+            return false;
+        }
+        if a[i] < b[i] {
+            return true;
+        }
+        if b[i] < a[i] {
+            return false;
+        }
+        i += 1;
+    }
+    if i < b.len() {
+        return true;
+    }
+    false
+}
+
+// How many of the first n places have a dep that comes before x. They are in the order of their deps, so half of what is left is ruled out at a time.
+fn lower_bound<'a>(
     present: &'a [u8],
     udt: &'a [u8],
     lock: &'a [u8],
     extra: &'a [u8],
-    chosen: Chosen,
+    sorted: &[usize; 3597],
+    n: usize,
     x: &[u8],
-) -> bool
-    ensures { λ r. ⌜ r ≡ contains (now (x .entry)) (depsAt (now (present .entry)) (now (udt .entry)) (now (lock .entry)) (now (extra .entry)) chosen) ⌝ }
+) -> usize
+    requires { ⌜ n ≤ 3597 ⌝ }
+    requires { ⌜ Ordered (placedAt (now present) (now udt) (now lock) (now extra) (now sorted)) n ⌝ }
+    ensures { λ r. ⌜ Lower (placedAt (now (present .entry)) (now (udt .entry)) (now (lock .entry)) (now (extra .entry)) (now (sorted .entry))) n (now (x .entry)) r ⌝ }
 {
-    let n = used(chosen.count);
-    let mut j: usize = 0;
-    while j < n {
-        let place = chosen.places[j];
+    let mut low: usize = 0;
+    let mut high = n;
+    while low < high {
+        let mid = low + (high - low) / 2;
+        let place = sorted[mid];
         let y = dep_at(present, udt, lock, extra, place);
-        if lists::same(x, y) {
-            return true;
+        if precedes(y, x) {
+            low = mid + 1;
+        } else {
+            high = mid;
         }
+    }
+    low
+}
+
+// Looks x up among the deps at the first n places, which are in the order of their deps.
+fn find<'a>(
+    present: &'a [u8],
+    udt: &'a [u8],
+    lock: &'a [u8],
+    extra: &'a [u8],
+    sorted: &[usize; 3597],
+    n: usize,
+    x: &[u8],
+) -> Found
+    requires { ⌜ n ≤ 3597 ⌝ }
+    requires { ⌜ Ordered (placedAt (now present) (now udt) (now lock) (now extra) (now sorted)) n ⌝ }
+    ensures { λ r. ⌜ Sought (placedAt (now (present .entry)) (now (udt .entry)) (now (lock .entry)) (now (extra .entry)) (now (sorted .entry))) n (now (x .entry)) r ⌝ }
+{
+    let at = lower_bound(present, udt, lock, extra, sorted, n, x);
+    if n <= at {
+        return Found { at, there: false };
+    }
+    let place = sorted[at];
+    let y = dep_at(present, udt, lock, extra, place);
+    let there = lists::same(x, y);
+    Found { at, there }
+}
+
+// Puts a place at `at`, and moves those from there on to the n-th one further.
+fn insert(sorted: &mut [usize], n: usize, at: usize, place: usize)
+    requires { ⌜ at ≤ n ⌝ }
+    requires { ⌜ n < length (now sorted) ⌝ }
+    ensures { λ _. ⌜ Inserted (now (sorted .entry)) n at place (now (sorted .exit)) ⌝ }
+{
+    let mut x = place;
+    let mut j = at;
+    while j <= n {
+        let y = sorted[j];
+        sorted[j] = x;
+        x = y;
         j += 1;
     }
-    false
 }
 
 // How many deps the four lists have.
@@ -115,7 +189,7 @@ fn dep_count(present: &[u8], udt: &[u8], lock: &[u8], extra: &[u8]) -> usize
     a + b + any_count(lock) + d
 }
 
-// The places of the deps, each where it first stands.
+// The places of the deps, each where it first stands. Beside them the same places in the order of their deps, so that one more is looked up in twelve steps.
 pub fn choose<'a>(present: &'a [u8], udt: &'a [u8], lock: &'a [u8], extra: &'a [u8]) -> Chosen
     ensures { λ r. ⌜ Chooses (now (present .entry)) (now (udt .entry)) (now (lock .entry)) (now (extra .entry)) r ⌝ }
 {
@@ -124,17 +198,20 @@ pub fn choose<'a>(present: &'a [u8], udt: &'a [u8], lock: &'a [u8], extra: &'a [
         places: [0; 3597],
         count: 0,
     };
+    let mut sorted = [0usize; 3597];
     let mut i: usize = 0;
     while i < n {
         let x = dep_at(present, udt, lock, extra, i);
         let k = i;
         i += 1;
-        if !has_dep(present, udt, lock, extra, chosen, x) {
-            let last = chosen.count;
+        let last = chosen.count;
+        let found = find(present, udt, lock, extra, &sorted, last, x);
+        if !found.there {
             if MOST_DEPS <= last {
                 chosen.count = MOST_DEPS + 1;
                 return chosen;
             }
+            insert(&mut sorted, last, found.at, k);
             chosen.places[last] = k;
             chosen.count = last + 1;
         }

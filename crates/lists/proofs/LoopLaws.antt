@@ -61,7 +61,7 @@ module _ {x : List ℕ} {g : ℕ → List ℕ} {n i : ℕ} {R : Bool} (h : Seek 
     seek-found t = sym (h .rest ∙ rw (span-on g i n k, ← ey, ← e, t))
 
 -- an item that stands at a place is there
-at-place : (x : List ℕ) (g : ℕ → List ℕ) (i j k : ℕ) → i < k → eqBytes x (g (j + i)) ≡ true → contains x (span g j k) ≡ true
+pub at-place : (x : List ℕ) (g : ℕ → List ℕ) (i j k : ℕ) → i < k → eqBytes x (g (j + i)) ≡ true → contains x (span g j k) ≡ true
 unfolding contains span
 at-place x g i j zero h e = absurd (not-suc-le-zero h)
 at-place x g zero j (suc k) h e = rw (ap (λ (n : ℕ). eqBytes x (g n)) (sym (add-zero j)) ∙ e)

@@ -1,0 +1,15 @@
+use Rattle.cell_deps.proofs.Ways.{ways}
+use Rattle.cell_deps.proofs.find.Statement.{statement}
+use Rattle.cell_deps.proofs.find.Tie as tie
+
+pub find-spec : {M : Type 1} → statement M
+find-spec =
+    tie.close
+    (tie.spec
+    (λ c κs. search ways)  -- lower-bound-requires
+    (λ c. search ways)  -- returns
+    (λ c. search ways)  -- mul-place
+    (λ c. search ways)  -- element-copy-out-place
+    (λ c κs. search ways)  -- dep-at-requires
+    (λ c κs. search ways)  -- same-requires
+    (λ c. search ways))  -- returns-2
