@@ -4,12 +4,17 @@ use mathlib.Core.Bool.{cond}
 use mathlib.Core.List.{List, [], _∷_}
 use lib.ListN.{length, drop, getD}
 use lib.Dec.{leb}
+use Rattle.arithmetic.specs.Amount.{halves}
 use Rattle.rules.specs.Outcome.{Outcome, fine, refused}
 use Rattle.rules.specs.Judge.{Figures}
+use Rattle.funding_cell.specs.declared.FundingRequest.{FundingRequest}
+use Rattle.udt_cells.specs.Change.{Built}
 
--- the answer n with these four words, of which those beyond keep their value; with fewer the answer is 13, and all is as it was
-unfoldable pub setFour : ℕ → ℕ → ℕ → ℕ → ℕ → List ℕ → ℕ × List ℕ
-setFour n a b c d words = cond (leb 4 (length words)) (n, a ∷ b ∷ c ∷ d ∷ drop 4 words) (13, words)
+-- the answer n, and its values as the first four words: missing values are 0, and the words beyond keep their value. With fewer than four words the answer is
+-- 13, and they are as they were.
+unfoldable pub setWords : ℕ → List ℕ → List ℕ → ℕ × List ℕ
+setWords n values words =
+    cond (leb 4 (length words)) (n, getD values 0 0 ∷ getD values 1 0 ∷ getD values 2 0 ∷ getD values 3 0 ∷ drop 4 words) (13, words)
 
 -- 0, or the number of a refusal
 unfoldable pub numberOf : {A : Type 0} → Outcome A → ℕ
@@ -21,11 +26,14 @@ unfoldable pub valuesOf : {A : Type 0} → (A → List ℕ) → Outcome A → Li
 valuesOf f (fine x) = f x
 valuesOf f (refused n l) = l
 
--- the whole: missing values are 0
 unfoldable pub inWords : {A : Type 0} → (A → List ℕ) → Outcome A → List ℕ → ℕ × List ℕ
-inWords f o words =
-    let vs = valuesOf f o in
-    setFour (numberOf o) (getD vs 0 0) (getD vs 1 0) (getD vs 2 0) (getD vs 3 0) words
+inWords f o words = setWords (numberOf o) (valuesOf f o) words
+
+-- a call that leaves a lent buffer too, by its answer and the buffer after it: with fewer than four words the buffer is as it was
+unfoldable pub writing : {A : Type 0} → (A → List ℕ) → Outcome A × List ℕ → List ℕ → List ℕ → (ℕ × List ℕ) × List ℕ
+writing f call out words = (inWords f (call .0) words, cond (leb 4 (length words)) (call .1) out)
+
+-- ---- the values of each answer that is no refusal
 
 -- a number of 128 bits in two words
 abbrev pub low : ℕ → ℕ
@@ -37,3 +45,26 @@ high n = n / 2 ^ 64
 -- the surpluses of capacity and of the token
 unfoldable pub surplusWords : Figures → List ℕ
 surplusWords f = low (f .capacity) ∷ high (f .capacity) ∷ low (f .token) ∷ high (f .token) ∷ []
+
+-- how many bytes were written
+unfoldable pub countWords : ℕ → List ℕ
+countWords n = n ∷ []
+
+-- the funding cell: its capacity, which has 64 bits, and its token amount
+unfoldable pub cellWords : Figures → List ℕ
+cellWords f = low (f .capacity) ∷ low (f .token) ∷ high (f .token) ∷ []
+
+-- the pick: how many cells, the change, and the capacity of its output, which has 64 bits
+unfoldable pub pickWords : Built → List ℕ
+pickWords b = b .taken ∷ low (b .change) ∷ high (b .change) ∷ low (b .capacity) ∷ []
+
+-- ---- figures that cross as words
+
+-- what each side is to bring: the amounts in two words
+abbrev pub request : ℕ → ℕ → ℕ → ℕ → ℕ → ℕ → FundingRequest
+request localLow localHigh localReserved remoteLow remoteHigh remoteReserved = record {
+  «local_amount» = halves localLow localHigh;
+  «local_reserved_ckb_amount» = localReserved;
+  «remote_amount» = halves remoteLow remoteHigh;
+  «remote_reserved_ckb_amount» = remoteReserved;
+}

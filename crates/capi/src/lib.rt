@@ -1,11 +1,18 @@
 // What a host in Rust or C links: the library's functions under plain names. A slice crosses as a pointer and then a length.
 mod words;
 
+use arithmetic::Amount;
+use units::Tokens;
 ghost use mathlib.Core.Path.{_≡_};
+ghost use Rattle.arithmetic.specs.Amount.{value, halves};
 ghost use Rattle.molecule.specs.Molecule.{readable};
 ghost use Rattle.transaction.specs.Ckb.{OutPoints, Script, Transaction, Records};
 ghost use Rattle.rules.specs.Judge.{judge};
-ghost use Rattle.capi.specs.Words.{inWords, surplusWords};
+ghost use Rattle.funding_cell.specs.FundingCell.{buildFundingCell};
+ghost use Rattle.udt_cells.specs.Change.{udtInputsOutputs};
+ghost use Rattle.base_writer.specs.Answer.{written};
+ghost use Rattle.funding_builder.specs.Base.{buildBase};
+ghost use Rattle.capi.specs.Words.{inWords, writing, surplusWords, countWords, cellWords, pickWords, request};
 
 // Whether s is a transaction.
 #[no_mangle]
@@ -55,4 +62,103 @@ pub extern "C" fn basinpantry_update_for_peer(
 {
     let update = funding_tx::update_for_peer(ours, peer, lock, udt, source, rate, records);
     words::tell_update(update, values)
+}
+
+// The funding cell of a request.
+#[no_mangle]
+pub extern "C" fn basinpantry_build_funding_cell(
+    ours: &[u8],
+    udt: &[u8],
+    local_low: u64,
+    local_high: u64,
+    local_reserved: u64,
+    remote_low: u64,
+    remote_high: u64,
+    remote_reserved: u64,
+    values: &mut [u64],
+) -> u32
+    ensures { λ r. ⌜ (r, now (values .exit)) ≡ inWords cellWords (buildFundingCell (now (ours .entry)) (now (udt .entry)) (request «local_low» «local_high» «local_reserved» «remote_low» «remote_high» «remote_reserved»)) (now (values .entry)) ⌝ }
+{
+    let request = words::request(
+        local_low,
+        local_high,
+        local_reserved,
+        remote_low,
+        remote_high,
+        remote_reserved,
+    );
+    let cell = funding_cell::build_funding_cell(ours, udt, request);
+    words::tell_cell(cell, values)
+}
+
+// The token cells that are picked for a wanted amount, and the change output.
+#[no_mangle]
+pub extern "C" fn basinpantry_build_udt_inputs_outputs(
+    cells: &[u8],
+    udt: &[u8],
+    source: &[u8],
+    wanted_low: u64,
+    wanted_high: u64,
+    out: &mut [u8],
+    values: &mut [u64],
+) -> u32
+    ensures { λ r. ⌜ ((r, now (values .exit)), now (out .exit)) ≡ writing pickWords (udtInputsOutputs (now (cells .entry)) (now (udt .entry)) (now (source .entry)) (value (halves «wanted_low» «wanted_high»)) (now (out .entry))) (now (out .entry)) (now (values .entry)) ⌝ }
+{
+    if values.len() < words::WORDS {
+        return words::TOO_FEW;
+    }
+    let wanted = Tokens(Amount {
+        low: wanted_low,
+        high: wanted_high,
+    });
+    let pick = udt_cells::build_udt_inputs_outputs(cells, udt, source, wanted, out);
+    words::tell_pick(pick, values)
+}
+
+// The base transaction of a request.
+#[no_mangle]
+pub extern "C" fn basinpantry_build_base<'a>(
+    ours: &'a [u8],
+    lock: &[u8],
+    udt: &[u8],
+    source: &[u8],
+    cells: &[u8],
+    udt_deps: &'a [u8],
+    lock_dep: &'a [u8],
+    extra_deps: &'a [u8],
+    local_low: u64,
+    local_high: u64,
+    local_reserved: u64,
+    remote_low: u64,
+    remote_high: u64,
+    remote_reserved: u64,
+    out: &mut [u8],
+    values: &mut [u64],
+) -> u32
+    ensures { λ r. ⌜ ((r, now (values .exit)), now (out .exit)) ≡ writing countWords (written (buildBase (record { ours = now (ours .entry); lock = now (lock .entry); udt = now (udt .entry); source = now (source .entry); cells = now (cells .entry); udtDeps = now («udt_deps» .entry); lockDep = now («lock_dep» .entry); extraDeps = now («extra_deps» .entry) }) (request «local_low» «local_high» «local_reserved» «remote_low» «remote_high» «remote_reserved»)) (now (out .entry))) (now (out .entry)) (now (values .entry)) ⌝ }
+{
+    if values.len() < words::WORDS {
+        return words::TOO_FEW;
+    }
+    let request = words::request(
+        local_low,
+        local_high,
+        local_reserved,
+        remote_low,
+        remote_high,
+        remote_reserved,
+    );
+    let written = funding_builder::build_base(
+        ours,
+        lock,
+        udt,
+        source,
+        cells,
+        udt_deps,
+        lock_dep,
+        extra_deps,
+        request,
+        out,
+    );
+    words::tell_written(written, values)
 }
