@@ -2,14 +2,15 @@
 use mathlib.Core.Path.{_≡_, refl, sym, ap, _∙_, subst}
 use Prim.Native.Nat.{ℕ, zero, suc, _+_, _-_, _≤_, _<_, min}
 use mathlib.Core.List.{List, [], _∷_}
-use mathlib.Core.Bool.{Bool, true, false, not, _&&_, cond}
+use mathlib.Core.Bool.{Bool, true, false, not, _&&_, cond, and-true, and-false}
 use native.Mathlib.Omega.{arith}
-use borrow.Author.Tests.{eq-eqb, ne-eqb, eqb-true}
+use borrow.Author.Tests.{eq-eqb, ne-eqb, eqb-true, not-true, not-false}
 use lib.Dec.{eqb}
-use Rattle.molecule.specs.Layout.{span, fixCount}
+use Rattle.arithmetic.specs.LittleEndian.{u64At}
+use Rattle.molecule.specs.Layout.{span, fixCount, fixItem}
 use Rattle.lists.proofs.SpanLaws.{span-on, span-end, span-whole}
 use Rattle.out_points.specs.declared.{Byte32.Byte32, OutPoint.OutPoint}
-use Rattle.out_points.specs.OutPoints.{eqHash, eqPoint, has, pointOf, points}
+use Rattle.out_points.specs.OutPoints.{eqHash, eqPoint, has, byte32At, outPointAt, pointOf, points}
 
 module _ (x y : Byte32) where
   pub hash-a : (x .a ≡ y .a → ⊥) → false ≡ eqHash x y
@@ -31,13 +32,24 @@ module _ (x y : Byte32) where
       hash-d ec = simp (eq-eqb _ _ ea, eq-eqb _ _ eb, eq-eqb _ _ ec)
 
 module _ (p q : OutPoint) where
-  pub point-index : (p .index ≡ q .index → ⊥) → false ≡ eqPoint p q
-  unfolding eqPoint
-  point-index h = simp (ne-eqb _ _ h)
+  module _ {r : Bool} (e : r ≡ eqHash (p .hash) (q .hash)) where
+    pub point-hash : not r ≡ true → false ≡ eqPoint p q
+    unfolding eqPoint
+    point-hash t = sym (rw (← e, not-true r t) (and-false (eqb (p .index) (q .index))))
 
-  pub point-hash : {r : Bool} → p .index ≡ q .index → r ≡ eqHash (p .hash) (q .hash) → r ≡ eqPoint p q
-  unfolding eqPoint
-  point-hash e h = rw (eq-eqb _ _ e) h
+    pub point-index : not r ≡ false → eqb (p .index) (q .index) ≡ eqPoint p q
+    unfolding eqPoint
+    point-index t = sym (rw (← e, not-false r t) (and-true (eqb (p .index) (q .index))))
+
+-- an item of a lent list, by its first word and whole
+module _ (s : List ℕ) (i : ℕ) (p : OutPoint) {x : List ℕ} (e : x ≡ fixItem s 36 i) where
+  pub item-word : {a : ℕ} → a ≡ u64At x 0 → (p .hash .a ≡ a → ⊥) → false ≡ eqPoint p (pointOf s i)
+  unfolding pointOf outPointAt byte32At
+  item-word f h = point-hash p (pointOf s i) (hash-a (p .hash) (pointOf s i .hash) (λ k. h (k ∙ ap (λ (y : List ℕ). u64At y 0) (sym e) ∙ sym f))) refl
+
+  pub item-same : {q : OutPoint} {r : Bool} → q ≡ outPointAt x 0 → r ≡ eqPoint p q → r ≡ eqPoint p (pointOf s i)
+  unfolding pointOf
+  item-same f h = h ∙ ap (eqPoint p) (f ∙ ap (λ (y : List ℕ). outPointAt y 0) e)
 
 -- ---- the tests say equality
 

@@ -43,16 +43,16 @@ pub fn same_hash(x: Byte32, y: Byte32) -> bool
     x.d == y.d
 }
 
-// Whether the two name the same output.
+// Whether the two name the same output. Hashes tell most of them apart by their first word.
 pub fn same_point(p: OutPoint, q: OutPoint) -> bool
     ensures { λ r. ⌜ r ≡ eqPoint p q ⌝ }
 {
-    if p.index != q.index {
-        return false;
-    }
     let x = p.hash;
     let y = q.hash;
-    same_hash(x, y)
+    if !same_hash(x, y) {
+        return false;
+    }
+    p.index == q.index
 }
 
 // The hash at `at`; a word that is not there whole is 0.
@@ -94,14 +94,27 @@ pub fn point_of(s: &[u8], i: usize) -> OutPoint
     out_point_at(x, 0)
 }
 
+// Whether item i of a lent list is p. What follows the first word is read only where that is the same.
+fn same_item(s: &[u8], i: usize, p: OutPoint) -> bool
+    ensures { λ r. ⌜ r ≡ eqPoint p (pointOf (now (s .entry)) i) ⌝ }
+{
+    let x = molecule::fix_item(s, OUT_POINT_BYTES, i);
+    let hash = p.hash;
+    let a = little_endian::u64_at(x, 0);
+    if hash.a != a {
+        return false;
+    }
+    let q = out_point_at(x, 0);
+    same_point(p, q)
+}
+
 // Whether p is among the first n items, read as zeros where the list has none.
 fn has_among(s: &[u8], n: usize, p: OutPoint) -> bool
     ensures { λ r. ⌜ r ≡ has p (span (pointOf (now (s .entry))) 0 n) ⌝ }
 {
     let mut i = 0;
     while i < n {
-        let q = point_of(s, i);
-        if same_point(p, q) {
+        if same_item(s, i, p) {
             return true;
         }
         i += 1;

@@ -19,8 +19,7 @@ has-among-spec =
     Inv-loop
     μ-loop
     (λ c. search ways)  -- loop-holds
-    (λ c κs. search ways)  -- point-of-requires
-    (λ c κs. search ways)  -- same-point-requires
+    (λ c κs. search ways)  -- same-item-requires
     (λ c. search ways)  -- returns
     (λ c. search ways)  -- add-i
     (λ c. search ways)  -- loop-less

@@ -6,6 +6,6 @@ pub same-point-spec : {M : Type 1} → statement M
 same-point-spec =
     tie.close
     (tie.spec
-    (λ c. search ways)  -- returns
     (λ c κs. search ways)  -- same-hash-requires
+    (λ c. search ways)  -- returns
     (λ c. search ways))  -- returns-2
