@@ -14,7 +14,10 @@ use Rattle.arithmetic.specs.Amount.{value}
 use Rattle.molecule.specs.Partial.{All}
 use Rattle.molecule.specs.Items.{join}
 use Rattle.molecule.specs.Layout.{span, itemsOf, itemCount, fixItems, content, entryOf}
-use Rattle.molecule.specs.Molecule.{readable, option}
+use Rattle.molecule.specs.Molecule.{size, decode, readable, option}
+use Rattle.molecule.proofs.Valid.{fixed, hasBytes, valid}
+use Rattle.molecule.proofs.PartialLaws.{there-some}
+use Rattle.molecule.proofs.MoleculeLaws.{accepted}
 use Rattle.molecule.proofs.ItemsLaws.{short-join}
 use Rattle.molecule.proofs.Offsets.{span-length}
 use Rattle.molecule.proofs.ReadableLaws.{every}
@@ -45,9 +48,10 @@ use Rattle.base_lists.specs.BaseLists.{cellOutput, amountItem, outputList, data
 use Rattle.cell_deps.specs.CellDeps.{pushAll, allDeps, cellDeps}
 use Rattle.cell_deps.proofs.LongLaws.{long-append, cell-deps-long}
 use Rattle.base_writer.specs.Answer.{inRoom, leaves, written, told}
+use Rattle.transaction_theorems.proofs.FieldsDecoded.{transaction-fields}
 use Rattle.funding_builder.specs.Base.{Lent, Packed, packed, baseTx, changeCapacity, supplied, lists, withPick, withCell, withRequest, buildBase}
 use Rattle.funding_builder.proofs.PresentLaws.{deps-readable, option-of}
-use Rattle.base_theorems.proofs.Claims.{Figured, ReadsBack, Funds, Keeps, Distinct, Passes, Readable, FirstOutput, Kept, Compared, Tidy, Tidied, OfCalls}
+use Rattle.base_theorems.proofs.Claims.{Figured, ReadsBack, fieldsOf, Encodes, Funds, Keeps, Distinct, Passes, Readable, Encoded, FirstOutput, Kept, Compared, Tidy, Tidied, OfCalls}
 use Rattle.base_theorems.proofs.PackedLaws.{Formed, ReadsAs, reads-as, item-readable, item-content}
 use Rattle.base_theorems.proofs.CompareLaws.{prefix-append, deps-begin, all-distinct, entries-begin, map-append, has-lock, has-type, has-data, passes}
 use Rattle.base_theorems.proofs.FormLaws.{of-T, Present, present, version-low, every-append, later-is, later-outputs, later-data, all-right, last-every, cell-readable, witnesses-readable, picked-long}
@@ -267,6 +271,35 @@ module _ (l : Lent) (request : FundingRequest) (bytes : List ℕ) (b : AllBytes 
     fields = reads .fields;
   }
 
+  -- ---- the schema's encoding
+
+  is-encoded : Encodes l request bytes
+  unfolding valid fixed hasBytes size
+  is-encoded a =
+      let (v, d) = there-some (decode Transaction bytes) .0 (unfold readable in reads .isReadable) in
+      let x = accepted Transaction tt bytes a (omega arith) v .0 d in
+      record {
+        cell = m .cell;
+        pick = m .pick;
+        figured = m .figured;
+        tx = v;
+        good = x .0;
+        encodes = x .1 ∙ sym (m .is);
+        isBase = sym (m .is);
+        fields = sym (transaction-fields bytes a v d .fields) ∙ same-fields;
+      }
+    where
+      same-fields : txAt bytes ≡ fieldsOf base
+      same-fields = λ i. record {
+        version = reads .fields .version i;
+        cellDeps = reads .cellDeps i;
+        headerDeps = reads .headerDeps i;
+        inputs = reads .inputs i;
+        outputs = reads .outputs i;
+        outputsData = reads .outputsData i;
+        witnesses = reads .witnesses i;
+      }
+
   -- ---- output 0
 
   abbrev changes : List (List ℕ)
@@ -396,6 +429,10 @@ module _ (l : Lent) (request : FundingRequest) (bytes : List ℕ) (b : AllBytes 
 -- "the result is readable"
 pub is-readable : Readable
 is-readable l request bytes b e short = reads-back l request bytes b e short
+
+-- as a value of the schema, `baseTx` list by list
+pub encoded : Encoded
+encoded l request bytes b e short = is-encoded l request bytes b e short
 
 -- "its output 0 has the funding lock and type"
 pub first-output : FirstOutput

@@ -3,16 +3,16 @@
 use mathlib.Core.Path.{_≡_}
 use Prim.Native.Nat.{ℕ, _≤_}
 use mathlib.Core.Bool.{true, false, not, cond}
-use mathlib.Core.List.{List, [], _∷_}
+use mathlib.Core.List.{List, [], _∷_, map}
 use lib.ListN.{length, take, drop}
 use Rattle.arithmetic.specs.LittleEndian.{toLe, AllBytes}
 use Rattle.arithmetic.specs.Amount.{value}
 use Rattle.molecule.specs.Items.{join}
-use Rattle.molecule.specs.Layout.{itemsOf}
-use Rattle.molecule.specs.Molecule.{readable}
+use Rattle.molecule.specs.Layout.{itemsOf, content}
+use Rattle.molecule.specs.Molecule.{Value, encode, readable, Good}
 use Rattle.lists.specs.Lists.{contains}
 use Rattle.transaction.specs.Ckb.{Transaction}
-use Rattle.transaction.specs.Tx.{txAt, capacityOf, lockOf, typeOf}
+use Rattle.transaction.specs.Tx.{Tx, txAt, capacityOf, lockOf, typeOf}
 use Rattle.rules.specs.Cells.{Cell, cells}
 use Rattle.rules.specs.Outcome.{fine}
 use Rattle.rules.specs.Surplus.{isEmpty}
@@ -24,8 +24,9 @@ use Rattle.udt_cells.specs.Pick.{Pick, pickTyped}
 use Rattle.list_writer.specs.ListWriter.{fixList}
 use Rattle.transaction_writer.specs.declared.Written.{Written}
 use Rattle.base_writer.specs.Answer.{written, told}
+use Rattle.transaction_theorems.proofs.Claims.{valueTx}
 use Rattle.transaction_theorems.proofs.WrittenReads.{HasFields}
-use Rattle.funding_builder.specs.Base.{Lent, Packed, baseTx, buildBase}
+use Rattle.funding_builder.specs.Base.{Lent, Packed, packed, baseTx, buildBase}
 
 -- P holds of the bytes of each call that is not refused, if they fit a transaction
 abbrev pub Built : (Lent → FundingRequest → List ℕ → Type 0) → Type 0
@@ -54,6 +55,33 @@ pub record ReadsBack (l : Lent) (request : FundingRequest) (bytes : List ℕ) : 
   pub figured : Figured l request cell pick
   pub isReadable : readable Transaction bytes ≡ true
   pub fields : Holds (baseTx l cell pick) bytes
+
+-- the fields of t: of a data entry and of a witness what it holds
+abbrev pub fieldsOf : Packed → Tx
+fieldsOf t = record {
+  version = t .version;
+  cellDeps = t .cellDeps;
+  headerDeps = t .headerDeps;
+  inputs = t .inputs;
+  outputs = t .outputs;
+  outputsData = map content (t .outputsData);
+  witnesses = map content (t .witnesses);
+}
+
+-- the bytes are the schema's encoding of a value, whose fields are those of `baseTx` (the Rust's `assemble_base_tx`)
+pub record IsEncoded (l : Lent) (request : FundingRequest) (bytes : List ℕ) : Type 0 where
+  pub cell : Figures
+  pub pick : Pick
+  pub figured : Figured l request cell pick
+  pub tx : Value Transaction
+  pub good : Good Transaction tx
+  pub encodes : encode Transaction tx ≡ packed (baseTx l cell pick)
+  pub isBase : bytes ≡ packed (baseTx l cell pick)
+  pub fields : valueTx tx ≡ fieldsOf (baseTx l cell pick)
+
+-- the premise holds of what stands in a buffer of bytes
+abbrev pub Encodes : Lent → FundingRequest → List ℕ → Type 0
+Encodes l request bytes = AllBytes bytes → IsEncoded l request bytes
 
 -- "its output 0 has the funding lock and type": and the capacity and data of the funding cell
 pub record Funds (l : Lent) (request : FundingRequest) (bytes : List ℕ) : Type 0 where
@@ -95,6 +123,9 @@ pub record Tidy (l : Lent) (request : FundingRequest) (bytes : List ℕ) : Type 
 
 abbrev pub Readable : Type 0
 Readable = Built ReadsBack
+
+abbrev pub Encoded : Type 0
+Encoded = Built Encodes
 
 abbrev pub FirstOutput : Type 0
 FirstOutput = Built Funds
