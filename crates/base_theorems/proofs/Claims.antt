@@ -141,3 +141,12 @@ Tidied = Built Tidy
 
 abbrev pub OfCalls : Type 1
 OfCalls = (P : Lent → FundingRequest → List ℕ → Type 0) → Built P → Called P
+
+-- all that is claimed of the bytes that a call writes
+pub record Based (l : Lent) (request : FundingRequest) (bytes : List ℕ) : Type 0 where
+  pub readsBack : ReadsBack l request bytes
+  pub isEncoded : IsEncoded l request bytes
+  pub funds : Funds l request bytes
+  pub keeps : Keeps l request bytes
+  pub passes : Passes l request bytes
+  pub tidy : Tidy l request bytes

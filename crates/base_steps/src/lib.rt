@@ -1,0 +1,39 @@
+// `build_base` with the contract that what is proved of its definition (crates/base_theorems) holds of the bytes that it leaves in the lent buffer.
+use funding_cell::FundingRequest;
+use transaction_writer::Written;
+ghost use mathlib.Core.Path.{_≡_};
+ghost use Prim.Native.Nat.{ℕ};
+ghost use lib.ListN.{take};
+ghost use Rattle.base_theorems.proofs.Claims.{Based};
+ghost use Rattle.transaction_writer.specs.declared.{Written.Written};
+
+pub fn build_base<'a>(
+    ours: &'a [u8],
+    lock: &[u8],
+    udt: &[u8],
+    source: &[u8],
+    cells: &[u8],
+    udt_deps: &'a [u8],
+    lock_dep: &'a [u8],
+    extra_deps: &'a [u8],
+    request: FundingRequest,
+    out: &mut [u8],
+) -> Written
+    ensures { λ r. ⌜ ((n : ℕ) → r ≡ Written.Wrote n → Based (record { ours = now (ours .entry); lock = now (lock .entry); udt = now (udt .entry); source = now (source .entry); cells = now (cells .entry); udtDeps = now («udt_deps» .entry); lockDep = now («lock_dep» .entry); extraDeps = now («extra_deps» .entry) }) request (take n (now (out .exit)))) ⌝ }
+{
+    transaction_writer::are_bytes(ours);
+    let answer = funding_builder::build_base(
+        ours,
+        lock,
+        udt,
+        source,
+        cells,
+        udt_deps,
+        lock_dep,
+        extra_deps,
+        request,
+        out,
+    );
+    transaction_writer::are_bytes(out);
+    answer
+}
