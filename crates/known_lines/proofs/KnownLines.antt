@@ -5,9 +5,8 @@ use Prim.Native.String.{String}
 use mathlib.Core.List.{List, [], _∷_, map, flatten}
 use lib.ListN.{take}
 use Rattle.molecule.specs.Partial.{All}
-use Rattle.known_outcomes.specs.Cases.{untyped, crowd}
-use Rattle.known_outcomes.specs.Outcomes.{answer}
-use Rattle.known_outcomes.proofs.Largest.{bytes-over}
+use Rattle.known_cases.specs.Cases.{untyped, crowd, answer}
+use Rattle.known_cases.proofs.Largest.{bytes-over}
 use Rattle.known_outcomes.proofs.Rows.{_and_, done}
 use Rattle.known_lines.specs.Lines.{Line, lines}
 use Rattle.known_lines.specs.Alone.{Row, groups, failingIn, whole}

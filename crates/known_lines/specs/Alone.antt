@@ -7,7 +7,7 @@ use Rattle.molecule.specs.Molecule.{Value, encode}
 use Rattle.transaction.specs.Ckb.{Byte32, CellDep, CellInput, CellOutput, Records}
 use Rattle.rules.specs.Judge.{Call}
 use Rattle.known_lines.specs.Lines.{lines, failing}
-use Rattle.known_outcomes.specs.Cases.{expectedLock, ourLock, tokenType, input, dep, header, inputs, output, plain, token, amount, transaction, spending, usual, holding, crowd, cell, notLive, offer, Case, untyped, typed}
+use Rattle.known_cases.specs.Cases.{expectedLock, ourLock, tokenType, input, dep, header, inputs, output, plain, token, amount, transaction, spending, usual, holding, crowd, cell, notLive, offer, Case, untyped, typed}
 
 -- a case, the lines that fail in it, and the answer
 pub record Row : Type 0 where

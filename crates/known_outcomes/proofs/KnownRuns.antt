@@ -16,7 +16,7 @@ use Rattle.rules.specs.declared.Update.{Update}
 use Rattle.funding_tx.specs.Negotiation.{Called}
 use Rattle.rules.proofs.Accept.{accepted}
 use Rattle.rules.proofs.Law.{exact}
-use Rattle.known_outcomes.specs.Cases.{expectedLock, tokenType, input, token, amount}
+use Rattle.known_cases.specs.Cases.{expectedLock, tokenType, input, token, amount}
 use Rattle.known_outcomes.specs.Runs.{worked, opening, growing, spentFor, anyType, changing}
 use Rattle.known_outcomes.proofs.Computing.{computing}
 

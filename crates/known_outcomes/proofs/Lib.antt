@@ -2,5 +2,4 @@ pub mod Computing
 pub mod KnownDecided
 pub mod KnownOutcomes
 pub mod KnownRuns
-pub mod Largest
 pub mod Rows

@@ -9,7 +9,7 @@ use lib.ListN.{length, replicate}
 use Rattle.arithmetic.specs.LittleEndian.{toLe}
 use Rattle.molecule.specs.Molecule.{option, Value, encode}
 use Rattle.transaction.specs.Ckb.{CellOutput, Record}
-use Rattle.known_outcomes.specs.Cases.{expectedLock, ourLock, plain}
+use Rattle.known_cases.specs.Cases.{expectedLock, ourLock, plain}
 
 -- the bytes of a line
 abbrev pub ascii : String → List ℕ

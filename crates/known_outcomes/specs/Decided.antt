@@ -8,8 +8,8 @@ use Rattle.molecule.specs.Items.{join}
 use Rattle.molecule.specs.Molecule.{Value, option, encode}
 use Rattle.transaction.specs.Ckb.{CellOutput, Record, Records}
 use Rattle.rules.specs.Judge.{Call}
-use Rattle.known_outcomes.specs.Cases.{plainScript, expectedLock, ourLock, input, inputs, dep, deps, output, plain, token, amount, transaction, spending, usual, holding, cell, notLive, atRate, offer, untyped, typed}
-use Rattle.known_outcomes.specs.Outcomes.{Outcome, _gives_, answer, emptyTx, peerTx}
+use Rattle.known_cases.specs.Cases.{plainScript, expectedLock, ourLock, input, inputs, dep, deps, output, plain, token, amount, transaction, spending, usual, holding, cell, notLive, atRate, offer, untyped, typed, answer}
+use Rattle.known_outcomes.specs.Outcomes.{Outcome, _gives_, emptyTx, peerTx}
 
 -- an update that adds one input to `usual` or to `holding`: the outputs then, their data, and the record
 abbrev adding : List (Value CellOutput) → List (List ℕ) → Value (option Record) → Call

@@ -1,5 +1,4 @@
 pub mod CaseFiles
-pub mod Cases
 pub mod Decided
 pub mod Outcomes
 pub mod Runs

@@ -9,10 +9,8 @@ use Rattle.arithmetic.specs.LittleEndian.{toLe}
 use Rattle.arithmetic.specs.Amount.{value, amountOf}
 use Rattle.units.specs.Fee.{requiredFee, changeCapacity}
 use Rattle.molecule.specs.Molecule.{Value, encode}
-use Rattle.molecule.specs.Layout.{itemsOf}
-use Rattle.transaction.specs.Ckb.{CellOutput, TokenCell, TokenCells}
+use Rattle.transaction.specs.Ckb.{Script, CellOutput, TokenCell, TokenCells}
 use Rattle.rules.specs.Outcome as verdict
-use Rattle.rules.specs.Judge.{Figures}
 use Rattle.units.specs.declared.{Millis.Millis, BlockNumber.BlockNumber}
 use Rattle.out_points.specs.declared.{Byte32.Byte32, OutPoint.OutPoint}
 use Rattle.out_points.specs.OutPoints.{points, pointList}
@@ -23,10 +21,10 @@ use Rattle.exclusions.specs.declared.{Row.Row, Slot.Slot, LiveCellsExclusionMap
 use Rattle.exclusions.specs.Exclusions.{Entry, entriesOf, commitCall, truncated, applyCall, addCall}
 use Rattle.funding_cell.specs.declared.{FundingRequest.FundingRequest}
 use Rattle.funding_cell.specs.FundingCell.{buildFundingCell}
-use Rattle.udt_cells.specs.Pick.{Pick, pickTyped}
+use Rattle.udt_cells.specs.Change.{Built, udtInputsOutputs}
 use Rattle.case_file.specs.CaseFile.{caseLine}
 use Rattle.known_outcomes.specs.CaseFiles.{ascii, file, fileAt, firstFile}
-use Rattle.known_outcomes.specs.Cases.{expectedLock, tokenType, inputs, output, plain, token, amount, spending, crowd, cell, notLive, atRate, offer, Case, untyped, judged}
+use Rattle.known_cases.specs.Cases.{plainScript, expectedLock, ourLock, tokenType, inputs, output, plain, token, amount, spending, crowd, cell, notLive, atRate, offer, untyped, numbers, answer}
 
 pub record Outcome : Type 0 where
   pub computed : List ℕ
@@ -50,14 +48,6 @@ shannons s = value (s .0) ∷ []
 abbrev ifFits : CheckedShannons → List ℕ
 ifFits (CheckedShannons.Fits s) = shannons s
 ifFits CheckedShannons.Overflow = []
-
--- 0 and the surpluses in capacity and token, or the refusal's number and its values
-abbrev pub numbers : verdict.Outcome Figures → List ℕ
-numbers (verdict.fine s) = 0 ∷ s .capacity ∷ s .token ∷ []
-numbers (verdict.refused n l) = n ∷ l
-
-abbrev pub answer : Case → List ℕ
-answer c = numbers (judged c)
 
 -- ---- transactions
 
@@ -155,16 +145,36 @@ excludedAt tip = listed (applyCall (mapOf (truncated (record { 0 = tip }) (entri
 abbrev figures : FundingRequest
 figures = record { «local_amount» = amountOf 5; «local_reserved_ckb_amount» = 7; «remote_amount» = amountOf 11; «remote_reserved_ckb_amount» = 13 }
 
--- 0, how many cells are taken of 30, 50 and 40, and the change; or the refusal's number
+-- ---- the token pick
+
 abbrev tokenCell : ℕ → Value TokenCell
 tokenCell n = ((replicate 32 0, (toLe 4 0, tt)), (amount n, tt))
 
-abbrev pickNumbers : verdict.Outcome Pick → List ℕ
-pickNumbers (verdict.fine p) = 0 ∷ p .taken ∷ p .change ∷ []
-pickNumbers (verdict.refused n l) = n ∷ l
+abbrev threeCells : List ℕ
+threeCells = encode TokenCells (tokenCell 30 ∷ tokenCell 50 ∷ tokenCell 40 ∷ [])
+
+-- a buffer with two bytes more than the change output under our lock has
+abbrev lentBuffer : List ℕ
+lentBuffer = replicate 132 7
+
+-- so many tokens picked of cells of 30, 50 and 40
+abbrev pick : ℕ → verdict.Outcome Built × List ℕ
+pick wanted = udtInputsOutputs threeCells tokenType ourLock wanted lentBuffer
+
+-- 0, how many cells are taken, the change and the capacity of its output; or the refusal's number
+abbrev builtNumbers : verdict.Outcome Built → List ℕ
+builtNumbers (verdict.fine b) = 0 ∷ b .taken ∷ b .change ∷ b .capacity ∷ []
+builtNumbers (verdict.refused n l) = n ∷ l
 
 abbrev picked : ℕ → List ℕ
-picked wanted = pickNumbers (pickTyped tokenType wanted (itemsOf (encode TokenCells (tokenCell 30 ∷ tokenCell 50 ∷ tokenCell 40 ∷ []))))
+picked wanted = builtNumbers (pick wanted .0)
+
+abbrev leftBy : ℕ → List ℕ
+leftBy wanted = pick wanted .1
+
+-- scripts with args of so many bytes
+abbrev withArgs : ℕ → List ℕ
+withArgs n = encode Script (replicate 32 1, (0, (replicate n 0, tt)))
 
 -- the file of so many inputs and cell deps
 abbrev crowded : ℕ → ℕ → List ℕ
@@ -212,11 +222,16 @@ outcomes =
     ∷ (numbers (buildFundingCell [] tokenType figures) gives 0 ∷ 7 ∷ 5 ∷ [])
     ∷ (numbers (buildFundingCell peerTx tokenType figures) gives 0 ∷ 20 ∷ 16 ∷ [])
     -- cells 30, 50, 40: wanted 70 takes two, change 10; 80 none; 121 gets 9
-    ∷ (picked 70 gives 0 ∷ 2 ∷ 10 ∷ [])
-    ∷ (picked 80 gives 0 ∷ 2 ∷ 0 ∷ [])
+    -- (the change output under our lock, of the type, stands in the buffer; without one the buffer is as it was)
+    ∷ (picked 70 gives 0 ∷ 2 ∷ 10 ∷ 9000000000 ∷ [])
+    ∷ (leftBy 70 gives encode CellOutput (output 1 (some (plainScript 2)) 9000000000) ++ 7 ∷ 7 ∷ [])
+    ∷ (picked 80 gives 0 ∷ 2 ∷ 0 ∷ 0 ∷ [])
+    ∷ (leftBy 80 gives lentBuffer)
     ∷ (picked 121 gives 9 ∷ [])
+    ∷ (leftBy 121 gives lentBuffer)
     -- lock args 20, type args 32: change capacity 14,200,000,000
     ∷ (ifFits (changeCapacity 20 32) gives 14200000000 ∷ [])
+    ∷ (builtNumbers (udtInputsOutputs threeCells (withArgs 32) (withArgs 20) 70 (replicate 200 7) .0) gives 0 ∷ 2 ∷ 10 ∷ 14200000000 ∷ [])
     -- held by watchtower at 1,000: busy at 1,800,999, free at 1,801,000
     ∷ (busyAt 1800999 gives 0 ∷ 1 ∷ [])
     ∷ (busyAt 1801000 gives 0 ∷ [])

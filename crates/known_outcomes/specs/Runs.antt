@@ -6,7 +6,7 @@ use Rattle.transaction.specs.Ckb.{CellInput, CellOutput}
 use Rattle.rules.specs.Cells.{readRecords}
 use Rattle.rules.specs.Judge.{Call, Figures, judge}
 use Rattle.rules.specs.Run.{Entry, Spent, allCells}
-use Rattle.known_outcomes.specs.Cases.{input, inputs, plain, token, amount, spending, cell, tokenType, offer}
+use Rattle.known_cases.specs.Cases.{input, inputs, plain, token, amount, spending, cell, tokenType, offer}
 
 -- ---- under one type: accepted, refused, accepted
 

@@ -7,7 +7,7 @@ use Rattle.arithmetic.specs.LittleEndian.{toLe}
 use Rattle.molecule.specs.Molecule.{option, Value, encode}
 use Rattle.molecule.specs.Layout.{span}
 use Rattle.transaction.specs.Ckb.{Byte32, Script, CellDep, CellInput, CellOutput, Transaction, Record, Records}
-use Rattle.rules.specs.Outcome.{Outcome}
+use Rattle.rules.specs.Outcome.{Outcome, fine, refused}
 use Rattle.rules.specs.Judge.{Call, Figures, judge}
 
 -- ---- scripts: a code hash of one byte repeated, hash type 0 and empty args
@@ -108,3 +108,11 @@ typed ours call = record { lock = expectedLock; type = tokenType; ours = ours; c
 
 abbrev pub judged : Case → Outcome Figures
 judged c = judge (c .lock) (c .type) (c .ours) (c .call)
+
+-- 0 and the surpluses in capacity and token, or the refusal's number and its values
+abbrev pub numbers : Outcome Figures → List ℕ
+numbers (fine s) = 0 ∷ s .capacity ∷ s .token ∷ []
+numbers (refused n l) = n ∷ l
+
+abbrev pub answer : Case → List ℕ
+answer c = numbers (judged c)
