@@ -1,5 +1,5 @@
-// What the programs share that replay recorded calls on a table: the calls' fields, the counts, and the parts of standard input, in the form that
-// tools/recorded_tables.py describes.
+// What the programs share that replay recorded calls: of those on a table the calls' fields and the counts, and of all the parts of standard input, in the
+// form that tools/recorded_tables.py describes.
 use arithmetic::little_endian;
 use libc::STDIN_FILENO;
 use libc::STDOUT_FILENO;
@@ -16,7 +16,7 @@ const OVER: usize = 17;
 
 pub const COUNTS: usize = 18;
 
-fn plus(a: usize, b: usize) -> usize {
+pub fn plus(a: usize, b: usize) -> usize {
     if usize::MAX - a < b {
         return usize::MAX;
     }
@@ -80,14 +80,14 @@ pub fn is_written(buf: &[u8], room: usize, list: &[u8]) -> bool {
 
 // ---- counts
 
-fn count(counts: &[u64], i: usize) -> u64 {
+pub fn count(counts: &[u64], i: usize) -> u64 {
     if i >= counts.len() {
         return 0;
     }
     counts[i]
 }
 
-fn raise_if(counts: &mut [u64], i: usize, yes: bool) {
+pub fn raise_if(counts: &mut [u64], i: usize, yes: bool) {
     if i < counts.len() {
         counts[i] = std::num::wrapping_add_u64(counts[i], yes as u64);
     }

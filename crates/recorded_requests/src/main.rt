@@ -5,8 +5,8 @@ use arithmetic::Amount;
 use arithmetic::little_endian;
 use funding_cell::FundingCell;
 use funding_cell::FundingRequest;
-use libc::STDIN_FILENO;
 use libc::STDOUT_FILENO;
+use recorded_calls::FILL;
 use transaction_writer::Written;
 use udt_cells::UdtInputsOutputs;
 use units::Shannons;
@@ -17,29 +17,12 @@ const ROOM: usize = 600_000;
 
 const BUFFER_ROOM: usize = 133_200;
 
-// What stands in a lent buffer before the call.
-const FILL: u8 = 165;
-
 // The counts: requests by number and all of them, then wrong ones likewise.
 const ALL: usize = 14;
 
 const WRONG: usize = 15;
 
 const COUNTS: usize = 30;
-
-fn plus(a: usize, b: usize) -> usize {
-    if usize::MAX - a < b {
-        return usize::MAX;
-    }
-    a + b
-}
-
-fn minus(a: usize, b: usize) -> usize {
-    if a < b {
-        return 0;
-    }
-    a - b
-}
 
 // ---- a request's fields
 
@@ -63,7 +46,7 @@ fn head_u32(call: &[u8], at: usize) -> usize {
 fn head_amount(call: &[u8], at: usize) -> Amount {
     Amount {
         low: head_u64(call, at),
-        high: head_u64(call, plus(at, 8)),
+        high: head_u64(call, recorded_calls::plus(at, 8)),
     }
 }
 
@@ -79,28 +62,6 @@ fn request(call: &[u8]) -> FundingRequest {
 // How long the lent buffer is.
 fn room(call: &[u8]) -> usize {
     head_u32(call, 52)
-}
-
-// ---- a lent buffer
-
-fn is_filled(s: &[u8]) -> bool {
-    let mut i = 0;
-    while i < s.len() {
-        if s[i] != FILL {
-            return false;
-        }
-        i += 1;
-    }
-    true
-}
-
-// Whether the lent buffer, the first bytes of `buf`, begins with these, and has what stood there before in all the rest.
-fn is_written(buf: &[u8], room: usize, written: &[u8]) -> bool {
-    let n = written.len();
-    if !check::same(molecule::part(buf, 0, n), written) {
-        return false;
-    }
-    is_filled(molecule::part(buf, n, room))
 }
 
 // ---- the base transaction
@@ -145,7 +106,7 @@ fn is_base_right(call: &[u8]) -> bool {
     if !is_told(answer, call) {
         return false;
     }
-    is_written(&a, room(call), field(call, 9))
+    recorded_calls::is_written(&a, room(call), field(call, 9))
 }
 
 // ---- the funding cell
@@ -213,23 +174,10 @@ fn is_pick_right(call: &[u8]) -> bool {
     if !is_picked(answer, call) {
         return false;
     }
-    is_written(&a, room(call), field(call, 10))
+    recorded_calls::is_written(&a, room(call), field(call, 10))
 }
 
 // ---- counts
-
-fn count(counts: &[u64], i: usize) -> u64 {
-    if i >= counts.len() {
-        return 0;
-    }
-    counts[i]
-}
-
-fn raise_if(counts: &mut [u64], i: usize, yes: bool) {
-    if i < counts.len() {
-        counts[i] = std::num::wrapping_add_u64(counts[i], yes as u64);
-    }
-}
 
 fn is_right(call: &[u8]) -> bool {
     if !is_base_right(call) {
@@ -244,23 +192,26 @@ fn is_right(call: &[u8]) -> bool {
 fn judge(counts: &mut [u64], call: &[u8]) {
     let i = head_byte(call, 0) as usize;
     let wrong = !is_right(call);
-    raise_if(counts, i, true);
-    raise_if(counts, ALL, true);
-    raise_if(counts, plus(WRONG, i), wrong);
-    raise_if(counts, plus(WRONG, ALL), wrong);
+    recorded_calls::raise_if(counts, i, true);
+    recorded_calls::raise_if(counts, ALL, true);
+    recorded_calls::raise_if(counts, recorded_calls::plus(WRONG, i), wrong);
+    recorded_calls::raise_if(counts, recorded_calls::plus(WRONG, ALL), wrong);
 }
 
 fn print_line(counts: &[u64], i: usize) {
     io::write_all(STDOUT_FILENO, b": ");
-    io::print_decimal(STDOUT_FILENO, count(counts, i));
+    io::print_decimal(STDOUT_FILENO, recorded_calls::count(counts, i));
     io::write_all(STDOUT_FILENO, b" requests, ");
-    io::print_decimal(STDOUT_FILENO, count(counts, plus(WRONG, i)));
+    io::print_decimal(
+        STDOUT_FILENO,
+        recorded_calls::count(counts, recorded_calls::plus(WRONG, i)),
+    );
     io::write_all(STDOUT_FILENO, b" wrong\n");
 }
 
 // A number that is recorded at all.
 fn print_number(counts: &[u64], i: usize) {
-    if count(counts, i) != 0 {
+    if recorded_calls::count(counts, i) != 0 {
         io::print_decimal(STDOUT_FILENO, i as u64);
         print_line(counts, i);
     }
@@ -287,76 +238,14 @@ fn judge_part(counts: &mut [u64], part: &[u8]) {
 
 // ---- parts
 
-// Reads n bytes of standard input into buf at `at`.
-fn read_at(buf: &mut [u8], at: usize, n: usize) {
-    let end = plus(at, n);
-    if at <= end {
-        if end <= buf.len() {
-            let room = &mut buf[at..end];
-            io::read_full(STDIN_FILENO, room);
-        }
-    }
-}
-
-fn copy_byte(buf: &mut [u8], from: usize, to: usize) {
-    if from < buf.len() {
-        if to < buf.len() {
-            let x = buf[from];
-            buf[to] = x;
-        }
-    }
-}
-
-// Puts n bytes at `at`, each a copy of the one that stands `back` bytes before it.
-fn copy_back(buf: &mut [u8], at: usize, n: usize, back: usize) {
-    let mut i = 0;
-    while i < n {
-        let to = plus(at, i);
-        copy_byte(buf, minus(to, back), to);
-        i += 1;
-    }
-}
-
-// Reads a piece to `at`, and answers where it ends.
-fn read_piece(buf: &mut [u8], at: usize) -> usize {
-    let mut head = [0u8; 6];
-    io::read_full(STDIN_FILENO, &mut head);
-    let n = little_endian::byte(&head, 0) as usize;
-    let copies = (little_endian::u32_at(&head, 1) % 65536) as usize;
-    let back = (little_endian::u32_at(&head, 2) / 256) as usize;
-    read_at(buf, at, n);
-    let end = plus(at, n);
-    copy_back(buf, end, copies, back);
-    plus(end, copies)
-}
-
-// A number of standard input.
-fn read_number() -> u32 {
-    let mut head = [0u8; 4];
-    io::read_full(STDIN_FILENO, &mut head);
-    little_endian::u32_at(&head, 0)
-}
-
-// Reads a part to `at`, piece by piece, and answers where it ends.
-fn read_part(buf: &mut [u8], at: usize) -> usize {
-    let n = read_number();
-    let mut end = at;
-    let mut i = 0;
-    while i < n {
-        end = read_piece(buf, end);
-        i += 1;
-    }
-    end
-}
-
 // Reads a part behind the first one, which it copies from, and judges its calls.
 fn next_part(counts: &mut [u64], buf: &mut [u8], first: usize) {
-    let end = read_part(buf, first);
+    let end = recorded_calls::read_part(buf, first);
     judge_part(counts, molecule::part(buf, first, end));
 }
 
 fn judge_parts(counts: &mut [u64], buf: &mut [u8], n: u32) {
-    let first = read_part(buf, 0);
+    let first = recorded_calls::read_part(buf, 0);
     let mut i = 1;
     while i < n {
         next_part(counts, buf, first);
@@ -365,7 +254,7 @@ fn judge_parts(counts: &mut [u64], buf: &mut [u8], n: u32) {
 }
 
 fn main() {
-    let n = read_number();
+    let n = recorded_calls::read_number();
     let mut buf = [0u8; ROOM];
     let mut counts = [0u64; COUNTS];
     judge_parts(&mut counts, &mut buf, n);
