@@ -55,7 +55,21 @@ module _ (d e f out : List ℕ) (at : ℕ) (h : BackFits at d e f out) {o₁ o�
       let p₂ = and-list e p₁ e₂ f₂ (omega arith) (omega arith) in
       and-list f p₂ e₃ f₃ (omega arith) (simp length-append (omega arith))
 
--- the same by what the code computes: how many outputs are later, whether there is a type, how many inputs are present
+-- the data by what the code computes: how many outputs are later, and whether there is a type
+module _ (outputs datas udt : List ℕ) (p : Plan) (out : List ℕ) (at : ℕ) {entries : ℕ} (el : entries ≡ itemCount outputs - 1) where
+  same-data : join (dataList (not (eqb (length udt) 0)) (tokenCount (p .token)) datas entries (tokenCount (p .change)))
+      ≡ join (dataList (not (isEmpty udt)) (tokenCount (p .token)) datas (itemCount outputs - 1) (tokenCount (p .change)))
+  same-data = rw (el, ← empty-is udt)
+
+  pub data-put : {after : List ℕ} → after ≡ putList out at (join (dataList (not (eqb (length udt) 0)) (tokenCount (p .token)) datas entries (tokenCount (p .change))))
+      → after ≡ putList out at (join (dataList (not (isEmpty udt)) (tokenCount (p .token)) datas (itemCount outputs - 1) (tokenCount (p .change))))
+  data-put e = e ∙ ap (putList out at) same-data
+
+  pub data-end : {r : ℕ} → r ≡ putListEnd out at (join (dataList (not (eqb (length udt) 0)) (tokenCount (p .token)) datas entries (tokenCount (p .change))))
+      → r ≡ putListEnd out at (join (dataList (not (isEmpty udt)) (tokenCount (p .token)) datas (itemCount outputs - 1) (tokenCount (p .change))))
+  data-end e = e ∙ ap (putListEnd out at) same-data
+
+-- the last three lists likewise, with how many inputs are present
 module _ (inputs outputs datas lock udt source : List ℕ) (p : Plan) (out : List ℕ) (at : ℕ) {later present : ℕ} (el : later ≡ itemCount outputs - 1) (ep : present ≡ fixCount inputs) where
   abbrev last₁ : List ℕ
   last₁ = join (outputList (p .capacity) lock udt outputs (itemCount outputs - 1) (p .«change_capacity») source)
@@ -69,19 +83,16 @@ module _ (inputs outputs datas lock udt source : List ℕ) (p : Plan) (out : Lis
   same₁ : join (outputList (p .capacity) lock udt outputs later (p .«change_capacity») source) ≡ last₁
   same₁ = rw el
 
-  same₂ : join (dataList (not (eqb (length udt) 0)) (tokenCount (p .token)) datas later (tokenCount (p .change))) ≡ last₂
-  same₂ = rw (el, ← empty-is udt)
-
   same₃ : join (witnessList present (p .taken)) ≡ last₃
   same₃ = rw ep
 
   pub back-done : BackFits at last₁ last₂ last₃ out → {o₁ o₂ o₃ : List ℕ} {n₁ n₂ n₃ : ℕ}
       → o₁ ≡ putList out at (join (outputList (p .capacity) lock udt outputs later (p .«change_capacity») source))
       → n₁ ≡ putListEnd out at (join (outputList (p .capacity) lock udt outputs later (p .«change_capacity») source))
-      → o₂ ≡ putList o₁ n₁ (join (dataList (not (eqb (length udt) 0)) (tokenCount (p .token)) datas later (tokenCount (p .change))))
-      → n₂ ≡ putListEnd o₁ n₁ (join (dataList (not (eqb (length udt) 0)) (tokenCount (p .token)) datas later (tokenCount (p .change))))
+      → o₂ ≡ putList o₁ n₁ (join (dataList (not (isEmpty udt)) (tokenCount (p .token)) datas (itemCount outputs - 1) (tokenCount (p .change))))
+      → n₂ ≡ putListEnd o₁ n₁ (join (dataList (not (isEmpty udt)) (tokenCount (p .token)) datas (itemCount outputs - 1) (tokenCount (p .change))))
       → o₃ ≡ putList o₂ n₂ (join (witnessList present (p .taken))) → n₃ ≡ putListEnd o₂ n₂ (join (witnessList present (p .taken)))
       → Put out at (back last₁ last₂ last₃) o₃ n₃
   back-done h {o₁} {o₂} {o₃} {n₁} {n₂} {n₃} e₁ f₁ e₂ f₂ e₃ f₃ =
       back-put last₁ last₂ last₃ out at h (e₁ ∙ ap (putList out at) same₁) (f₁ ∙ ap (putListEnd out at) same₁)
-      (e₂ ∙ ap (putList o₁ n₁) same₂) (f₂ ∙ ap (putListEnd o₁ n₁) same₂) (e₃ ∙ ap (putList o₂ n₂) same₃) (f₃ ∙ ap (putListEnd o₂ n₂) same₃)
+      e₂ f₂ (e₃ ∙ ap (putList o₂ n₂) same₃) (f₃ ∙ ap (putListEnd o₂ n₂) same₃)

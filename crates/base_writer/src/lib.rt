@@ -18,7 +18,7 @@ ghost use Rattle.molecule.specs.Items.{join};
 ghost use Rattle.rules.specs.Surplus.{isEmpty};
 ghost use Rattle.base_inputs.specs.BaseInputs.{inputList};
 ghost use Rattle.base_lists.specs.BaseLists.{outputList, dataList, witnessList};
-ghost use Rattle.list_writer.specs.ListWriter.{fixList};
+ghost use Rattle.list_writer.specs.ListWriter.{fixList, putList, putListEnd};
 ghost use Rattle.cell_deps.specs.CellDeps.{depsAt};
 ghost use Rattle.base_writer.specs.Lists.{orEmpty, listsOf, bytesOf, Capped, Fitting, FrontFits, BackFits, front, back};
 
@@ -148,6 +148,23 @@ fn put_front<'a>(
     base_inputs::put_inputs(out, at, inputs, cells, plan.taken)
 }
 
+// Puts the outputs' data: an entry for each output.
+fn put_data(
+    out: &mut [u8],
+    at: usize,
+    outputs: &[u8],
+    datas: &[u8],
+    udt: &[u8],
+    plan: Plan,
+) -> usize
+    ensures { λ _. ⌜ now (out .exit) ≡ putList (now (out .entry)) at (join (dataList (not (isEmpty (now (udt .entry)))) (tokenCount (plan .token)) (now (datas .entry)) (itemCount (now (outputs .entry)) - 1) (tokenCount (plan .change)))) ⌝ }
+    ensures { λ r. ⌜ r ≡ putListEnd (now (out .entry)) at (join (dataList (not (isEmpty (now (udt .entry)))) (tokenCount (plan .token)) (now (datas .entry)) (itemCount (now (outputs .entry)) - 1) (tokenCount (plan .change)))) ⌝ }
+{
+    let entries = later_count(outputs);
+    let typed = udt.len() != 0;
+    base_lists::put_outputs_data(out, at, typed, plan.token, datas, entries, plan.change)
+}
+
 // Puts the last three lists at `at`.
 fn put_back(
     out: &mut [u8],
@@ -164,7 +181,6 @@ fn put_back(
     ensures { λ r. ⌜ Put (now (out .entry)) at (back (join (outputList (plan .capacity) (now (lock .entry)) (now (udt .entry)) (now (outputs .entry)) (itemCount (now (outputs .entry)) - 1) (plan .«change_capacity») (now (source .entry)))) (join (dataList (not (isEmpty (now (udt .entry)))) (tokenCount (plan .token)) (now (datas .entry)) (itemCount (now (outputs .entry)) - 1) (tokenCount (plan .change)))) (join (witnessList (fixCount (now (inputs .entry))) (plan .taken)))) (now (out .exit)) r ⌝ }
 {
     let later = later_count(outputs);
-    let typed = udt.len() != 0;
     let present = molecule::fix_count(inputs) as usize;
     let at = base_lists::put_outputs(
         out,
@@ -177,7 +193,7 @@ fn put_back(
         plan.change_capacity,
         source,
     );
-    let at = base_lists::put_outputs_data(out, at, typed, plan.token, datas, later, plan.change);
+    let at = put_data(out, at, outputs, datas, udt, plan);
     base_lists::put_witnesses(out, at, present, plan.taken)
 }
 

@@ -10,7 +10,7 @@ put-back-spec =
     (λ c κs. search ways)  -- fix-count-requires
     (λ c. search ways)  -- cast-present
     (λ c κs. search ways)  -- put-outputs-requires
-    (λ c κs. search ways)  -- put-outputs-data-requires
+    (λ c κs. search ways)  -- put-data-requires
     (λ c κs. search ways)  -- put-witnesses-requires
     (λ c. search ways)  -- same-length
     (λ c. search ways))  -- returns
