@@ -1,39 +1,17 @@
 -- The outputs of a base transaction, sized and written.
 use mathlib.Core.Path.{_≡_, refl, sym, ap, ap₂, _∙_}
-use Prim.Native.Nat.{ℕ, zero, suc, _+_, _*_, _^_, _≤_, _<_, min}
-use mathlib.Core.List.{List, [], _∷_, _++_, flatten, append-assoc, append-nil}
+use Prim.Native.Nat.{ℕ, _+_, _<_, min}
+use mathlib.Core.List.{List, [], _++_}
 use native.Mathlib.Omega.{arith}
-use lib.ListN.{length, getD, length-append}
-use Rattle.arithmetic.specs.LittleEndian.{toLe}
-use Rattle.arithmetic.proofs.LittleEndianLaws.{length-toLe}
-use Rattle.molecule.specs.Items.{join, unwords, offsets}
-use Rattle.molecule.proofs.ItemsLaws.{length-join}
+use lib.ListN.{length}
+use Rattle.molecule.specs.Items.{join}
 use Rattle.list_writer.specs.ListWriter.{ifPositive, putList, putListEnd}
 use Rattle.list_writer.specs.Around.{around, listSize}
 use Rattle.list_writer.proofs.HeadLaws.{positive, around-length}
 use Rattle.list_writer.proofs.AnswerLaws.{capped-list, too-long, too-long-end}
-use Rattle.base_lists.specs.BaseLists.{cellOutput, outputList}
-use Rattle.base_lists.specs.Parts.{cellHead}
-
--- ---- a cell's output
-
-pub head-bytes : (capacity m n : ℕ) {s t c : List ℕ} → s ≡ toLe 4 (24 + m + n) → t ≡ toLe 4 (24 + m) → c ≡ toLe 8 capacity
-    → getD s 0 0 ∷ getD s 1 0 ∷ getD s 2 0 ∷ getD s 3 0 ∷ 16 ∷ 0 ∷ 0 ∷ 0 ∷ 24 ∷ 0 ∷ 0 ∷ 0 ∷ getD t 0 0 ∷ getD t 1 0 ∷ getD t 2 0 ∷ getD t 3 0
-    ∷ getD c 0 0 ∷ getD c 1 0 ∷ getD c 2 0 ∷ getD c 3 0 ∷ getD c 4 0 ∷ getD c 5 0 ∷ getD c 6 0 ∷ getD c 7 0 ∷ [] ≡ cellHead capacity m n
-unfolding cellHead toLe
-head-bytes capacity m n es et ec = rw (es, et, ec) refl
-
-module _ (capacity : ℕ) (lock udt : List ℕ) where
-  cell-runs : cellHead capacity (length lock) (length udt) ++ lock ++ udt ≡ cellOutput capacity lock udt
-  unfolding cellOutput join unwords offsets flatten cellHead
-  cell-runs =
-      let n : 16 + length (flatten (toLe 8 capacity ∷ lock ∷ udt ∷ [])) ≡ 24 + length lock + length udt =
-      unfold flatten in simp (length-append, length-toLe) (omega arith) in
-      rw (n, length-toLe 8 capacity) (simp (append-assoc, append-nil))
-
-  cell-length : length (cellOutput capacity lock udt) ≡ 24 + length lock + length udt
-  unfolding cellOutput flatten
-  cell-length = length-join _ ∙ simp (length-append, length-toLe) (omega arith)
+use Rattle.cell_output.specs.CellOutput.{cellOutput, outputHead}
+use Rattle.cell_output.proofs.CellOutputLaws.{output-length, runs}
+use Rattle.base_lists.specs.BaseLists.{outputList}
 
 -- ---- how long
 
@@ -46,7 +24,7 @@ module _ (change : ℕ) (source udt : List ℕ) where
   change-none e = rw e refl
 
   pub change-some : {r : ℕ} → (change ≡ 0 → ⊥) → r ≡ min (24 + length source + length udt) 133117 → r ≡ min (length (ifPositive change (cellOutput change source udt))) 133117
-  change-some h e = e ∙ sym (ap (λ (l : List ℕ). min (length l) 133117) (positive change (cellOutput change source udt) h) ∙ ap (λ (n : ℕ). min n 133117) (cell-length change source udt))
+  change-some h e = e ∙ sym (ap (λ (l : List ℕ). min (length l) 133117) (positive change (cellOutput change source udt) h) ∙ ap (λ (n : ℕ). min n 133117) (output-length change source udt))
 
 module _ (capacity : ℕ) (lock udt present : List ℕ) (k change : ℕ) (source : List ℕ) where
   abbrev last : List ℕ
@@ -59,7 +37,7 @@ module _ (capacity : ℕ) (lock udt present : List ℕ) (k change : ℕ) (source
   outputs-length : length (join (outputList capacity lock udt present k change source)) ≡ listSize (24 + length lock + length udt) present k (length last)
   outputs-length =
       ap length outputs-around ∙ around-length (cellOutput capacity lock udt) present k last
-      ∙ ap (λ (n : ℕ). listSize n present k (length last)) (cell-length capacity lock udt)
+      ∙ ap (λ (n : ℕ). listSize n present k (length last)) (output-length capacity lock udt)
 
   pub outputs-cap : {f l r : ℕ} → f ≡ min (24 + length lock + length udt) 133117 → l ≡ min (length last) 133117 → r ≡ min (listSize f present k l) 133117
       → r ≡ min (length (join (outputList capacity lock udt present k change source))) 133117
@@ -85,7 +63,7 @@ module _ (capacity : ℕ) (lock udt present : List ℕ) (k change : ℕ) (source
     last-long : 133116 < length all
     last-long =
         let z = ap length (positive change (cellOutput change source udt) pos) in
-        omega (arith, outputs-length capacity lock udt present k change source, cell-length change source udt)
+        omega (arith, outputs-length capacity lock udt present k change source, output-length change source udt)
 
     pub last-out : out ≡ putList out at all
     last-out = too-long out at all last-long
@@ -93,9 +71,9 @@ module _ (capacity : ℕ) (lock udt present : List ℕ) (k change : ℕ) (source
     pub last-out-end : at ≡ putListEnd out at all
     last-out-end = too-long-end out at all last-long
 
-  module _ {head : List ℕ} (eh : head ≡ cellHead capacity (length lock) (length udt)) where
+  module _ {head : List ℕ} (eh : head ≡ outputHead capacity (length lock) (length udt)) where
     first-is : head ++ lock ++ udt ≡ cellOutput capacity lock udt
-    first-is = rw eh (cell-runs capacity lock udt)
+    first-is = rw eh (runs capacity lock udt)
 
     module _ (e : change ≡ 0) where
       alone : around (head ++ lock ++ udt) present k [] ≡ all
@@ -110,11 +88,11 @@ module _ (capacity : ℕ) (lock udt present : List ℕ) (k change : ℕ) (source
       pub cells-end : {next : ℕ} → next ≡ putListEnd out at (around (head ++ lock ++ udt) present k []) → next ≡ putListEnd out at all
       cells-end p = p ∙ ap (putListEnd out at) alone
 
-    module _ (pos : change ≡ 0 → ⊥) {tail : List ℕ} (et : tail ≡ cellHead change (length source) (length udt)) where
+    module _ (pos : change ≡ 0 → ⊥) {tail : List ℕ} (et : tail ≡ outputHead change (length source) (length udt)) where
       with-change : around (head ++ lock ++ udt) present k (tail ++ source ++ udt) ≡ all
       with-change =
           let z : tail ++ source ++ udt ≡ ifPositive change (cellOutput change source udt) =
-          rw et (cell-runs change source udt) ∙ sym (positive change (cellOutput change source udt) pos) in
+          rw et (runs change source udt) ∙ sym (positive change (cellOutput change source udt) pos) in
           ap₂ (λ (a l : List ℕ). around a present k l) first-is z ∙ sym (outputs-around capacity lock udt present k change source)
 
       pub change-put : {after : List ℕ} → after ≡ putList out at (around (head ++ lock ++ udt) present k (tail ++ source ++ udt)) → after ≡ putList out at all

@@ -6,13 +6,10 @@ use mathlib.Core.List.{List, [], _∷_, _++_}
 use lib.ListN.{replicate}
 use Rattle.arithmetic.specs.LittleEndian.{toLe}
 use Rattle.molecule.specs.Items.{join}
+use Rattle.cell_output.specs.CellOutput.{cellOutput}
 use Rattle.list_writer.specs.ListWriter.{bytesItem, later, ifAny, ifPositive}
 
 -- ---- items
-
--- a cell's output: a table of its capacity, its lock, and its type or nothing
-unfoldable pub cellOutput : ℕ → List ℕ → List ℕ → List ℕ
-cellOutput capacity lock udt = join (toLe 8 capacity ∷ lock ∷ udt ∷ [])
 
 -- a token amount as a cell's data
 abbrev pub amountItem : ℕ → List ℕ

@@ -1,52 +1,16 @@
 // The outputs: the funding cell, the present ones after the first, and the change.
 use crate::MAX_BYTES;
-use arithmetic::little_endian;
+use cell_output::output_head;
 use list_writer::capped;
 use list_writer::list_size;
 use list_writer::put_list;
 ghost use mathlib.Core.Path.{_≡_};
-ghost use Prim.Native.Nat.{ℕ, _+_, _<_, _^_, min};
+ghost use Prim.Native.Nat.{ℕ, _+_, min};
 ghost use lib.ListN.{length};
 ghost use Rattle.molecule.specs.Items.{join};
 ghost use Rattle.list_writer.specs.ListWriter.{ifPositive, putList, putListEnd};
-ghost use Rattle.base_lists.specs.BaseLists.{cellOutput, outputList};
-ghost use Rattle.base_lists.specs.Parts.{cellHead};
-
-// The first bytes of a cell's output, by the lengths of its lock and its type.
-fn cell_head(capacity: u64, m: usize, n: usize) -> [u8; 24]
-    requires { ⌜ 24 + m + n < 2 ^ 32 ⌝ }
-    ensures { λ r. ⌜ r ≡ cellHead capacity m n ⌝ }
-{
-    let s = little_endian::u32_bytes((24 + m + n) as u32);
-    let t = little_endian::u32_bytes((24 + m) as u32);
-    let c = little_endian::u64_bytes(capacity);
-    [
-        s[0],
-        s[1],
-        s[2],
-        s[3],
-        16,
-        0,
-        0,
-        0,
-        24,
-        0,
-        0,
-        0,
-        t[0],
-        t[1],
-        t[2],
-        t[3],
-        c[0],
-        c[1],
-        c[2],
-        c[3],
-        c[4],
-        c[5],
-        c[6],
-        c[7],
-    ]
-}
+ghost use Rattle.cell_output.specs.CellOutput.{cellOutput};
+ghost use Rattle.base_lists.specs.BaseLists.{outputList};
 
 // How long a cell's output is.
 fn cell_size(lock: &[u8], udt: &[u8]) -> usize
@@ -100,7 +64,7 @@ pub fn put_outputs(
     if cell_size(lock, udt) > MAX_BYTES {
         return at;
     }
-    let head = cell_head(capacity, lock.len(), udt.len());
+    let head = output_head(capacity, lock.len(), udt.len());
     if change == 0 {
         let none = &lock[0..0];
         return put_list(out, at, &head, lock, udt, present, k, none, none, none);
@@ -108,6 +72,6 @@ pub fn put_outputs(
     if cell_size(source, udt) > MAX_BYTES {
         return at;
     }
-    let last = cell_head(change, source.len(), udt.len());
+    let last = output_head(change, source.len(), udt.len());
     put_list(out, at, &head, lock, udt, present, k, &last, source, udt)
 }

@@ -37,14 +37,14 @@ use Rattle.rules.proofs.Telescope.{prefix-refl, prefix-trans, prefix-length}
 use Rattle.rules.proofs.Tests.{never, fine-inj, bind-fine, check-fine, check-last, then-fine}
 use Rattle.funding_cell.specs.declared.FundingRequest.{FundingRequest}
 use Rattle.funding_cell.specs.FundingCell.{fundingCell, cellOfSums, cellOf}
-use Rattle.udt_cells.specs.CellOutput.{cellOutput as plainOutput}
-use Rattle.udt_cells.proofs.OutputReads.{output-lock, output-type, output-capacity}
+use Rattle.cell_output.specs.CellOutput.{cellOutput}
+use Rattle.udt_cells.proofs.OutputReads.{output-readable, output-lock, output-type, output-capacity}
 use Rattle.udt_cells.specs.Change.{capacityFor}
-use Rattle.udt_cells.proofs.CellOutputLaws.{output-length}
+use Rattle.cell_output.proofs.CellOutputLaws.{output-length}
 use Rattle.udt_cells.specs.Pick.{Pick, pickTyped}
 use Rattle.list_writer.specs.ListWriter.{fixList, bytesItem, itemOr, later, ifAny, ifPositive}
 use Rattle.base_inputs.specs.BaseInputs.{picked, inputList}
-use Rattle.base_lists.specs.BaseLists.{cellOutput, amountItem, outputList, dataList}
+use Rattle.base_lists.specs.BaseLists.{amountItem, outputList, dataList}
 use Rattle.cell_deps.specs.CellDeps.{pushAll, allDeps, cellDeps}
 use Rattle.cell_deps.proofs.LongLaws.{long-append, cell-deps-long}
 use Rattle.base_writer.specs.Answer.{inRoom, leaves, written, told}
@@ -54,7 +54,7 @@ use Rattle.funding_builder.proofs.PresentLaws.{deps-readable, option-of}
 use Rattle.base_theorems.proofs.Claims.{Figured, ReadsBack, fieldsOf, Encodes, Funds, Keeps, Distinct, Passes, Readable, Encoded, FirstOutput, Kept, Compared, Tidy, Tidied, OfCalls}
 use Rattle.base_theorems.proofs.PackedLaws.{Formed, ReadsAs, reads-as, item-readable, item-content}
 use Rattle.base_theorems.proofs.CompareLaws.{prefix-append, deps-begin, all-distinct, entries-begin, map-append, has-lock, has-type, has-data, passes}
-use Rattle.base_theorems.proofs.FormLaws.{of-T, Present, present, version-low, every-append, later-is, later-outputs, later-data, all-right, last-every, cell-readable, witnesses-readable, picked-long}
+use Rattle.base_theorems.proofs.FormLaws.{of-T, Present, present, version-low, every-append, later-is, later-outputs, later-data, all-right, last-every, witnesses-readable, picked-long}
 
 -- ---- what a call that is not refused has found
 
@@ -116,10 +116,6 @@ if-dep (suc n) s h = h
 amount-readable : (n : ℕ) → readable Bytes (amountItem n) ≡ true
 amount-readable n = item-readable (toLe 16 n) (omega (arith, length-toLe 16 n))
 
-plain : (c : ℕ) (lock udt : List ℕ) → cellOutput c lock udt ≡ plainOutput c lock udt
-unfolding cellOutput plainOutput
-plain c lock udt = refl
-
 -- the funding cell's capacity is a number of 64 bits
 cell-low : (c t : ℕ) (f : Figures) → cellOf c t ≡ fine f → f .capacity < 2 ^ 64
 unfolding cellOf
@@ -157,7 +153,7 @@ some-count : (n : ℕ) (x : List ℕ) → 0 < n → 0 < length x → length (ifA
 some-count n x h k = ap (λ (y : List ℕ). length (ifAny y)) (positive-is n x h) ∙ any-one x k
 
 output-some : (c : ℕ) (lock udt : List ℕ) → 0 < length (cellOutput c lock udt)
-output-some c lock udt = omega (arith, ap length (plain c lock udt), output-length c lock udt)
+output-some c lock udt = omega (arith, output-length c lock udt)
 
 amount-some : (n : ℕ) → 0 < length (amountItem n)
 unfolding bytesItem
@@ -216,10 +212,10 @@ module _ (l : Lent) (request : FundingRequest) (bytes : List ℕ) (b : AllBytes 
   unfolding every
   outputs-readable =
       ap (every (readable CellOutput)) outputs-are
-      ∙ ap₂ _&&_ (cell-readable (m .cell .capacity) (l .lock) (l .udt) (m .lock) (m .udt) (outputs-all .0))
+      ∙ ap₂ _&&_ (output-readable (m .cell .capacity) (l .lock) (l .udt) (outputs-all .0) (m .lock) (m .udt))
       (every-append (readable CellOutput) (later (rawField (l .ours) 4) after) (ifAny (ifPositive back (cellOutput back (l .source) (l .udt))))
       (later-outputs (rawField (l .ours) 4) after refl (ours .outputs))
-      (last-every (readable CellOutput) back (cellOutput back (l .source) (l .udt)) (cell-readable back (l .source) (l .udt) (m .source) (m .udt))
+      (last-every (readable CellOutput) back (cellOutput back (l .source) (l .udt)) (λ few. output-readable back (l .source) (l .udt) few (m .source) (m .udt))
       (all-right (λ (x : List ℕ). length x < 2 ^ 32) (later (rawField (l .ours) 4) after) _ (outputs-all .1))))
 
   first-data : (typed : Bool) → readable Bytes (cond typed (amountItem (m .cell .token)) (bytesItem [])) ≡ true
@@ -325,19 +321,17 @@ module _ (l : Lent) (request : FundingRequest) (bytes : List ℕ) (b : AllBytes 
 
   funds : Funds l request bytes
   funds =
-      let same = plain (m .cell .capacity) (l .lock) (l .udt) in
-      let s : length (plainOutput (m .cell .capacity) (l .lock) (l .udt)) < 2 ^ 32 = rw (← same) (outputs-all .0) in
+      let s = outputs-all .0 in
       record {
         cell = m .cell;
         isCell = m .figured .isCell;
         first = record { output = output; cellData = content item };
         later = pair (later (rawField (l .ours) 4) after ++ changes) (map content (later (rawField (l .ours) 5) after ++ changed));
         isFirst = cells-are;
-        lock = ap lockOf same ∙ output-lock (m .cell .capacity) (l .lock) (l .udt) s;
-        typeScript = ap typeOf same ∙ output-type (m .cell .capacity) (l .lock) (l .udt) s;
+        lock = output-lock (m .cell .capacity) (l .lock) (l .udt) s;
+        typeScript = output-type (m .cell .capacity) (l .lock) (l .udt) s;
         capacity =
-            ap capacityOf same
-            ∙ output-capacity (m .cell .capacity) (l .lock) (l .udt) s (capacity-low (not (isEmpty (txAt (l .ours) .outputs))) (not (isEmpty (l .udt))) request (m .cell) (m .figured .isCell));
+            output-capacity (m .cell .capacity) (l .lock) (l .udt) s (capacity-low (not (isEmpty (txAt (l .ours) .outputs))) (not (isEmpty (l .udt))) request (m .cell) (m .figured .isCell));
         content = first-content (not (isEmpty (l .udt))) (m .cell .token);
       }
 

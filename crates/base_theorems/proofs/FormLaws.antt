@@ -30,12 +30,10 @@ use Rattle.rules.specs.Outcome.{fine}
 use Rattle.rules.specs.Surplus.{isEmpty}
 use Rattle.rules.proofs.Tests.{never, fine-inj, bind-fine}
 use Rattle.udt_cells.specs.Pick.{Pick, plusCell, enoughOr, pickFrom, pickTyped}
-use Rattle.udt_cells.specs.CellOutput.{cellOutput as plainOutput}
-use Rattle.udt_cells.proofs.OutputReads.{output-readable}
 use Rattle.list_writer.specs.ListWriter.{bytesItem, itemOr, later, ifAny, ifPositive}
 use Rattle.list_writer.proofs.AgainLaws.{items-long}
 use Rattle.base_inputs.specs.BaseInputs.{pickedInput, picked}
-use Rattle.base_lists.specs.BaseLists.{cellOutput, placeholder, witnessList}
+use Rattle.base_lists.specs.BaseLists.{placeholder, witnessList}
 use Rattle.base_theorems.proofs.PackedLaws.{item-readable}
 
 pub of-T : (b : Bool) → T b → b ≡ true
@@ -203,16 +201,6 @@ unfolding ifAny ifPositive every
 last-every p zero x h a = refl
 last-every p (suc n) [] h a = refl
 last-every p (suc n) (b ∷ s) h a = ap (λ (c : Bool). c && true) (h (a .0))
-
--- ---- outputs
-
-module _ (c : ℕ) (lock udt : List ℕ) where
-  pub cell-readable : readable Script lock ≡ true → readable (option Script) udt ≡ true → length (cellOutput c lock udt) < 2 ^ 32 → readable CellOutput (cellOutput c lock udt) ≡ true
-  unfolding cellOutput
-  cell-readable hl ht short = rw same at (output-readable c lock udt (rw (← same) at short) hl ht)
-    where
-      same : plainOutput c lock udt ≡ join (toLe 8 c ∷ lock ∷ udt ∷ [])
-      same = unfold plainOutput in refl
 
 -- ---- witnesses
 

@@ -8,7 +8,7 @@ use Rattle.hold_records.specs.Holds.{recordsOf, byOwner, atMost256, isLive, isT
 use Rattle.exclusions.specs.Exclusions.{readRow, readRows, entriesOf, hasHash, committedAt, commitCall, isRecent, truncated, excluded, applyCall, pending, entering, addCall}
 use Rattle.verdict_line.specs.VerdictLine.{digit, hex, digits, decimal, spaced, accepted, refusedWith, lineOf}
 use Rattle.funding_cell.specs.FundingCell.{cellOf, cellOfSums, fundingCell, buildFundingCell}
-use Rattle.udt_cells.specs.CellOutput.{cellOutput}
+use Rattle.cell_output.specs.CellOutput.{cellOutput}
 use Rattle.udt_cells.specs.Pick.{plusCell, enoughOr, pickFrom, pickTyped}
 use Rattle.udt_cells.specs.Change.{putFirst, withChange, lent, unlessRefused, udtInputsOutputs}
 use Rattle.case_file.specs.CaseFile as case

@@ -27,10 +27,10 @@ use Rattle.rules.specs.Outcome.{Outcome, fine, refused, check, checkWith, _>>_}
 use Rattle.rules.proofs.Checks.{skip, fail, pass, last-is}
 use Rattle.rules.proofs.Tests.{check-fine, check-last}
 use Rattle.udt_cells.specs.declared.{Picked.Picked, UdtInputsOutputs.UdtInputsOutputs}
-use Rattle.udt_cells.specs.CellOutput.{cellOutput}
+use Rattle.cell_output.specs.CellOutput.{cellOutput}
 use Rattle.udt_cells.specs.Pick.{Pick, told, pickTyped}
 use Rattle.udt_cells.specs.Change.{Built, built, answered, capacityFor, putFirst, withChange, lent, unlessRefused, udtInputsOutputs}
-use Rattle.udt_cells.proofs.CellOutputLaws.{output-length}
+use Rattle.cell_output.proofs.CellOutputLaws.{output-length}
 
 -- ---- the capacity
 

@@ -13,7 +13,7 @@ use Rattle.transaction.specs.Ckb.{Script, TokenCell, TokenCells}
 use Rattle.transaction.specs.Tx.{argsOf, dataOf}
 use Rattle.rules.specs.Outcome.{Outcome, fine, refused, check, checkWith, _>>=_, _>>_}
 use Rattle.rules.specs.Surplus.{isEmpty}
-use Rattle.udt_cells.specs.CellOutput.{cellOutput}
+use Rattle.cell_output.specs.CellOutput.{cellOutput}
 use Rattle.udt_cells.specs.Pick.{Pick, plusCell, enoughOr, pickFrom, pickTyped}
 use Rattle.udt_cells.specs.Change.{Built, built, capacityFor, putFirst, withChange, lent, unlessRefused, udtInputsOutputs}
 

@@ -1,4 +1,3 @@
-pub mod CellOutputLaws
 pub mod ChangeLaws
 pub mod OutputReads
 pub mod PickLaws

@@ -19,7 +19,7 @@ use Rattle.molecule.proofs.ReadableLaws.{holds, allReadable, readable-table, re
 use Rattle.molecule.proofs.DecodedLaws.{split-fields}
 use Rattle.transaction.specs.Ckb.{Uint64, Script, CellOutput}
 use Rattle.transaction.specs.Tx.{capacityOf, lockOf, typeOf}
-use Rattle.udt_cells.specs.CellOutput.{cellOutput}
+use Rattle.cell_output.specs.CellOutput.{cellOutput}
 
 module _ (c : ℕ) (lock type : List ℕ) (short : length (cellOutput c lock type) < 2 ^ 32) where
   output-split : split (cellOutput c lock type) ≡ some (toLe 8 c ∷ lock ∷ type ∷ [])

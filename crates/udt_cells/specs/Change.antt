@@ -14,7 +14,7 @@ use Rattle.transaction.specs.Tx.{argsOf}
 use Rattle.rules.specs.Outcome.{Outcome, fine, refused, check, _>>_}
 use Rattle.rules.specs.Told.{refusal}
 use Rattle.udt_cells.specs.declared.UdtInputsOutputs.{UdtInputsOutputs}
-use Rattle.udt_cells.specs.CellOutput.{cellOutput}
+use Rattle.cell_output.specs.CellOutput.{cellOutput}
 use Rattle.udt_cells.specs.Pick.{Pick, pickTyped}
 
 -- the pick, and the capacity of the change output: 0 where there is none

@@ -1,3 +1,2 @@
-pub mod CellOutput
 pub mod Change
 pub mod Pick

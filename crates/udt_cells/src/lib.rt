@@ -1,6 +1,4 @@
 // The token cells that our side pays with: the pick among those that are lent, and the change that is left of them.
-pub mod cell_output;
-
 use error::Refusal;
 use transaction::fields;
 use units::CheckedShannons;

@@ -4,12 +4,12 @@ use molecule::write;
 use units::Shannons;
 ghost use mathlib.Core.Path.{_≡_};
 ghost use mathlib.Core.List.{_++_};
-ghost use Prim.Native.Nat.{_+_, _%_, _^_, _≤_, _<_};
+ghost use Prim.Native.Nat.{_+_, _%_, _^_, _≤_};
 ghost use lib.ListN.{length};
 ghost use lib.Dec.{leb};
 ghost use Rattle.units.specs.Units.{shannonCount};
 ghost use Rattle.molecule.specs.Write.{putAt, putEnd, Put};
-ghost use Rattle.udt_cells.specs.CellOutput.{cellOutput, outputHead};
+ghost use Rattle.cell_output.specs.CellOutput.{cellOutput, outputHead};
 
 // The size, three offsets, and the capacity.
 const HEAD_BYTES: usize = 24;
@@ -37,15 +37,15 @@ fn low_word(n: usize) -> u32
     (n % 4_294_967_296) as u32
 }
 
-// What stands before the lock.
-fn output_head(capacity: Shannons, lock: usize, udt: usize) -> [u8; 24]
-    requires { ⌜ 24 + lock + udt < 2 ^ 64 ⌝ }
-    ensures { λ r. ⌜ r ≡ outputHead (shannonCount capacity) lock udt ⌝ }
+// What stands before the lock, by the lengths of lock and type. The size and the offsets are modulo 2^32, as four bytes hold them.
+pub fn output_head(capacity: u64, lock: usize, udt: usize) -> [u8; 24]
+    ensures { λ r. ⌜ r ≡ outputHead capacity lock udt ⌝ }
 {
-    let amount = capacity.0;
-    let size = little_endian::u32_bytes(low_word(HEAD_BYTES + lock + udt));
-    let third = little_endian::u32_bytes(low_word(HEAD_BYTES + lock));
-    let shannons = little_endian::u64_bytes(amount.low);
+    let before_type = std::num::wrapping_add_u32(24, low_word(lock));
+    let whole = std::num::wrapping_add_u32(before_type, low_word(udt));
+    let size = little_endian::u32_bytes(whole);
+    let third = little_endian::u32_bytes(before_type);
+    let shannons = little_endian::u64_bytes(capacity);
     [
         size[0],
         size[1],
@@ -98,6 +98,7 @@ pub fn put_cell_output(
     if !has_room(out.len(), at, lock.len(), udt.len()) {
         return at;
     }
-    let head = output_head(capacity, lock.len(), udt.len());
+    let amount = capacity.0;
+    let head = output_head(amount.low, lock.len(), udt.len());
     put_parts(out, at, &head, lock, udt)
 }

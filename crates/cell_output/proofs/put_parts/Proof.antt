@@ -1,6 +1,6 @@
-use Rattle.udt_cells.proofs.Ways.{ways}
-use Rattle.udt_cells.proofs.cell_output.put_parts.Statement.{statement}
-use Rattle.udt_cells.proofs.cell_output.put_parts.Tie as tie
+use Rattle.cell_output.proofs.Ways.{ways}
+use Rattle.cell_output.proofs.put_parts.Statement.{statement}
+use Rattle.cell_output.proofs.put_parts.Tie as tie
 
 pub put-parts-spec : {M : Type 1} → statement M
 put-parts-spec =

@@ -1,17 +1,16 @@
-use Rattle.base_lists.proofs.Ways.{ways}
-use Rattle.base_lists.proofs.outputs.cell_head.Statement.{statement}
-use Rattle.base_lists.proofs.outputs.cell_head.Tie as tie
+use Rattle.cell_output.proofs.Ways.{ways}
+use Rattle.cell_output.proofs.output_head.Statement.{statement}
+use Rattle.cell_output.proofs.output_head.Tie as tie
 
-pub cell-head-spec : {M : Type 1} → statement M
-cell-head-spec =
+pub output-head-spec : {M : Type 1} → statement M
+output-head-spec =
     tie.close
     (tie.spec
-    (λ c. search ways)  -- add-u32-bytes
-    (λ c. search ways)  -- add-u32-bytes-2
-    (λ c. search ways)  -- cast-u32-bytes
+    (λ c κs. search ways)  -- low-word-requires
+    (λ c κs. search ways)  -- wrapping-add-u32-requires
+    (λ c κs. search ways)  -- low-word-requires-2
+    (λ c κs. search ways)  -- wrapping-add-u32-requires-2
     (λ c κs. search ways)  -- u32-bytes-requires
-    (λ c. search ways)  -- add-u32-bytes-3
-    (λ c. search ways)  -- cast-u32-bytes-2
     (λ c κs. search ways)  -- u32-bytes-requires-2
     (λ c κs. search ways)  -- u64-bytes-requires
     (λ c. search ways)  -- array-read-t14

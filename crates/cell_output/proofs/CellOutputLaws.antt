@@ -16,7 +16,7 @@ use Rattle.molecule.specs.Items.{join, unwords, offsets}
 use Rattle.molecule.specs.Write.{putAt, putEnd, Put}
 use Rattle.molecule.proofs.ItemsLaws.{length-join, length-unwords}
 use Rattle.molecule.proofs.WriteLaws.{put-yes, end-yes, did, and-put, as-bytes}
-use Rattle.udt_cells.specs.CellOutput.{cellOutput, outputHead}
+use Rattle.cell_output.specs.CellOutput.{cellOutput, outputHead}
 
 -- ---- room
 
@@ -40,9 +40,6 @@ module _ (room at lock type : ℕ) where
         by : (b : Bool) → leb type (room - at - 24 - lock) ≡ b → leb type (room - at - 24 - lock) ≡ leb (at + (24 + lock + type)) room
         by true e = let t : type ≤ room - at - 24 - lock = leb-true _ _ e in e ∙ sym (le-leb (at + (24 + lock + type)) room (omega arith))
         by false e = let t : room - at - 24 - lock < type = leb-false _ _ e in e ∙ no-room (omega arith)
-
-pub head-fits : (at m lock type : ℕ) {r : Bool} → r ≡ leb (at + (24 + lock + type)) m → not r ≡ false → m < 2 ^ 64 → 24 + lock + type < 2 ^ 64
-head-fits at m lock type {r} e h k = let l : at + (24 + lock + type) ≤ m = leb-true _ _ (sym e ∙ not-false r h) in omega arith
 
 -- ---- the head
 
@@ -68,15 +65,21 @@ bytes-of : (x y c : ℕ) {a b z : List ℕ} → a ≡ toLe 4 x → b ≡ toLe 4 
 unfolding toLe unwords
 bytes-of x y c ea eb ez = rw (ea, eb, ez)
 
-pub head-is : (c : Shannons) (lock type : ℕ) {x y : ℕ} {a b z : List ℕ} → c .0 .low < 2 ^ 64 → x ≡ (24 + lock + type) % 2 ^ 32 → a ≡ toLe 4 x
-    → y ≡ (24 + lock) % 2 ^ 32 → b ≡ toLe 4 y → z ≡ toLe 8 (c .0 .low)
+-- a sum by its parts, in four bytes
+low-sum : (m n : ℕ) → (m % 2 ^ 32 + n % 2 ^ 32) % 2 ^ 32 ≡ (m + n) % 2 ^ 32
+low-sum m n = omega arith
+
+pub head-is : (c lock type : ℕ) {m n x y : ℕ} {a b z : List ℕ} → m ≡ lock % 2 ^ 32 → y ≡ (24 + m) % 2 ^ 32 → n ≡ type % 2 ^ 32 → x ≡ (y + n) % 2 ^ 32
+    → a ≡ toLe 4 x → b ≡ toLe 4 y → z ≡ toLe 8 c
     → getD a 0 0 ∷ getD a 1 0 ∷ getD a 2 0 ∷ getD a 3 0 ∷ 16 ∷ 0 ∷ 0 ∷ 0 ∷ 24 ∷ 0 ∷ 0 ∷ 0
     ∷ getD b 0 0 ∷ getD b 1 0 ∷ getD b 2 0 ∷ getD b 3 0
     ∷ getD z 0 0 ∷ getD z 1 0 ∷ getD z 2 0 ∷ getD z 3 0 ∷ getD z 4 0 ∷ getD z 5 0 ∷ getD z 6 0 ∷ getD z 7 0 ∷ []
-    ≡ outputHead (shannonCount c) lock type
+    ≡ outputHead c lock type
 unfolding outputHead
-head-is c lock type h ex ea ey eb ez =
-    bytes-of (24 + lock + type) (24 + lock) (shannonCount c) (ea ∙ ap (toLe 4) ex ∙ word-of _) (eb ∙ ap (toLe 4) ey ∙ word-of _) (ez ∙ capacity-of c h)
+head-is c lock type {m} {n} {x} {y} em ey en ex ea eb ez =
+    let fy : y ≡ (24 + lock) % 2 ^ 32 = omega arith in
+    let fx : x ≡ (24 + lock + type) % 2 ^ 32 = ex ∙ ap₂ (λ (i j : ℕ). (i + j) % 2 ^ 32) fy en ∙ low-sum (24 + lock) type in
+    bytes-of (24 + lock + type) (24 + lock) c (ea ∙ ap (toLe 4) fx ∙ word-of _) (eb ∙ ap (toLe 4) fy ∙ word-of _) ez
 
 -- by the lengths of lock and type
 head-length : (c lock type : ℕ) → length (outputHead c lock type) ≡ 24
@@ -108,7 +111,7 @@ module _ (c : ℕ) (lock type : List ℕ) where
   unfolding cellOutput
   output-length = length-join _ ∙ omega (arith, body-length)
 
-  runs : outputHead c (length lock) (length type) ++ lock ++ type ≡ cellOutput c lock type
+  pub runs : outputHead c (length lock) (length type) ++ lock ++ type ≡ cellOutput c lock type
   unfolding outputHead cellOutput join unwords offsets flatten
   runs =
       let n : 16 + length (flatten (toLe 8 c ∷ lock ∷ type ∷ [])) ≡ 24 + length lock + length type = omega (arith, body-length) in
@@ -126,12 +129,17 @@ module _ (c : ℕ) (lock type : List ℕ) where
     unfolding putEnd
     end-none h = rw (lt-leb (at + length (cellOutput c lock type)) (length out) (short h))
 
-  module _ (out : List ℕ) (at : ℕ) {x after : List ℕ} {next : ℕ} (ex : x ≡ outputHead c (length lock) (length type)) (p : Put out at (x ++ lock ++ type) after next) where
-    whole : Put out at (cellOutput c lock type) after next
-    whole = as-bytes (ap (λ (y : List ℕ). y ++ lock ++ type) ex ∙ runs) p
+-- the head has the low half of the capacity, which has 8 bytes
+module _ (c : Shannons) (lock type out : List ℕ) (at : ℕ) {x after : List ℕ} {next : ℕ} (low : c .0 .low < 2 ^ 64) (ex : x ≡ outputHead (c .0 .low) (length lock) (length type)) (p : Put out at (x ++ lock ++ type) after next) where
+  same-head : outputHead (c .0 .low) (length lock) (length type) ≡ outputHead (shannonCount c) (length lock) (length type)
+  unfolding outputHead
+  same-head = ap (λ (y : List ℕ). unwords ((24 + length lock + length type) ∷ 16 ∷ 24 ∷ (24 + length lock) ∷ []) ++ y) (capacity-of c low)
 
-    pub put-all : after ≡ putAt out at (cellOutput c lock type)
-    put-all = whole .bytes ∙ sym (put-yes out at _ (whole .room))
+  whole : Put out at (cellOutput (shannonCount c) lock type) after next
+  whole = as-bytes (ap (λ (y : List ℕ). y ++ lock ++ type) (ex ∙ same-head) ∙ runs (shannonCount c) lock type) p
 
-    pub end-all : next ≡ putEnd out at (cellOutput c lock type)
-    end-all = whole .end ∙ sym (end-yes out at _ (whole .room))
+  pub put-all : after ≡ putAt out at (cellOutput (shannonCount c) lock type)
+  put-all = whole .bytes ∙ sym (put-yes out at _ (whole .room))
+
+  pub end-all : next ≡ putEnd out at (cellOutput (shannonCount c) lock type)
+  end-all = whole .end ∙ sym (end-yes out at _ (whole .room))

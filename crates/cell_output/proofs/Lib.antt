@@ -1,0 +1,2 @@
+pub mod CellOutputLaws
+pub mod Ways
