@@ -1,3 +1,5 @@
 pub mod WordLaws
 pub mod CallLaws
+pub mod ReadingLaws
+pub mod WritingLaws
 pub mod Ways

@@ -1,17 +1,23 @@
 // What a host in Rust or C links: the library's functions under plain names. A slice crosses as a pointer and then a length.
+mod reading;
 mod words;
 
 use arithmetic::Amount;
 use units::Tokens;
 ghost use mathlib.Core.Path.{_≡_};
+ghost use lib.ListN.{length};
 ghost use Rattle.arithmetic.specs.Amount.{value, halves};
 ghost use Rattle.molecule.specs.Molecule.{readable};
 ghost use Rattle.transaction.specs.Ckb.{OutPoints, Script, Transaction, Records};
+ghost use Rattle.rules.specs.Outcome.{fine};
 ghost use Rattle.rules.specs.Judge.{judge};
+ghost use Rattle.transaction_writer.specs.Written.{inForm, txBytes};
+ghost use Rattle.case_file.specs.CaseFile.{caseLine};
 ghost use Rattle.funding_cell.specs.FundingCell.{buildFundingCell};
 ghost use Rattle.udt_cells.specs.Change.{udtInputsOutputs};
 ghost use Rattle.base_writer.specs.Answer.{written};
 ghost use Rattle.funding_builder.specs.Base.{buildBase};
+ghost use Rattle.capi.specs.Reading.{versionOf, listIn, itemIn, bytesIf, lineFirst};
 ghost use Rattle.capi.specs.Words.{inWords, writing, surplusWords, countWords, cellWords, pickWords, request};
 
 // Whether s is a transaction.
@@ -46,6 +52,87 @@ pub extern "C" fn basinpantry_is_out_points(s: &[u8]) -> bool
     transaction::is_out_points(s)
 }
 
+// The version of a transaction.
+#[no_mangle]
+pub extern "C" fn basinpantry_version(tx: &[u8]) -> u32
+    ensures { λ r. ⌜ r ≡ versionOf (now (tx .entry)) ⌝ }
+{
+    if !transaction::is_transaction(tx) {
+        return 0;
+    }
+    transaction::fields::version(tx)
+}
+
+// How many items a list of a transaction has.
+#[no_mangle]
+pub extern "C" fn basinpantry_item_count(tx: &[u8], list: u32) -> u32
+    ensures { λ r. ⌜ r ≡ length (listIn (now (tx .entry)) list) ⌝ }
+{
+    reading::item_count(tx, list)
+}
+
+// Writes an item of a list of a transaction.
+#[no_mangle]
+pub extern "C" fn basinpantry_item(
+    tx: &[u8],
+    list: u32,
+    i: usize,
+    out: &mut [u8],
+    values: &mut [u64],
+) -> u32
+    ensures { λ r. ⌜ ((r, now (values .exit)), now (out .exit)) ≡ writing countWords (written (fine (itemIn (now (tx .entry)) list i)) (now (out .entry))) (now (out .entry)) (now (values .entry)) ⌝ }
+{
+    if values.len() < words::WORDS {
+        return words::TOO_FEW;
+    }
+    let item = reading::item(tx, list, i);
+    let written = reading::put_first(item, out);
+    words::tell_written(written, values)
+}
+
+// Writes a transaction from its fields.
+#[no_mangle]
+pub extern "C" fn basinpantry_write_transaction(
+    version: u32,
+    cell_deps: &[u8],
+    header_deps: &[u8],
+    inputs: &[u8],
+    outputs: &[u8],
+    outputs_data: &[u8],
+    witnesses: &[u8],
+    out: &mut [u8],
+    values: &mut [u64],
+) -> u32
+    ensures { λ r. ⌜ ((r, now (values .exit)), now (out .exit)) ≡ writing countWords (written (bytesIf 3 (inForm (now («cell_deps» .entry)) (now («header_deps» .entry)) (now (inputs .entry)) (now (outputs .entry)) (now («outputs_data» .entry)) (now (witnesses .entry))) (txBytes version (now («cell_deps» .entry)) (now («header_deps» .entry)) (now (inputs .entry)) (now (outputs .entry)) (now («outputs_data» .entry)) (now (witnesses .entry)))) (now (out .entry))) (now (out .entry)) (now (values .entry)) ⌝ }
+{
+    if values.len() < words::WORDS {
+        return words::TOO_FEW;
+    }
+    let written = transaction_writer::write_transaction(
+        version,
+        cell_deps,
+        header_deps,
+        inputs,
+        outputs,
+        outputs_data,
+        witnesses,
+        out,
+    );
+    words::tell_written(written, values)
+}
+
+// Reads the fields of a transaction and writes them again.
+#[no_mangle]
+pub extern "C" fn basinpantry_rewrite(tx: &[u8], out: &mut [u8], values: &mut [u64]) -> u32
+    ensures { λ r. ⌜ ((r, now (values .exit)), now (out .exit)) ≡ writing countWords (written (bytesIf 1 (readable Transaction (now (tx .entry))) (now (tx .entry))) (now (out .entry))) (now (out .entry)) (now (values .entry)) ⌝ }
+{
+    if values.len() < words::WORDS {
+        return words::TOO_FEW;
+    }
+    let written = transaction_writer::rewrite(tx, out);
+    words::tell_written(written, values)
+}
+
 // Judges a peer's update.
 #[no_mangle]
 pub extern "C" fn basinpantry_update_for_peer(
@@ -62,6 +149,16 @@ pub extern "C" fn basinpantry_update_for_peer(
 {
     let update = funding_tx::update_for_peer(ours, peer, lock, udt, source, rate, records);
     words::tell_update(update, values)
+}
+
+// Writes the verdict line of a case file, and answers its length; where `line` has no room for every line, writes nothing and answers 0.
+#[no_mangle]
+pub extern "C" fn basinpantry_check_case(file: &[u8], line: &mut [u8]) -> usize
+    ensures { λ r. ⌜ (r, now (line .exit)) ≡ lineFirst (caseLine (now (file .entry))) (now (line .entry)) ⌝ }
+{
+    let mut verdict = [0u8; verdict_line::LINE_BYTES];
+    let n = case_file::check_case(file, &mut verdict);
+    reading::put_line(&verdict, n, line)
 }
 
 // The funding cell of a request.
