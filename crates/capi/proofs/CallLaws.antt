@@ -1,39 +1,23 @@
--- One law for each way out of the functions that C calls.
-use mathlib.Core.Path.{_≡_, refl, ap, _∙_}
-use Prim.Native.Nat.{ℕ, _≤_, _<_}
+-- The calls of our own side: one law for each way out of the functions that C calls.
+use mathlib.Core.Path.{_≡_, _∙_}
+use Prim.Native.Nat.{ℕ, _≤_}
 use mathlib.Core.List.{List}
-use borrow.Author.Tests.{le-leb, lt-leb}
 use lib.ListN.{length}
 use Rattle.arithmetic.specs.Amount.{value, halves}
-use Rattle.units.specs.declared.Tokens.{Tokens}
 use Rattle.units.specs.Units.{tokenCount, inTokens}
 use Rattle.rules.specs.Outcome.{Outcome}
+use Rattle.words.specs.Words.{inWords, writing}
+use Rattle.words.proofs.WordLaws.{wrote}
 use Rattle.funding_cell.specs.declared.FundingRequest.{FundingRequest}
 use Rattle.funding_cell.specs.FundingCell.{buildFundingCell}
 use Rattle.udt_cells.specs.Change.{Built, udtInputsOutputs}
 use Rattle.base_writer.specs.Answer.{written}
 use Rattle.funding_builder.specs.Base.{Lent, buildBase}
-use Rattle.capi.specs.Words.{setWords, inWords, writing, cellWords, pickWords, countWords}
-
--- ---- a call that writes nothing
-
-pub as-told : {A : Type 0} (f : A → List ℕ) (words : List ℕ) {o p : Outcome A} {r : ℕ × List ℕ} → o ≡ p → r ≡ inWords f o words → r ≡ inWords f p words
-as-told f words e k = k ∙ rw e
+use Rattle.capi.specs.Answers.{cellWords, pickWords, countWords}
 
 pub cell-told : (ours udt : List ℕ) (request : FundingRequest) (words : List ℕ) {q : FundingRequest} {o : Outcome _} {r : ℕ × List ℕ} → q ≡ request → o ≡ buildFundingCell ours udt q
     → r ≡ inWords cellWords o words → r ≡ inWords cellWords (buildFundingCell ours udt request) words
 cell-told ours udt request words e k l = l ∙ rw (k, e)
-
--- ---- a call that writes
-
-pub no-words : {A : Type 0} (f : A → List ℕ) (call : Outcome A × List ℕ) (out words : List ℕ) → length words < 4 → ((13, words), out) ≡ writing f call out words
-unfolding writing inWords setWords
-no-words f call out words h = rw (lt-leb 4 (length words) h)
-
-pub wrote : {A : Type 0} (f : A → List ℕ) (call : Outcome A × List ℕ) (out words : List ℕ) {o : Outcome A} {after : List ℕ} {r : ℕ × List ℕ} → 4 ≤ length words → (o, after) ≡ call
-    → r ≡ inWords f o words → (r, after) ≡ writing f call out words
-unfolding writing
-wrote f call out words h e k = rw (← e, le-leb 4 (length words) h, k)
 
 pub pick-written : (cells udt source : List ℕ) (low high : ℕ) (out words : List ℕ) {o : Outcome Built} {after : List ℕ} {r : ℕ × List ℕ} → 4 ≤ length words
     → (o, after) ≡ udtInputsOutputs cells udt source (tokenCount (inTokens (halves low high))) out → r ≡ inWords pickWords o words

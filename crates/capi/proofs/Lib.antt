@@ -1,5 +1,4 @@
-pub mod WordLaws
+pub mod AnswerLaws
 pub mod CallLaws
-pub mod ReadingLaws
-pub mod WritingLaws
+pub mod BufferLaws
 pub mod Ways

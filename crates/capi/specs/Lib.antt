@@ -1,2 +1,2 @@
-pub mod Reading
-pub mod Words
+pub mod Answers
+pub mod Buffers

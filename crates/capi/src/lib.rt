@@ -1,6 +1,6 @@
 // What a host in Rust or C links: the library's functions under plain names. A slice crosses as a pointer and then a length.
-mod reading;
-mod words;
+mod answers;
+mod buffers;
 
 use arithmetic::Amount;
 use units::Tokens;
@@ -17,8 +17,10 @@ ghost use Rattle.funding_cell.specs.FundingCell.{buildFundingCell};
 ghost use Rattle.udt_cells.specs.Change.{udtInputsOutputs};
 ghost use Rattle.base_writer.specs.Answer.{written};
 ghost use Rattle.funding_builder.specs.Base.{buildBase};
-ghost use Rattle.capi.specs.Reading.{versionOf, listIn, itemIn, bytesIf, lineFirst};
-ghost use Rattle.capi.specs.Words.{inWords, writing, surplusWords, countWords, cellWords, pickWords, request};
+ghost use Rattle.words.specs.Words.{inWords, writing, surplusWords};
+ghost use Rattle.transaction_lists.specs.Lists.{versionOf, listIn, itemIn};
+ghost use Rattle.capi.specs.Answers.{countWords, cellWords, pickWords, request};
+ghost use Rattle.capi.specs.Buffers.{bytesIf, lineFirst};
 
 // Whether s is a transaction.
 #[no_mangle]
@@ -57,10 +59,7 @@ pub extern "C" fn basinpantry_is_out_points(s: &[u8]) -> bool
 pub extern "C" fn basinpantry_version(tx: &[u8]) -> u32
     ensures { λ r. ⌜ r ≡ versionOf (now (tx .entry)) ⌝ }
 {
-    if !transaction::is_transaction(tx) {
-        return 0;
-    }
-    transaction::fields::version(tx)
+    transaction_lists::version(tx)
 }
 
 // How many items a list of a transaction has.
@@ -68,7 +67,7 @@ pub extern "C" fn basinpantry_version(tx: &[u8]) -> u32
 pub extern "C" fn basinpantry_item_count(tx: &[u8], list: u32) -> u32
     ensures { λ r. ⌜ r ≡ length (listIn (now (tx .entry)) list) ⌝ }
 {
-    reading::item_count(tx, list)
+    transaction_lists::item_count(tx, list)
 }
 
 // Writes an item of a list of a transaction.
@@ -85,9 +84,9 @@ pub extern "C" fn basinpantry_item(
     if values.len() < words::WORDS {
         return words::TOO_FEW;
     }
-    let item = reading::item(tx, list, i);
-    let written = reading::put_first(item, out);
-    words::tell_written(written, values)
+    let item = transaction_lists::item(tx, list, i);
+    let written = buffers::put_first(item, out);
+    answers::tell_written(written, values)
 }
 
 // Writes a transaction from its fields.
@@ -118,7 +117,7 @@ pub extern "C" fn basinpantry_write_transaction(
         witnesses,
         out,
     );
-    words::tell_written(written, values)
+    answers::tell_written(written, values)
 }
 
 // Reads the fields of a transaction and writes them again.
@@ -130,7 +129,7 @@ pub extern "C" fn basinpantry_rewrite(tx: &[u8], out: &mut [u8], values: &mut [u
         return words::TOO_FEW;
     }
     let written = transaction_writer::rewrite(tx, out);
-    words::tell_written(written, values)
+    answers::tell_written(written, values)
 }
 
 // Judges a peer's update.
@@ -158,7 +157,7 @@ pub extern "C" fn basinpantry_check_case(file: &[u8], line: &mut [u8]) -> usize
 {
     let mut verdict = [0u8; verdict_line::LINE_BYTES];
     let n = case_file::check_case(file, &mut verdict);
-    reading::put_line(&verdict, n, line)
+    buffers::put_line(&verdict, n, line)
 }
 
 // The funding cell of a request.
@@ -176,7 +175,7 @@ pub extern "C" fn basinpantry_build_funding_cell(
 ) -> u32
     ensures { λ r. ⌜ (r, now (values .exit)) ≡ inWords cellWords (buildFundingCell (now (ours .entry)) (now (udt .entry)) (request «local_low» «local_high» «local_reserved» «remote_low» «remote_high» «remote_reserved»)) (now (values .entry)) ⌝ }
 {
-    let request = words::request(
+    let request = answers::request(
         local_low,
         local_high,
         local_reserved,
@@ -185,7 +184,7 @@ pub extern "C" fn basinpantry_build_funding_cell(
         remote_reserved,
     );
     let cell = funding_cell::build_funding_cell(ours, udt, request);
-    words::tell_cell(cell, values)
+    answers::tell_cell(cell, values)
 }
 
 // The token cells that are picked for a wanted amount, and the change output.
@@ -209,7 +208,7 @@ pub extern "C" fn basinpantry_build_udt_inputs_outputs(
         high: wanted_high,
     });
     let pick = udt_cells::build_udt_inputs_outputs(cells, udt, source, wanted, out);
-    words::tell_pick(pick, values)
+    answers::tell_pick(pick, values)
 }
 
 // The base transaction of a request.
@@ -237,7 +236,7 @@ pub extern "C" fn basinpantry_build_base<'a>(
     if values.len() < words::WORDS {
         return words::TOO_FEW;
     }
-    let request = words::request(
+    let request = answers::request(
         local_low,
         local_high,
         local_reserved,
@@ -257,5 +256,5 @@ pub extern "C" fn basinpantry_build_base<'a>(
         request,
         out,
     );
-    words::tell_written(written, values)
+    answers::tell_written(written, values)
 }
