@@ -1,11 +1,11 @@
 #!/usr/bin/env python3
-"""Writes crates/transaction/proofs/TableLaws.antt: of each table of CKB one law for each way out of the function that tests it.
+"""Writes crates/CRATE/proofs/TableLaws.antt for each crate of CRATES: of each table one law for each way out of the function that tests it.
 
 A table is a line of TABLES: the laws' prefix, the type of the schema, its fields' types, and the test that the code makes of each field:
 ('len', k) for `field_len(s, n, i) != k`, ('is', TYPE) for `!is_..(field(s, n, i))`. The last test is what the function returns.
 Run it in the repository's root after a change of TABLES; `rt fmt` afterwards."""
 
-HEAD = '''-- The tables of CKB (RFC 0019): one law for each way out of the function that tests one. Written by tools/tables.py.
+HEAD = '''-- %s: one law for each way out of the function that tests one. Written by tools/tables.py.
 use mathlib.Core.Path.{_≡_, refl, sym, ap, _∙_}
 use Prim.Native.Nat.{ℕ}
 use mathlib.Core.List.{List}
@@ -18,7 +18,7 @@ use Rattle.molecule.proofs.Valid.{fixed}
 use Rattle.molecule.specs.Layout.{span, hasItems, fieldOf}
 use Rattle.molecule.proofs.ReadableLaws.{allReadable, readable-fixed}
 use Rattle.molecule.proofs.HeaderLaws.{count, table-readable}
-use Rattle.transaction.specs.Ckb.{Uint32, Uint64, Byte32, Bytes, OutPoint, CellInput, CellDep, Script, CellOutput, RawTransaction, Transaction, TokenCell, Record}
+%s
 
 -- a field of a fixed size is read by its length
 sized : (t : Ty) → T (fixed t) → (k : ℕ) → size t ≡ k → (s : List ℕ) → readable t s ≡ eqb (length s) k
@@ -36,6 +36,14 @@ TABLES = [
     ('transaction', 'Transaction', ['RawTransaction', 'dynvec Bytes'], [('is', 'RawTransaction'), ('is', '(dynvec Bytes)')]),
     ('token-cell', 'TokenCell', ['OutPoint', 'Bytes'], [('len', 36), ('is', 'Bytes')]),
     ('record', 'Record', ['CellOutput', 'Bytes'], [('is', 'CellOutput'), ('is', 'Bytes')]),
+]
+
+# of each crate: what its tables are, where their types stand, and the tables
+CRATES = [
+    ('transaction', 'The tables of CKB (RFC 0019)',
+     ['Rattle.transaction.specs.Ckb.{Uint32, Uint64, Byte32, Bytes, OutPoint, CellInput, CellDep, Script, CellOutput, RawTransaction, Transaction, TokenCell, Record}'], TABLES),
+    ('negotiation', 'The table of an update', ['Rattle.transaction.specs.Ckb.{Uint64, Bytes}', 'Rattle.negotiation.specs.Updates.{Update}'],
+     [('update', 'Update', ['Bytes', 'Bytes', 'Bytes', 'Uint64'], [('is', 'Bytes'), ('is', 'Bytes'), ('is', 'Bytes'), ('len', 8)])]),
 ]
 
 
@@ -76,21 +84,32 @@ def laws(name, ty, fields, tests):
             args += ['g%d' % i, 'e%d' % i, 'h%d' % i]
             back.append('← g%d' % i)
             facts.append('sym e%d ∙ not-false _ h%d' % (i, i))
-    i, a = n - 1, tests[-1][1]
-    imp.append('{f%d : List ℕ}' % i)
-    pre += ['f%d ≡ fieldOf s %d %d' % (i, n, i), 'r ≡ readable %s f%d' % (a, i)]
-    args += ['g%d' % i, 'e%d' % i]
-    back.append('← g%d' % i)
+    i, (k, a) = n - 1, tests[-1]
+    if k == 'len':
+        imp[0] = '{q : Bool}'
+        imp.append('{m%d : ℕ}' % i)
+        pre.append('m%d ≡ length (fieldOf s %d %d)' % (i, n, i))
+        args.append('e%d' % i)
+        back.append('← e%d' % i)
+        answer, end = 'eqb m%d %d' % (i, a), ''
+    else:
+        imp.append('{f%d : List ℕ}' % i)
+        pre += ['f%d ≡ fieldOf s %d %d' % (i, n, i), 'r ≡ readable %s f%d' % (a, i)]
+        args += ['g%d' % i, 'e%d' % i]
+        back.append('← g%d' % i)
+        answer, end = 'r', ' (sym e%d)' % i
     names.append(name + '-all')
-    out += ['  pub %s-all : %s → %s → r ≡ readable %s s' % (name, ' '.join(imp), ' → '.join(pre), ty),
-            '  %s-all %s = sym (%s-fields s ∙ simp (%s, and-true) (sym e%d))' % (name, ' '.join(args), name, ', '.join(back + facts), i), '']
+    out += ['  pub %s-all : %s → %s → %s ≡ readable %s s' % (name, ' '.join(imp), ' → '.join(pre), answer, ty),
+            '  %s-all %s = sym (%s-fields s ∙ simp (%s, and-true)%s)' % (name, ' '.join(args), name, ', '.join(back + facts), end), '']
     return out, names
 
 
-text, names = [], []
-for t in TABLES:
-    a, b = laws(*t)
-    text += a
-    names += b
-open('crates/transaction/proofs/TableLaws.antt', 'w').write(HEAD + '\n'.join(text).rstrip() + '\n')
-print(', '.join(names))
+for crate, what, types, tables in CRATES:
+    text, names = [], []
+    for t in tables:
+        a, b = laws(*t)
+        text += a
+        names += b
+    head = HEAD % (what, '\n'.join('use ' + u for u in types))
+    open('crates/%s/proofs/TableLaws.antt' % crate, 'w').write(head + '\n'.join(text).rstrip() + '\n')
+    print(', '.join(names))

@@ -1,0 +1,4 @@
+pub mod TableLaws
+pub mod UpdateLaws
+pub mod Ways
+pub mod WordLaws

@@ -1,0 +1,8 @@
+-- What closes the needs of this crate's functions: `search ways`.
+use borrow.Author.Needs.{needs}
+use Rattle.molecule.proofs.TestLaws.{reading-no, reading-none, reading-more, reading-stop, reading-end}
+use Rattle.negotiation.proofs.TableLaws.{update-head, update-0, update-1, update-2, update-all}
+use Rattle.negotiation.proofs.UpdateLaws.{bytes-are, bytes-place, rate-is, at-start, at-update, start-place, update-place}
+use Rattle.negotiation.proofs.WordLaws.{accepted-words, refused-words, words-accepted, words-refused}
+
+pub ruleset ways = (needs, reading-no, reading-none, reading-more, reading-stop, reading-end, update-head, update-0, update-1, update-2, update-all, bytes-are, bytes-place, rate-is, at-start, at-update, start-place, update-place, accepted-words, refused-words, words-accepted, words-refused)

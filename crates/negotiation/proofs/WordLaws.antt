@@ -1,0 +1,41 @@
+-- Laws of the words of an answer.
+use mathlib.Core.Path.{_≡_, refl, sym, ap, _∙_}
+use Prim.Native.Nat.{ℕ, zero, suc, _+_, _*_, _/_, _%_, _^_, _<_}
+use mathlib.Core.List.{List, [], _∷_, _++_}
+use native.Mathlib.Omega.{arith}
+use mir.Syntax.{w64}
+use mir.Val.{Fits}
+use lib.ListN.{length, getD}
+use Rattle.arithmetic.specs.declared.amount.{Amount.Amount}
+use Rattle.error.specs.declared.Refusal.{Refusal}
+use Rattle.error.specs.Refusal.{number, values}
+use Rattle.units.specs.declared.{Shannons.Shannons, Tokens.Tokens}
+use Rattle.units.specs.Units.{shannonCount, tokenCount}
+use Rattle.rules.specs.declared.Update.{Update}
+use Rattle.rules.specs.Outcome.{fine}
+use Rattle.rules.specs.Told.{told, refusal}
+use Rattle.negotiation.specs.Words.{numberOf, valuesOf, words}
+
+low : (l h : ℕ) → Fits w64 l → (l + 2 ^ 64 * h) % 2 ^ 64 ≡ l
+low l h f = omega arith
+
+high : (l h : ℕ) → Fits w64 l → (l + 2 ^ 64 * h) / 2 ^ 64 ≡ h
+high l h f = omega arith
+
+pub accepted-words : (c : Shannons) (t : Tokens) → Fits w64 (c .0 .low) → Fits w64 (t .0 .low)
+    → 0 ∷ c .0 .low ∷ c .0 .high ∷ t .0 .low ∷ t .0 .high ∷ [] ≡ words (fine (record { capacity = shannonCount c; token = tokenCount t }))
+unfolding numberOf valuesOf shannonCount tokenCount
+accepted-words c t f g = rw (low (c .0 .low) (c .0 .high) f, high (c .0 .low) (c .0 .high) f, low (t .0 .low) (t .0 .high) g, high (t .0 .low) (t .0 .high) g)
+
+pub refused-words : (e : Refusal) {n a b c d : ℕ} → n ≡ number e → a ≡ getD (values e) 0 0 → b ≡ getD (values e) 1 0 → c ≡ getD (values e) 2 0
+    → d ≡ getD (values e) 3 0 → n ∷ a ∷ b ∷ c ∷ d ∷ [] ≡ words (refusal e)
+unfolding numberOf valuesOf
+refused-words e hn ha hb hc hd = rw (hn, ha, hb, hc, hd)
+
+module _ (u : Update) {r : List ℕ} where
+  pub words-accepted : (c : Shannons) (t : Tokens) → u ≡ Update.Accepted c t → r ≡ words (fine (record { capacity = shannonCount c; token = tokenCount t }))
+      → r ≡ words (told u)
+  words-accepted c t e h = rw e h
+
+  pub words-refused : (e : Refusal) → u ≡ Update.Refused e → r ≡ words (refusal e) → r ≡ words (told u)
+  words-refused x e h = rw e h

@@ -1,0 +1,3 @@
+pub mod Replay
+pub mod Updates
+pub mod Words
