@@ -1,3 +1,5 @@
+pub mod ReplayLaws
+pub mod RunLaws
 pub mod TableLaws
 pub mod UpdateLaws
 pub mod Ways

@@ -5,16 +5,18 @@ use mathlib.Core.List.{List, [], _∷_, _++_}
 use native.Mathlib.Omega.{arith}
 use mir.Syntax.{w64}
 use mir.Val.{Fits}
-use lib.ListN.{length, getD}
+use lib.ListN.{length, getD, length-append}
 use Rattle.arithmetic.specs.declared.amount.{Amount.Amount}
+use Rattle.molecule.specs.Write.{splice}
 use Rattle.error.specs.declared.Refusal.{Refusal}
 use Rattle.error.specs.Refusal.{number, values}
 use Rattle.units.specs.declared.{Shannons.Shannons, Tokens.Tokens}
 use Rattle.units.specs.Units.{shannonCount, tokenCount}
 use Rattle.rules.specs.declared.Update.{Update}
-use Rattle.rules.specs.Outcome.{fine}
+use Rattle.rules.specs.Outcome.{Outcome, fine, refused}
+use Rattle.rules.specs.Judge.{Figures}
 use Rattle.rules.specs.Told.{told, refusal}
-use Rattle.negotiation.specs.Words.{numberOf, valuesOf, words}
+use Rattle.negotiation.specs.Words.{numberOf, valuesOf, words, allWords}
 
 low : (l h : ℕ) → Fits w64 l → (l + 2 ^ 64 * h) % 2 ^ 64 ≡ l
 low l h f = omega arith
@@ -39,3 +41,18 @@ module _ (u : Update) {r : List ℕ} where
 
   pub words-refused : (e : Refusal) → u ≡ Update.Refused e → r ≡ words (refusal e) → r ≡ words (told u)
   words-refused x e h = rw e h
+
+pub words-put : (u : Update) (out : List ℕ) (at : ℕ) {five after : List ℕ} → five ≡ words (told u) → after ≡ splice out at five → after ≡ splice out at (words (told u))
+words-put u out at e h = rw e at h
+
+-- ---- how many
+
+pub words-length : (o : Outcome Figures) → length (words o) ≡ 5
+unfolding valuesOf
+words-length (fine f) = refl
+words-length (refused n l) = refl
+
+pub all-length : (os : List (Outcome Figures)) → length (allWords os) ≡ 5 * length os
+unfolding allWords
+all-length [] = refl
+all-length (o ∷ os) = rw (length-append, words-length o, all-length os) (omega arith)

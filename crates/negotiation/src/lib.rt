@@ -13,8 +13,8 @@ ghost use Rattle.molecule.specs.Write.{splice};
 ghost use Rattle.rules.specs.Judge.{judge};
 ghost use Rattle.units.specs.Units.{shannonCount, tokenCount};
 ghost use Rattle.rules.specs.Outcome.{fine};
-ghost use Rattle.rules.specs.Told.{told, refusal};
-ghost use Rattle.rules.specs.Run.{handedBack, inForce, updateForPeer};
+ghost use Rattle.rules.specs.Told.{told, refusal, inForceOf};
+ghost use Rattle.rules.specs.Run.{handedBack, verdicts, inForce, updateForPeer};
 ghost use Rattle.negotiation.specs.Updates as form;
 ghost use Rattle.negotiation.specs.Updates.{Updates, bytesOf, bytesStart, rateOf, callAt, callsOf, transactionAt, placeAt};
 ghost use Rattle.negotiation.specs.Words.{words};
@@ -133,4 +133,112 @@ pub fn words(update: Update) -> [u64; 5]
         Update::Accepted { capacity, token } => accepted_words(capacity, token),
         Update::Refused(why) => refused_words(why),
     }
+}
+
+// Judges update i against the transaction with index `at`.
+fn judge_at<'a>(
+    start: &'a [u8],
+    lock: &[u8],
+    udt: &[u8],
+    updates: &'a [u8],
+    at: usize,
+    i: usize,
+) -> Update
+    ensures { λ r. ⌜ told r ≡ judge (now (lock .entry)) (now (udt .entry)) (transactionAt (now (start .entry)) (now (updates .entry)) at) (callAt (now (updates .entry)) i) ⌝ }
+{
+    let ours = transaction_at(start, updates, at);
+    let peer = bytes(updates, i, 0);
+    let records = bytes(updates, i, 1);
+    let source = bytes(updates, i, 2);
+    let rate = rate(updates, i);
+    funding_tx::update_for_peer(ours, peer, lock, udt, source, rate, records)
+}
+
+// Copies words to `at`, where there is room.
+fn copy(answers: &mut [u64], at: usize, words: &[u64])
+    requires { ⌜ at + length (now words) ≤ length (now answers) ⌝ }
+    ensures { λ _. ⌜ now (answers .exit) ≡ splice (now (answers .entry)) at (now (words .entry)) ⌝ }
+{
+    let mut i = 0;
+    while i < words.len() {
+        answers[at + i] = words[i];
+        i += 1;
+    }
+}
+
+// Writes the words of an answer to `at`, where there is room for five.
+fn put_words(answers: &mut [u64], at: usize, update: Update)
+    requires { ⌜ at + 5 ≤ length (now answers) ⌝ }
+    ensures { λ _. ⌜ now (answers .exit) ≡ splice (now (answers .entry)) at (words (told update)) ⌝ }
+{
+    let five = words(update);
+    copy(answers, at, &five);
+}
+
+// Which of two goes with an answer: the second after an acceptance, the first after a refusal.
+fn after(update: Update, ours: usize, peer: usize) -> usize
+    ensures { λ r. ⌜ r ≡ inForceOf update ours peer ⌝ }
+{
+    match update {
+        Update::Accepted {
+            capacity: _,
+            token: _,
+        } => peer,
+        Update::Refused(_) => ours,
+    }
+}
+
+// ---- all updates
+
+// Judges the n updates one after another.
+fn judge_all<'a>(
+    start: &'a [u8],
+    lock: &[u8],
+    udt: &[u8],
+    updates: &'a [u8],
+    n: usize,
+    answers: &mut [u64],
+) -> Replayed
+    requires { ⌜ (n ≡ itemCount (now updates)) × (5 * n ≤ length (now answers)) ⌝ }
+    ensures { λ r. ⌜ (answered r, now (answers .exit)) ≡ leaves (fine (verdicts (updateForPeer (now (lock .entry)) (now (udt .entry))) (now (start .entry)) (callsOf (now (updates .entry))))) (now (answers .entry)) ⌝ }
+    ensures { λ r. ⌜ named r (now (start .entry)) (now (updates .entry)) ≡ inForce (updateForPeer (now (lock .entry)) (now (udt .entry))) (now (start .entry)) (callsOf (now (updates .entry))) ⌝ }
+{
+    let mut at = 0;
+    let mut accepted = 0;
+    let mut i = 0;
+    while i < n {
+        let update = judge_at(start, lock, udt, updates, at, i);
+        put_words(answers, 5 * i, update);
+        i += 1;
+        at = after(update, at, i);
+        accepted = after(update, accepted, accepted + 1);
+    }
+    Replayed::Done {
+        updates: n,
+        accepted,
+        at,
+    }
+}
+
+// Judges a list of updates, each against the transaction that the one before it left in force, under one expected lock and type. For update k, five words of
+// `answers` from 5 k on are its number (0: accepted) and its values, or the halves of its surpluses. Refused, before any update is judged: 3 where
+// `updates` is no list of updates, 13 where `answers` has fewer than five words for each.
+pub fn replay<'a>(
+    start: &'a [u8],
+    lock: &[u8],
+    udt: &[u8],
+    updates: &'a [u8],
+    answers: &mut [u64],
+) -> Replayed
+    ensures { λ r. ⌜ (answered r, now (answers .exit)) ≡ leaves (replayOf (now (lock .entry)) (now (udt .entry)) (now (start .entry)) (now (updates .entry)) (length (now (answers .entry)))) (now (answers .entry)) ⌝ }
+    ensures { λ r. ⌜ named r (now (start .entry)) (now (updates .entry)) ≡ handedBack (replayOf (now (lock .entry)) (now (udt .entry)) (now (start .entry)) (now (updates .entry)) (length (now (answers .entry)))) (now (start .entry)) (inForce (updateForPeer (now (lock .entry)) (now (udt .entry))) (now (start .entry)) (callsOf (now (updates .entry)))) ⌝ }
+{
+    if !is_updates(updates) {
+        return Replayed::Refused(Refusal::LentBytesUnreadable);
+    }
+    let n = molecule::item_count(updates) as usize;
+    if answers.len() / 5 < n {
+        return Replayed::Refused(Refusal::BufferTooShort);
+    }
+    judge_all(start, lock, udt, updates, n, answers)
 }

@@ -1,0 +1,13 @@
+use Rattle.negotiation.proofs.Ways.{ways}
+use Rattle.negotiation.proofs.put_words.Statement.{statement}
+use Rattle.negotiation.proofs.put_words.Tie as tie
+
+pub put-words-spec : {M : Type 1} → statement M
+put-words-spec =
+    tie.close
+    (tie.spec
+    (λ c κs. search ways)  -- words-requires
+    (λ c. search ways)  -- slice-aggregate-copy
+    (λ c κs. search ways)  -- copy-requires
+    (λ c. search ways)  -- same-length
+    (λ c. search ways))  -- returns
