@@ -1,3 +1,5 @@
+pub mod Demand3
+pub mod Numbers
 pub mod ReplayLaws
 pub mod RunLaws
 pub mod TableLaws

@@ -29,7 +29,7 @@ judge-is lock udt start s at i u eo ep er eq ew h = rw (← eo, ← ep, ← er, 
 
 -- ---- the verdicts from an index on
 
-length-verdicts : {C S : Type 0} (E : Entry C S) (ours : List ℕ) (cs : List C) → length (verdicts E ours cs) ≡ length cs
+pub length-verdicts : {C S : Type 0} (E : Entry C S) (ours : List ℕ) (cs : List C) → length (verdicts E ours cs) ≡ length cs
 length-verdicts E ours [] = refl
 length-verdicts E ours (c ∷ cs) = ap suc (length-verdicts E (next E ours c) cs)
 

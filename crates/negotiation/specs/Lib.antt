@@ -1,3 +1,4 @@
+pub mod Law
 pub mod Replay
 pub mod Updates
 pub mod Words

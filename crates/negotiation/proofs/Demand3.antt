@@ -1,0 +1,150 @@
+-- Demand 3 (crates/funding_tx/proofs/Demand3.antt quotes it) of the words that `replay` leaves.
+use mathlib.Core.Path.{_≡_, refl, sym, ap, ap₂, _∙_, subst}
+use Prim.Native.Nat.{ℕ, zero, suc, _+_, _-_, _*_, _/_, _%_, _^_, _≤_, _<_}
+use native.Mathlib.Nat.{div-add-mod'}
+use native.Mathlib.Omega.{arith}
+use mathlib.Core.Bool.{Bool, true, false}
+use mathlib.Core.List.{List, [], _∷_, _++_, map, append-assoc}
+use borrow.Author.Tests.{ne-eqb}
+use lib.Dec.{T, leb, eqb}
+use lib.ListN.{length, drop, getD, length-append}
+use lib.Seq.{drop-at}
+use Rattle.molecule.specs.Molecule.{readable}
+use Rattle.molecule.specs.Layout.{itemCount, span}
+use Rattle.molecule.proofs.Offsets.{span-length}
+use Rattle.rules.specs.Outcome.{Outcome, fine, refused, check, _>>_}
+use Rattle.rules.specs.Surplus.{All, Measure, capacities, expected}
+use Rattle.rules.specs.Judge.{Call, Figures, txOf}
+use Rattle.rules.specs.Run.{Entry, Exact, updateForPeer, handedBack, carried, sum, verdicts, inForce}
+use Rattle.rules.proofs.Tests.{never, fine-inj, check-fine}
+use Rattle.rules.proofs.Accept as accept
+use Rattle.rules.proofs.Law.{exact, kept-inputs, kept-records}
+use Rattle.error.specs.declared.Refusal.{Refusal}
+use Rattle.negotiation.specs.declared.Replayed.{Replayed}
+use Rattle.negotiation.specs.Updates.{Updates, callsOf, callAt, transactionAt}
+use Rattle.negotiation.specs.Words.{numberOf, valuesOf, words, allWords}
+use Rattle.negotiation.specs.Replay.{Summary, acceptedOf, summaryOf, replayOf, leaves, answered, named}
+use Rattle.negotiation.specs.Law.{answerIn, answersIn, Called, Lawful}
+use Rattle.negotiation.proofs.WordLaws.{words-length, all-length}
+use Rattle.negotiation.proofs.RunLaws.{length-verdicts}
+use Rattle.negotiation.proofs.Numbers.{Numbered, verdicts-numbered}
+
+-- ---- the answers are read back from their words
+
+whole : (n : ℕ) → n % 2 ^ 64 + 2 ^ 64 * (n / 2 ^ 64) ≡ n
+whole n = omega arith
+
+-- an acceptance as it is, a refusal with its number
+pub accepted-back : (f : Figures) (ws : List ℕ) → answerIn (words (fine f) ++ ws) ≡ fine f
+unfolding numberOf valuesOf
+accepted-back f ws = rw (whole (f .capacity), whole (f .token))
+
+refused-back : (n : ℕ) (l ws : List ℕ) → 0 < n → answerIn (words (refused n l) ++ ws) ≡ refused n (valuesOf (refused n l))
+unfolding numberOf valuesOf
+refused-back n l ws h = rw (ne-eqb n 0 (λ e. omega arith))
+
+words-behind : (v : Outcome Figures) (vs : List (Outcome Figures)) (out : List ℕ) → drop 5 (allWords (v ∷ vs) ++ out) ≡ allWords vs ++ out
+unfolding allWords
+words-behind v vs out = rw append-assoc (drop-at (words v) (allWords vs ++ out) 5 (words-length v))
+
+-- told or carried alike by two answers
+pub record Alike (v w : Outcome Figures) : Type 0 where
+  pub number : numberOf v ≡ numberOf w
+  pub carries : (pick : Figures → ℕ) (vs ws : List (Outcome Figures)) → carried pick vs ≡ carried pick ws → carried pick (v ∷ vs) ≡ carried pick (w ∷ ws)
+
+alike : (v : Outcome Figures) (ws : List ℕ) → Numbered v → Alike (answerIn (words v ++ ws)) v
+unfolding numberOf
+alike (fine f) ws h = rw (accepted-back f ws) (record { number = refl; carries = λ pick us vs e. ap (λ (l : List ℕ). pick f ∷ l) e })
+alike (refused n l) ws h = rw (refused-back n l ws (h .positive n l refl)) (record { number = refl; carries = λ pick us vs e. e })
+
+first-words : (v : Outcome Figures) (vs : List (Outcome Figures)) (out : List ℕ) → allWords (v ∷ vs) ++ out ≡ words v ++ (allWords vs ++ out)
+unfolding allWords
+first-words v vs out = append-assoc (words v) (allWords vs) out
+
+back-numbers : (vs : List (Outcome Figures)) (out : List ℕ) → All Numbered vs → map numberOf (answersIn (length vs) (allWords vs ++ out)) ≡ map numberOf vs
+unfolding answersIn
+back-numbers [] out h = refl
+back-numbers (v ∷ vs) out (h, hs) =
+    rw (words-behind v vs out, first-words v vs out) (ap₂ (λ (n : ℕ) (l : List ℕ). n ∷ l) (alike v (allWords vs ++ out) h .number) (back-numbers vs out hs))
+
+back-carried : (pick : Figures → ℕ) (vs : List (Outcome Figures)) (out : List ℕ) → All Numbered vs
+    → carried pick (answersIn (length vs) (allWords vs ++ out)) ≡ carried pick vs
+unfolding answersIn
+back-carried pick [] out h = refl
+back-carried pick (v ∷ vs) out (h, hs) =
+    rw (words-behind v vs out, first-words v vs out)
+    (alike v (allWords vs ++ out) h .carries pick (answersIn (length vs) (allWords vs ++ out)) vs (back-carried pick vs out hs))
+
+-- ---- the theorem
+
+-- what is done was a readable list with room for its answers
+done-of : (lock udt start updates : List ℕ) (room : ℕ) (vs : List (Outcome Figures)) → replayOf lock udt start updates room ≡ fine vs
+    → T (readable Updates updates) × (verdicts (updateForPeer lock udt) start (callsOf updates) ≡ vs)
+unfolding replayOf
+done-of lock udt start updates room vs e =
+    let (t, d) = check-fine 3 (readable Updates updates) _ vs e in
+    let (u, f) = check-fine 13 (leb (5 * itemCount updates) room) _ vs d in
+    (t, fine-inj f)
+
+is-true : (b : Bool) → T b → b ≡ true
+is-true true t = refl
+is-true false t = absurd t
+
+module _ {m : Measure} (E : Entry Call Figures) (pick : Figures → ℕ) {start : List ℕ} {calls : List Call} {end end' : List ℕ} {vs ws : List (Outcome Figures)} where
+  -- what is said of answers is said of others that carry the same
+  as-carried : carried pick ws ≡ carried pick vs → end' ≡ end → Exact E m pick start calls vs end → Exact E m pick start calls ws end'
+  as-carried c b x = record { each = rw c (x .each); natural = x .natural; sums = rw (c, b) (x .sums) }
+
+module _ (lock udt start updates before : List ℕ) (n accepted at : ℕ) (after : List ℕ) where
+  abbrev E : Entry Call Figures
+  E = updateForPeer lock udt
+
+  abbrev calls : List Call
+  calls = callsOf updates
+
+  lawful : (vs : List (Outcome Figures)) → T (readable Updates updates) → verdicts E start calls ≡ vs
+      → fine (record { updates = n; accepted = accepted; at = at }) ≡ fine (summaryOf vs) → after ≡ allWords vs ++ drop (length (allWords vs)) before
+      → transactionAt start updates at ≡ inForce E start calls → Lawful lock udt start updates before n accepted at after
+  unfolding acceptedOf
+  lawful vs t ev es ea eb =
+      let s : record { updates = n; accepted = accepted; at = at } ≡ summaryOf vs = fine-inj es in
+      let c : n ≡ length vs = ap (λ (x : Summary). x .updates) s in
+      let k : accepted ≡ acceptedOf vs = ap (λ (x : Summary). x .accepted) s in
+      let h : All Numbered vs = rw ev at (verdicts-numbered lock udt calls start) in
+      let l : length (allWords vs) ≡ 5 * n = all-length vs ∙ ap (λ (j : ℕ). 5 * j) (sym c) in
+      let back : (pick : Figures → ℕ) → carried pick (answersIn n after) ≡ carried pick vs = λ pick. rw (c, ea) (back-carried pick vs _ h) in
+      record {
+        isList = is-true _ t;
+        count = c ∙ ap (length {A = Outcome Figures}) (sym ev) ∙ length-verdicts E start calls ∙ span-length (callAt updates) 0 (itemCount updates);
+        numbers = rw (c, ea, ev) (back-numbers vs _ h);
+        atEnd = eb;
+        acceptances = k ∙ ap sum (sym (back (λ f. 1)));
+        capacity = as-carried E (λ f. f .capacity) (back (λ f. f .capacity) ∙ ap (carried (λ (f : Figures). f .capacity)) (sym ev)) eb
+            (exact E capacities (λ f. f .capacity) (λ ours c f e. accept.accepted lock udt ours c f e .capacity) start calls);
+        token = as-carried E (λ f. f .token) (back (λ f. f .token) ∙ ap (carried (λ (f : Figures). f .token)) (sym ev)) eb
+            (exact E (expected udt) (λ f. f .token) (λ ours c f e. accept.accepted lock udt ours c f e .token) start calls);
+        inputs = ap (λ (b : List ℕ). txOf b .inputs) eb ∙ kept-inputs E capacities (λ f. f .capacity) (λ ours c f e. accept.accepted lock udt ours c f e .capacity) start calls;
+        records = kept-records E capacities (λ f. f .capacity) (λ ours c f e. accept.accepted lock udt ours c f e .capacity) calls start;
+        beyond = rw (ea, l) (drop-at (allWords vs) (drop (5 * n) before) (5 * n) l);
+      }
+
+  pub demand-3 : Called lock udt start updates before (Replayed.Done n accepted at) after → Lawful lock udt start updates before n accepted at after
+  unfolding leaves
+  demand-3 k = by (replayOf lock udt start updates (length before)) refl (k .answer) (k .bytes)
+    where
+      by : (x : Outcome (List (Outcome Figures))) → replayOf lock udt start updates (length before) ≡ x
+          → (answered (Replayed.Done n accepted at), after) ≡ leaves x before → transactionAt start updates at ≡ handedBack x start (inForce E start calls)
+          → Lawful lock udt start updates before n accepted at after
+      by (fine vs) e a b =
+          let (t, v) = done-of lock udt start updates (length before) vs e in
+          lawful vs t v (ap (λ (p : Outcome Summary × List ℕ). p .0) a) (ap (λ (p : Outcome Summary × List ℕ). p .1) a) b
+      by (refused m l) e a b = absurd (never m l _ (sym (ap (λ (p : Outcome Summary × List ℕ). p .0) a)))
+
+-- a refused call leaves the words as they were, and its answer names the start
+pub refusals : (lock udt start updates before : List ℕ) (e : Refusal) (after : List ℕ) → Called lock udt start updates before (Replayed.Refused e) after → after ≡ before
+unfolding leaves
+refusals lock udt start updates before e after k = by (replayOf lock udt start updates (length before)) (k .answer)
+  where
+    by : (x : Outcome (List (Outcome Figures))) → (answered (Replayed.Refused e), after) ≡ leaves x before → after ≡ before
+    by (fine vs) a = absurd (never _ _ _ (ap (λ (p : Outcome Summary × List ℕ). p .0) a))
+    by (refused m l) a = ap (λ (p : Outcome Summary × List ℕ). p .1) a
