@@ -1,18 +1,17 @@
 -- Demand 3 (crates/funding_tx/proofs/Demand3.antt quotes it) of the words that `replay` leaves.
-use mathlib.Core.Path.{_≡_, refl, sym, ap, ap₂, _∙_, subst}
-use Prim.Native.Nat.{ℕ, zero, suc, _+_, _-_, _*_, _/_, _%_, _^_, _≤_, _<_}
-use native.Mathlib.Nat.{div-add-mod'}
+use mathlib.Core.Path.{_≡_, refl, sym, ap, ap₂, _∙_}
+use Prim.Native.Nat.{ℕ, _+_, _-_, _*_, _/_, _<_}
 use native.Mathlib.Omega.{arith}
-use mathlib.Core.Bool.{Bool, true, false}
-use mathlib.Core.List.{List, [], _∷_, _++_, map, append-assoc}
+use mathlib.Core.List.{List, [], _∷_, _++_, map}
 use borrow.Author.Tests.{ne-eqb}
-use lib.Dec.{T, leb, eqb}
-use lib.ListN.{length, drop, getD, length-append}
+use lib.Dec.{T, leb}
+use lib.ListN.{length, drop}
 use lib.Seq.{drop-at}
 use Rattle.molecule.specs.Molecule.{readable}
-use Rattle.molecule.specs.Layout.{itemCount, span}
+use Rattle.molecule.specs.Layout.{itemCount}
 use Rattle.molecule.proofs.Offsets.{span-length}
-use Rattle.rules.specs.Outcome.{Outcome, fine, refused, check, _>>_}
+use Rattle.arithmetic.proofs.AmountLaws.{value-amountOf}
+use Rattle.rules.specs.Outcome.{Outcome, fine, refused}
 use Rattle.rules.specs.Surplus.{All, Measure, capacities, expected}
 use Rattle.rules.specs.Judge.{Call, Figures, txOf}
 use Rattle.rules.specs.Run.{Entry, Exact, updateForPeer, handedBack, carried, sum, verdicts, inForce}
@@ -22,58 +21,46 @@ use Rattle.rules.proofs.Law.{exact, kept-inputs, kept-records}
 use Rattle.error.specs.declared.Refusal.{Refusal}
 use Rattle.negotiation.specs.declared.Replayed.{Replayed}
 use Rattle.negotiation.specs.Updates.{Updates, callsOf, callAt, transactionAt}
-use Rattle.negotiation.specs.Words.{numberOf, valuesOf, words, allWords}
-use Rattle.negotiation.specs.Replay.{Summary, acceptedOf, summaryOf, replayOf, leaves, answered, named}
+use Rattle.negotiation.specs.Words.{numberOf, valuesOf, fourOf, surplusWords, words, allWords}
+use Rattle.negotiation.specs.Replay.{Summary, acceptedOf, summaryOf, replayOf, leaves, answered}
 use Rattle.negotiation.specs.Law.{answerIn, answersIn, Called, Lawful}
-use Rattle.negotiation.proofs.WordLaws.{words-length, all-length}
+use Rattle.negotiation.proofs.WordLaws.{all-length}
 use Rattle.negotiation.proofs.RunLaws.{length-verdicts}
 use Rattle.negotiation.proofs.Numbers.{Numbered, verdicts-numbered}
 
 -- ---- the answers are read back from their words
 
-whole : (n : ℕ) → n % 2 ^ 64 + 2 ^ 64 * (n / 2 ^ 64) ≡ n
-whole n = omega arith
-
 -- an acceptance as it is, a refusal with its number
-pub accepted-back : (f : Figures) (ws : List ℕ) → answerIn (words (fine f) ++ ws) ≡ fine f
-unfolding numberOf valuesOf
-accepted-back f ws = rw (whole (f .capacity), whole (f .token))
+accepted-back : (f : Figures) (ws : List ℕ) → answerIn (words (fine f) ++ ws) ≡ fine f
+unfolding numberOf valuesOf surplusWords
+accepted-back f ws = rw (value-amountOf (f .capacity), value-amountOf (f .token))
 
-refused-back : (n : ℕ) (l ws : List ℕ) → 0 < n → answerIn (words (refused n l) ++ ws) ≡ refused n (valuesOf (refused n l))
+refused-back : (n : ℕ) (l ws : List ℕ) → 0 < n → answerIn (words (refused n l) ++ ws) ≡ refused n (fourOf l)
 unfolding numberOf valuesOf
 refused-back n l ws h = rw (ne-eqb n 0 (λ e. omega arith))
 
-words-behind : (v : Outcome Figures) (vs : List (Outcome Figures)) (out : List ℕ) → drop 5 (allWords (v ∷ vs) ++ out) ≡ allWords vs ++ out
-unfolding allWords
-words-behind v vs out = rw append-assoc (drop-at (words v) (allWords vs ++ out) 5 (words-length v))
-
--- told or carried alike by two answers
-pub record Alike (v w : Outcome Figures) : Type 0 where
-  pub number : numberOf v ≡ numberOf w
-  pub carries : (pick : Figures → ℕ) (vs ws : List (Outcome Figures)) → carried pick vs ≡ carried pick ws → carried pick (v ∷ vs) ≡ carried pick (w ∷ ws)
+-- two answers with one number, and the same surpluses where they are acceptances
+record Alike (v w : Outcome Figures) : Type 0 where
+  number : numberOf v ≡ numberOf w
+  carries : (pick : Figures → ℕ) (vs ws : List (Outcome Figures)) → carried pick vs ≡ carried pick ws → carried pick (v ∷ vs) ≡ carried pick (w ∷ ws)
 
 alike : (v : Outcome Figures) (ws : List ℕ) → Numbered v → Alike (answerIn (words v ++ ws)) v
 unfolding numberOf
 alike (fine f) ws h = rw (accepted-back f ws) (record { number = refl; carries = λ pick us vs e. ap (λ (l : List ℕ). pick f ∷ l) e })
 alike (refused n l) ws h = rw (refused-back n l ws (h .positive n l refl)) (record { number = refl; carries = λ pick us vs e. e })
 
-first-words : (v : Outcome Figures) (vs : List (Outcome Figures)) (out : List ℕ) → allWords (v ∷ vs) ++ out ≡ words v ++ (allWords vs ++ out)
-unfolding allWords
-first-words v vs out = append-assoc (words v) (allWords vs) out
-
 back-numbers : (vs : List (Outcome Figures)) (out : List ℕ) → All Numbered vs → map numberOf (answersIn (length vs) (allWords vs ++ out)) ≡ map numberOf vs
-unfolding answersIn
+unfolding answersIn allWords
 back-numbers [] out h = refl
 back-numbers (v ∷ vs) out (h, hs) =
-    rw (words-behind v vs out, first-words v vs out) (ap₂ (λ (n : ℕ) (l : List ℕ). n ∷ l) (alike v (allWords vs ++ out) h .number) (back-numbers vs out hs))
+    ap₂ (λ (n : ℕ) (l : List ℕ). n ∷ l) (alike v (allWords vs ++ out) h .number) (back-numbers vs out hs)
 
 back-carried : (pick : Figures → ℕ) (vs : List (Outcome Figures)) (out : List ℕ) → All Numbered vs
     → carried pick (answersIn (length vs) (allWords vs ++ out)) ≡ carried pick vs
-unfolding answersIn
+unfolding answersIn allWords
 back-carried pick [] out h = refl
 back-carried pick (v ∷ vs) out (h, hs) =
-    rw (words-behind v vs out, first-words v vs out)
-    (alike v (allWords vs ++ out) h .carries pick (answersIn (length vs) (allWords vs ++ out)) vs (back-carried pick vs out hs))
+    alike v (allWords vs ++ out) h .carries pick (answersIn (length vs) (allWords vs ++ out)) vs (back-carried pick vs out hs)
 
 -- ---- the theorem
 
@@ -85,10 +72,6 @@ done-of lock udt start updates room vs e =
     let (t, d) = check-fine 3 (readable Updates updates) _ vs e in
     let (u, f) = check-fine 13 (leb (5 * itemCount updates) room) _ vs d in
     (t, fine-inj f)
-
-is-true : (b : Bool) → T b → b ≡ true
-is-true true t = refl
-is-true false t = absurd t
 
 module _ {m : Measure} (E : Entry Call Figures) (pick : Figures → ℕ) {start : List ℕ} {calls : List Call} {end end' : List ℕ} {vs ws : List (Outcome Figures)} where
   -- what is said of answers is said of others that carry the same
@@ -114,7 +97,7 @@ module _ (lock udt start updates before : List ℕ) (n accepted at : ℕ) (after
       let l : length (allWords vs) ≡ 5 * n = all-length vs ∙ ap (λ (j : ℕ). 5 * j) (sym c) in
       let back : (pick : Figures → ℕ) → carried pick (answersIn n after) ≡ carried pick vs = λ pick. rw (c, ea) (back-carried pick vs _ h) in
       record {
-        isList = is-true _ t;
+        isList = t;
         count = c ∙ ap (length {A = Outcome Figures}) (sym ev) ∙ length-verdicts E start calls ∙ span-length (callAt updates) 0 (itemCount updates);
         numbers = rw (c, ea, ev) (back-numbers vs _ h);
         atEnd = eb;

@@ -1,6 +1,6 @@
 -- No refusal of the rules has the number 0: a first word of 0 is an acceptance.
-use mathlib.Core.Path.{_≡_, refl, sym, ap, _∙_}
-use Prim.Native.Nat.{ℕ, zero, suc, _+_, _-_, _<_}
+use mathlib.Core.Path.{_≡_, refl, sym}
+use Prim.Native.Nat.{ℕ, suc, _-_, _<_}
 use mathlib.Core.Bool.{Bool, true, false, cond}
 use mathlib.Core.List.{List, [], _∷_}
 use mathlib.Core.Option.{Option, none, some}
@@ -9,8 +9,8 @@ use Rattle.transaction.specs.Tx.{Tx, readTx}
 use Rattle.rules.specs.Outcome.{Outcome, fine, refused, check, checkWith, given, _>>=_, _>>_}
 use Rattle.rules.specs.Cells.{Cell, readOurs, readRecords}
 use Rattle.rules.specs.Surplus.{isOf, isEmpty, added}
-use Rattle.rules.specs.Judge.{Call, Figures, limits, comparison, live, liveCells, spent, tokenDelta, fundingOutputDelta, covered, counted, tally, settled, account, tokenAccount, accounts, contribution, scripts, judge}
-use Rattle.rules.specs.Run.{Entry, next, verdicts, updateForPeer}
+use Rattle.rules.specs.Judge.{Call, limits, comparison, live, liveCells, spent, tokenDelta, fundingOutputDelta, covered, counted, tally, settled, account, tokenAccount, accounts, contribution, scripts, judge}
+use Rattle.rules.specs.Run.{next, verdicts, updateForPeer}
 use Rattle.rules.specs.Surplus.{All}
 use Rattle.rules.proofs.Tests.{never}
 

@@ -1,5 +1,5 @@
 -- Laws of the whole call, one for each way out.
-use mathlib.Core.Path.{_≡_, refl, sym, ap, _∙_}
+use mathlib.Core.Path.{_≡_, sym, _∙_}
 use Prim.Native.Nat.{ℕ, _*_, _/_, _≤_, _<_}
 use mathlib.Core.Bool.{Bool, true, false, not}
 use mathlib.Core.List.{List, []}
@@ -11,8 +11,7 @@ use Rattle.molecule.specs.Molecule.{readable}
 use Rattle.molecule.specs.Layout.{itemCount}
 use Rattle.error.specs.declared.Refusal.{Refusal}
 use Rattle.error.specs.Refusal.{number, values}
-use Rattle.rules.specs.Outcome.{Outcome, fine, refused, check, checkWith, _>>_}
-use Rattle.rules.specs.Judge.{Figures}
+use Rattle.rules.specs.Outcome.{fine, refused, check, checkWith, _>>_}
 use Rattle.rules.specs.Run.{handedBack, verdicts, inForce, updateForPeer}
 use Rattle.negotiation.specs.declared.Replayed.{Replayed}
 use Rattle.negotiation.specs.Updates.{Updates, callsOf}

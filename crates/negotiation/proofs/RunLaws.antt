@@ -1,10 +1,10 @@
 -- Laws of the functions that judge: one update, and one after another.
-use mathlib.Core.Path.{_≡_, refl, sym, ap, ap₂, _∙_}
-use Prim.Native.Nat.{ℕ, zero, suc, _+_, _-_, _*_, _≤_, _<_}
+use mathlib.Core.Path.{_≡_, refl, sym, ap, _∙_}
+use Prim.Native.Nat.{ℕ, suc, _+_, _-_, _*_, _≤_, _<_}
 use mathlib.Core.List.{List, [], _∷_, _++_}
 use native.Mathlib.Numerals.{add-one}
 use native.Mathlib.Omega.{arith}
-use lib.ListN.{length, drop, length-append}
+use lib.ListN.{length, drop}
 use Rattle.molecule.specs.Layout.{itemCount, span}
 use Rattle.molecule.specs.Write.{splice, Put}
 use Rattle.molecule.proofs.Offsets.{span-length}
@@ -14,13 +14,13 @@ use Rattle.rules.specs.declared.Update.{Update}
 use Rattle.rules.specs.Outcome.{Outcome, fine, refused}
 use Rattle.rules.specs.Judge.{Call, Figures, judge}
 use Rattle.rules.specs.Told.{told, inForceOf}
-use Rattle.rules.specs.Run.{Entry, handedBack, carried, sum, next, verdicts, inForce, updateForPeer}
+use Rattle.rules.specs.Run.{Entry, handedBack, next, verdicts, inForce, updateForPeer}
 use Rattle.funding_tx.proofs.Demand3.{hands}
 use Rattle.negotiation.specs.declared.Replayed.{Replayed}
 use Rattle.negotiation.specs.Updates.{bytesOf, rateOf, callAt, callsOf, transactionAt}
-use Rattle.negotiation.specs.Words.{numberOf, valuesOf, words, allWords}
-use Rattle.negotiation.specs.Replay.{acceptedOf, indexAfter, summaryOf, leaves, answered, named}
-use Rattle.negotiation.proofs.WordLaws.{words-length, all-length}
+use Rattle.negotiation.specs.Words.{words, allWords}
+use Rattle.negotiation.specs.Replay.{acceptedOf, indexAfter, leaves, answered, named}
+use Rattle.negotiation.proofs.WordLaws.{all-length}
 
 -- what is judged is the update with this index, against the transaction with that one
 pub judge-is : (lock udt start s : List ℕ) (at i : ℕ) (u : Update) {o p r q : List ℕ} {w : ℕ} → o ≡ transactionAt start s at → p ≡ bytesOf s i 0 → r ≡ bytesOf s i 1 → q ≡ bytesOf s i 2
@@ -113,7 +113,6 @@ module _ {lock udt start s out₀ : List ℕ} {n i at accepted : ℕ} {out : Lis
   more {out'} l e =
       let v = verdictAt lock udt start s at i in
       let r = rest lock udt start s (handedBack v at (i + 1)) (i + 1) n in
-      let w : length (words v) ≡ 5 = words-length v in
       let c : length r ≡ n - (i + 1) = length-verdicts (updateForPeer lock udt) (transactionAt start s (handedBack v at (i + 1))) (span (callAt s) (i + 1) (n - (i + 1))) ∙ span-length (callAt s) (i + 1) (n - (i + 1)) in
       let a : length (allWords r) ≡ 5 * length r = all-length r in
       let h = g .room in

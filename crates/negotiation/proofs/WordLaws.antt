@@ -1,33 +1,30 @@
 -- Laws of the words of an answer.
-use mathlib.Core.Path.{_≡_, refl, sym, ap, _∙_}
-use Prim.Native.Nat.{ℕ, zero, suc, _+_, _*_, _/_, _%_, _^_, _<_}
-use mathlib.Core.List.{List, [], _∷_, _++_}
+use mathlib.Core.Path.{_≡_, refl, sym}
+use Prim.Native.Nat.{ℕ, _*_}
+use mathlib.Core.List.{List, [], _∷_}
 use native.Mathlib.Omega.{arith}
 use mir.Syntax.{w64}
 use mir.Val.{Fits}
-use lib.ListN.{length, getD, length-append}
-use Rattle.arithmetic.specs.declared.amount.{Amount.Amount}
+use lib.ListN.{length, getD}
+use Rattle.arithmetic.proofs.AmountLaws.{amountOf-value}
 use Rattle.molecule.specs.Write.{splice}
 use Rattle.error.specs.declared.Refusal.{Refusal}
 use Rattle.error.specs.Refusal.{number, values}
 use Rattle.units.specs.declared.{Shannons.Shannons, Tokens.Tokens}
 use Rattle.units.specs.Units.{shannonCount, tokenCount}
 use Rattle.rules.specs.declared.Update.{Update}
-use Rattle.rules.specs.Outcome.{Outcome, fine, refused}
+use Rattle.rules.specs.Outcome.{Outcome, fine}
 use Rattle.rules.specs.Judge.{Figures}
 use Rattle.rules.specs.Told.{told, refusal}
-use Rattle.negotiation.specs.Words.{numberOf, valuesOf, words, allWords}
-
-low : (l h : ℕ) → Fits w64 l → (l + 2 ^ 64 * h) % 2 ^ 64 ≡ l
-low l h f = omega arith
-
-high : (l h : ℕ) → Fits w64 l → (l + 2 ^ 64 * h) / 2 ^ 64 ≡ h
-high l h f = omega arith
+use Rattle.negotiation.specs.Words.{numberOf, valuesOf, surplusWords, words, allWords}
 
 pub accepted-words : (c : Shannons) (t : Tokens) → Fits w64 (c .0 .low) → Fits w64 (t .0 .low)
     → 0 ∷ c .0 .low ∷ c .0 .high ∷ t .0 .low ∷ t .0 .high ∷ [] ≡ words (fine (record { capacity = shannonCount c; token = tokenCount t }))
-unfolding numberOf valuesOf shannonCount tokenCount
-accepted-words c t f g = rw (low (c .0 .low) (c .0 .high) f, high (c .0 .low) (c .0 .high) f, low (t .0 .low) (t .0 .high) g, high (t .0 .low) (t .0 .high) g)
+unfolding numberOf valuesOf surplusWords shannonCount tokenCount
+accepted-words c t f g =
+    let x = amountOf-value (c .0) (f .fits) in
+    let y = amountOf-value (t .0) (g .fits) in
+    λ i. 0 ∷ sym x i .low ∷ sym x i .high ∷ sym y i .low ∷ sym y i .high ∷ []
 
 pub refused-words : (e : Refusal) {n a b c d : ℕ} → n ≡ number e → a ≡ getD (values e) 0 0 → b ≡ getD (values e) 1 0 → c ≡ getD (values e) 2 0
     → d ≡ getD (values e) 3 0 → n ∷ a ∷ b ∷ c ∷ d ∷ [] ≡ words (refusal e)
@@ -47,12 +44,7 @@ words-put u out at e h = rw e at h
 
 -- ---- how many
 
-pub words-length : (o : Outcome Figures) → length (words o) ≡ 5
-unfolding valuesOf
-words-length (fine f) = refl
-words-length (refused n l) = refl
-
 pub all-length : (os : List (Outcome Figures)) → length (allWords os) ≡ 5 * length os
 unfolding allWords
 all-length [] = refl
-all-length (o ∷ os) = rw (length-append, words-length o, all-length os) (omega arith)
+all-length (o ∷ os) = omega (arith, all-length os)

@@ -1,9 +1,9 @@
 -- Demand 3 as a statement about one function: what a caller finds in the words that `replay` leaves. It is proved in proofs/Demand3.antt.
 use mathlib.Core.Path.{_≡_}
 use Prim.Native.Nat.{ℕ, zero, suc, _+_, _*_, _^_}
-use mathlib.Core.Bool.{true, cond}
+use mathlib.Core.Bool.{cond}
 use mathlib.Core.List.{List, [], _∷_, _++_, map}
-use lib.Dec.{eqb}
+use lib.Dec.{T, eqb}
 use lib.ListN.{length, drop, getD}
 use Rattle.molecule.specs.Molecule.{readable}
 use Rattle.molecule.specs.Layout.{itemCount}
@@ -38,7 +38,7 @@ module _ (lock udt start updates before : List ℕ) where
   -- what holds of a call that is done, with these three numbers
   pub record Lawful (n accepted at : ℕ) (after : List ℕ) : Type 0 where
     -- what was lent is a list of n updates
-    pub isList : readable Updates updates ≡ true
+    pub isList : T (readable Updates updates)
     pub count : n ≡ itemCount updates
     -- the numbers in the words are those of the rules, from the start and the list alone, and the index names the transaction that is then in force
     pub numbers : map numberOf (answersIn n after) ≡ map numberOf (verdicts (updateForPeer lock udt) start (callsOf updates))

@@ -9,7 +9,7 @@ use Rattle.molecule.specs.Layout.{itemCount}
 use Rattle.rules.specs.Outcome.{Outcome, fine, refused, check, _>>_}
 use Rattle.rules.specs.Judge.{Figures}
 use Rattle.rules.specs.Told.{refusal}
-use Rattle.rules.specs.Run.{handedBack, carried, sum, verdicts, inForce, updateForPeer}
+use Rattle.rules.specs.Run.{handedBack, carried, sum, verdicts, updateForPeer}
 use Rattle.negotiation.specs.declared.Replayed.{Replayed}
 use Rattle.negotiation.specs.Updates.{Updates, callsOf, transactionAt}
 use Rattle.negotiation.specs.Words.{allWords}
