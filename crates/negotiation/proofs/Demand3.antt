@@ -3,6 +3,7 @@ use mathlib.Core.Path.{_≡_, refl, sym, ap, ap₂, _∙_}
 use Prim.Native.Nat.{ℕ, _+_, _-_, _*_, _/_, _<_}
 use native.Mathlib.Omega.{arith}
 use mathlib.Core.List.{List, [], _∷_, _++_, map}
+use mathlib.Core.Option.{some}
 use borrow.Author.Tests.{ne-eqb}
 use lib.Dec.{T, leb}
 use lib.ListN.{length, drop}
@@ -12,12 +13,13 @@ use Rattle.molecule.specs.Layout.{itemCount}
 use Rattle.molecule.proofs.Offsets.{span-length}
 use Rattle.arithmetic.proofs.AmountLaws.{value-amountOf}
 use Rattle.rules.specs.Outcome.{Outcome, fine, refused}
+use Rattle.rules.specs.Cells.{readOurs}
 use Rattle.rules.specs.Surplus.{All, Measure, capacities, expected}
 use Rattle.rules.specs.Judge.{Call, Figures, txOf}
-use Rattle.rules.specs.Run.{Entry, Exact, updateForPeer, handedBack, carried, sum, verdicts, inForce}
+use Rattle.rules.specs.Run.{Entry, Exact, updateForPeer, handedBack, carried, sum, verdicts, inForce, next, forces}
 use Rattle.rules.proofs.Tests.{never, fine-inj, check-fine}
 use Rattle.rules.proofs.Accept as accept
-use Rattle.rules.proofs.Law.{exact, kept-inputs, kept-records}
+use Rattle.rules.proofs.Law.{exact, kept-inputs, kept-records, stay-readable}
 use Rattle.error.specs.declared.Refusal.{Refusal}
 use Rattle.negotiation.specs.declared.Replayed.{Replayed}
 use Rattle.negotiation.specs.Updates.{Updates, callsOf, callAt, transactionAt}
@@ -73,6 +75,11 @@ done-of lock udt start updates room vs e =
     let (u, f) = check-fine 13 (leb (5 * itemCount updates) room) _ vs d in
     (t, fine-inj f)
 
+-- what holds of the bytes after each call, and of the start, holds of the bytes at the end
+at-last : {C S : Type 0} (E : Entry C S) (P : List ℕ → Type 0) (calls : List C) (start : List ℕ) → P start → All P (forces E start calls) → P (inForce E start calls)
+at-last E P [] start p ps = p
+at-last E P (c ∷ cs) start p (q, qs) = at-last E P cs (next E start c) q qs
+
 module _ {m : Measure} (E : Entry Call Figures) (pick : Figures → ℕ) {start : List ℕ} {calls : List Call} {end end' : List ℕ} {vs ws : List (Outcome Figures)} where
   -- what is said of answers is said of others that carry the same
   as-carried : carried pick ws ≡ carried pick vs → end' ≡ end → Exact E m pick start calls vs end → Exact E m pick start calls ws end'
@@ -108,6 +115,8 @@ module _ (lock udt start updates before : List ℕ) (n accepted at : ℕ) (after
             (exact E (expected udt) (λ f. f .token) (λ ours c f e. accept.accepted lock udt ours c f e .token) start calls);
         inputs = ap (λ (b : List ℕ). txOf b .inputs) eb ∙ kept-inputs E capacities (λ f. f .capacity) (λ ours c f e. accept.accepted lock udt ours c f e .capacity) start calls;
         records = kept-records E capacities (λ f. f .capacity) (λ ours c f e. accept.accepted lock udt ours c f e .capacity) calls start;
+        readable = λ h. rw eb
+            (at-last E (λ b. readOurs b ≡ some (txOf b)) calls start h (stay-readable E (λ ours c f e. accept.accepted lock udt ours c f e .peerReadable) calls start h));
         beyond = rw (ea, l) (drop-at (allWords vs) (drop (5 * n) before) (5 * n) l);
       }
 

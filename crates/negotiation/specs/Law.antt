@@ -3,11 +3,13 @@ use mathlib.Core.Path.{_≡_}
 use Prim.Native.Nat.{ℕ, zero, suc, _+_, _*_, _^_}
 use mathlib.Core.Bool.{cond}
 use mathlib.Core.List.{List, [], _∷_, _++_, map}
+use mathlib.Core.Option.{some}
 use lib.Dec.{T, eqb}
 use lib.ListN.{length, drop, getD}
-use Rattle.molecule.specs.Molecule.{readable}
+use Rattle.molecule.specs.Molecule as molecule
 use Rattle.molecule.specs.Layout.{itemCount}
 use Rattle.rules.specs.Outcome.{Outcome, fine, refused}
+use Rattle.rules.specs.Cells.{readOurs}
 use Rattle.rules.specs.Surplus.{capacities, expected}
 use Rattle.rules.specs.Judge.{Figures, txOf}
 use Rattle.rules.specs.Run.{Exact, updateForPeer, handedBack, verdicts, inForce, kept, keptRecords, inputsOf, recordsOf}
@@ -38,7 +40,7 @@ module _ (lock udt start updates before : List ℕ) where
   -- what holds of a call that is done, with these three numbers
   pub record Lawful (n accepted at : ℕ) (after : List ℕ) : Type 0 where
     -- what was lent is a list of n updates
-    pub isList : T (readable Updates updates)
+    pub isList : T (molecule.readable Updates updates)
     pub count : n ≡ itemCount updates
     -- the numbers in the words are those of the rules, from the start and the list alone, and the index names the transaction that is then in force
     pub numbers : map numberOf (answersIn n after) ≡ map numberOf (verdicts (updateForPeer lock udt) start (callsOf updates))
@@ -52,5 +54,7 @@ module _ (lock udt start updates before : List ℕ) where
     -- its inputs are those at the start and then, one for each of these records, the input that it was lent for
     pub inputs : txOf (transactionAt start updates at) .inputs ≡ txOf start .inputs ++ inputsOf (kept (updateForPeer lock udt) start (callsOf updates))
     pub records : recordsOf (kept (updateForPeer lock udt) start (callsOf updates)) ≡ keptRecords (updateForPeer lock udt) start (callsOf updates)
+    -- from a readable transaction, or none, it is readable, or none
+    pub readable : readOurs start ≡ some (txOf start) → readOurs (transactionAt start updates at) ≡ some (txOf (transactionAt start updates at))
     -- the words beyond those of the n answers keep their value
     pub beyond : drop (5 * n) after ≡ drop (5 * n) before

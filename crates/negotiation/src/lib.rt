@@ -230,8 +230,8 @@ pub fn replay<'a>(
     updates: &'a [u8],
     answers: &mut [u64],
 ) -> Replayed
-    ensures { λ r. ⌜ (answered r, now (answers .exit)) ≡ leaves (replayOf (now (lock .entry)) (now (udt .entry)) (now (start .entry)) (now (updates .entry)) (length (now (answers .entry)))) (now (answers .entry)) ⌝ }
-    ensures { λ r. ⌜ named r (now (start .entry)) (now (updates .entry)) ≡ handedBack (replayOf (now (lock .entry)) (now (udt .entry)) (now (start .entry)) (now (updates .entry)) (length (now (answers .entry)))) (now (start .entry)) (inForce (updateForPeer (now (lock .entry)) (now (udt .entry))) (now (start .entry)) (callsOf (now (updates .entry)))) ⌝ }
+    ensures answer { λ r. ⌜ (answered r, now (answers .exit)) ≡ leaves (replayOf (now (lock .entry)) (now (udt .entry)) (now (start .entry)) (now (updates .entry)) (length (now (answers .entry)))) (now (answers .entry)) ⌝ }
+    ensures bytes { λ r. ⌜ named r (now (start .entry)) (now (updates .entry)) ≡ handedBack (replayOf (now (lock .entry)) (now (udt .entry)) (now (start .entry)) (now (updates .entry)) (length (now (answers .entry)))) (now (start .entry)) (inForce (updateForPeer (now (lock .entry)) (now (udt .entry))) (now (start .entry)) (callsOf (now (updates .entry)))) ⌝ }
 {
     if !is_updates(updates) {
         return Replayed::Refused(Refusal::LentBytesUnreadable);
