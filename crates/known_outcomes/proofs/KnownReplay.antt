@@ -5,7 +5,8 @@ use mathlib.Core.List.{List, [], _∷_, _++_}
 use lib.ListN.{replicate}
 use Rattle.rules.specs.Outcome.{fine, refused}
 use Rattle.negotiation.specs.Updates.{bytesOf, rateOf, callsOf, transactionAt}
-use Rattle.negotiation.specs.Words.{numberOf, valuesOf, surplusWords, allWords}
+use Rattle.words.specs.Words.{numberOf, valuesOf, surplusWords}
+use Rattle.negotiation.specs.Words.{allWords}
 use Rattle.negotiation.specs.Replay.{acceptedOf, indexAfter, replayOf, leaves}
 use Rattle.known_outcomes.specs.Cases.{expectedLock, tokenType}
 use Rattle.known_outcomes.specs.Runs.{worked, growing}

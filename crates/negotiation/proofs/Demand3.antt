@@ -23,7 +23,8 @@ use Rattle.rules.proofs.Law.{exact, kept-inputs, kept-records, stay-readable}
 use Rattle.error.specs.declared.Refusal.{Refusal}
 use Rattle.negotiation.specs.declared.Replayed.{Replayed}
 use Rattle.negotiation.specs.Updates.{Updates, callsOf, callAt, transactionAt}
-use Rattle.negotiation.specs.Words.{numberOf, valuesOf, fourOf, surplusWords, words, allWords}
+use Rattle.words.specs.Words.{numberOf, valuesOf, fourOf, surplusWords}
+use Rattle.negotiation.specs.Words.{words, allWords}
 use Rattle.negotiation.specs.Replay.{Summary, acceptedOf, summaryOf, replayOf, leaves, answered}
 use Rattle.negotiation.specs.Law.{answerIn, answersIn, Called, Lawful}
 use Rattle.negotiation.proofs.WordLaws.{all-length}

@@ -15,7 +15,7 @@ use Rattle.rules.specs.Judge.{Figures, txOf}
 use Rattle.rules.specs.Run.{Exact, updateForPeer, handedBack, verdicts, inForce, kept, keptRecords, inputsOf, recordsOf}
 use Rattle.negotiation.specs.declared.Replayed.{Replayed}
 use Rattle.negotiation.specs.Updates.{Updates, callsOf, transactionAt}
-use Rattle.negotiation.specs.Words.{numberOf, fourOf}
+use Rattle.words.specs.Words.{numberOf, fourOf}
 use Rattle.negotiation.specs.Replay.{acceptedOf, replayOf, leaves, answered, named}
 
 -- the answer that five words tell: where the first is 0 an acceptance, with its two surpluses in halves

@@ -2,8 +2,6 @@
 use arithmetic::little_endian;
 use error::Refusal;
 use rules::Update;
-use units::Shannons;
-use units::Tokens;
 ghost use mathlib.Core.Path.{_≡_};
 ghost use Prim.Native.Nat.{_+_, _*_, _≤_};
 ghost use lib.ListN.{length};
@@ -11,9 +9,8 @@ ghost use Rattle.molecule.specs.Molecule.{readable};
 ghost use Rattle.molecule.specs.Layout.{inside, itemCount};
 ghost use Rattle.molecule.specs.Write.{splice};
 ghost use Rattle.rules.specs.Judge.{judge};
-ghost use Rattle.units.specs.Units.{shannonCount, tokenCount};
 ghost use Rattle.rules.specs.Outcome.{fine};
-ghost use Rattle.rules.specs.Told.{told, refusal, inForceOf};
+ghost use Rattle.rules.specs.Told.{told, inForceOf};
 ghost use Rattle.rules.specs.Run.{handedBack, verdicts, inForce, updateForPeer};
 ghost use Rattle.negotiation.specs.Updates as form;
 ghost use Rattle.negotiation.specs.Updates.{Updates, bytesOf, bytesStart, rateOf, callAt, callsOf, transactionAt, placeAt};
@@ -103,38 +100,6 @@ pub fn transaction_at<'a>(start: &'a [u8], updates: &'a [u8], at: usize) -> &'a 
 
 // ---- one update
 
-// The words of an acceptance: 0, and the halves of the two surpluses.
-fn accepted_words(capacity: Shannons, token: Tokens) -> [u64; 5]
-    ensures { λ r. ⌜ r ≡ words (fine (record { capacity = shannonCount capacity; token = tokenCount token })) ⌝ }
-{
-    let c = capacity.0;
-    let t = token.0;
-    [0, c.low, c.high, t.low, t.high]
-}
-
-// The words of a refusal: its number and values.
-fn refused_words(why: Refusal) -> [u64; 5]
-    ensures { λ r. ⌜ r ≡ words (refusal why) ⌝ }
-{
-    [
-        why.number() as u64,
-        why.value(0),
-        why.value(1),
-        why.value(2),
-        why.value(3),
-    ]
-}
-
-// The words of an answer: its number, and four for its values.
-pub fn words(update: Update) -> [u64; 5]
-    ensures { λ r. ⌜ r ≡ words (told update) ⌝ }
-{
-    match update {
-        Update::Accepted { capacity, token } => accepted_words(capacity, token),
-        Update::Refused(why) => refused_words(why),
-    }
-}
-
 // Judges update i against the transaction with index `at`.
 fn judge_at<'a>(
     start: &'a [u8],
@@ -171,7 +136,9 @@ fn put_words(answers: &mut [u64], at: usize, update: Update)
     requires { ⌜ at + 5 ≤ length (now answers) ⌝ }
     ensures { λ _. ⌜ now (answers .exit) ≡ splice (now (answers .entry)) at (words (told update)) ⌝ }
 {
-    let five = words(update);
+    let mut four = [0u64; 4];
+    let number = words::tell_update(update, &mut four) as u64;
+    let five = [number, four[0], four[1], four[2], four[3]];
     copy(answers, at, &five);
 }
 
