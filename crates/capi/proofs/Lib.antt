@@ -1,4 +1,5 @@
 pub mod AnswerLaws
 pub mod CallLaws
 pub mod BufferLaws
+pub mod ReplayLaws
 pub mod Ways

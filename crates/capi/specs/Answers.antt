@@ -6,6 +6,7 @@ use Rattle.rules.specs.Judge.{Figures}
 use Rattle.words.specs.Words.{low, high}
 use Rattle.funding_cell.specs.declared.FundingRequest.{FundingRequest}
 use Rattle.udt_cells.specs.Change.{Built}
+use Rattle.negotiation.specs.Replay.{Summary}
 
 -- how many bytes were written
 unfoldable pub countWords : ℕ → List ℕ
@@ -18,6 +19,10 @@ cellWords f = low (f .capacity) ∷ low (f .token) ∷ high (f .token) ∷ []
 -- the pick: how many cells, the change, and the capacity of its output, which has 64 bits
 unfoldable pub pickWords : Built → List ℕ
 pickWords b = b .taken ∷ low (b .change) ∷ high (b .change) ∷ low (b .capacity) ∷ []
+
+-- a list of updates: how many they were, how many were accepted, and which transaction is then in force, 0 for the one at the start, k + 1 for that of update k
+unfoldable pub replayWords : Summary → List ℕ
+replayWords s = s .updates ∷ s .accepted ∷ s .at ∷ []
 
 -- ---- figures that cross as words
 

@@ -1,6 +1,7 @@
 // What a host in Rust or C links: the library's functions under plain names. A slice crosses as a pointer and then a length.
 mod answers;
 mod buffers;
+mod replay;
 
 use arithmetic::Amount;
 use units::Tokens;

@@ -1,0 +1,16 @@
+use Rattle.capi.proofs.Ways.{ways}
+use Rattle.capi.proofs.replay.tell_replayed.Statement.{statement}
+use Rattle.capi.proofs.replay.tell_replayed.Tie as tie
+
+pub tell-replayed-spec : {M : Type 1} → statement M
+tell-replayed-spec =
+    tie.close
+    (tie.spec
+    (λ c. search ways)  -- enum-known-replayed
+    (λ c κs. search ways)  -- set-four-requires
+    (λ c. search ways)  -- enum-known-replayed-2
+    (λ c κs. search ways)  -- tell-refusal-requires
+    (λ c. search ways)  -- same-length
+    (λ c. search ways)  -- returns
+    (λ c. search ways)  -- same-length-2
+    (λ c. search ways))  -- returns-2
