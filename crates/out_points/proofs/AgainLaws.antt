@@ -1,7 +1,7 @@
 -- What is read is what is written: a readable list is the list of its out points, and the list of out points is read as these.
 use mathlib.Core.Path.{_≡_, refl, sym, ap, ap₂, _∙_, subst}
 use Prim.Native.Nat.{ℕ, zero, suc, _+_, _-_, _*_, _^_, _≤_, _<_}
-use mathlib.Core.List.{List, [], _∷_, _++_, append-assoc, append-nil}
+use mathlib.Core.List.{List, [], _∷_, _++_, map, flatten, append-assoc, append-nil}
 use mathlib.Core.Bool.{Bool, true, false, cond}
 use borrow.Author.Tests.{leb-true}
 use lib.Dec.{leb, ltb}
@@ -81,12 +81,12 @@ list-again s b h =
 
 -- ---- an out point whose numbers fit, written and read
 
-behind : (xs zs : List ℕ) (at : ℕ) → length xs ≡ at → drop at (xs ++ zs) ≡ zs
+pub behind : (xs zs : List ℕ) (at : ℕ) → length xs ≡ at → drop at (xs ++ zs) ≡ zs
 behind [] zs at e = rw (← e)
 behind (x ∷ xs) zs at e = rw (← e) (behind xs zs (length xs) refl)
 
 -- a number between others
-word-back : (k n : ℕ) (xs ys : List ℕ) (at : ℕ) → length xs ≡ at → n < 256 ^ k → numAt k (xs ++ (toLe k n ++ ys)) at ≡ n
+pub word-back : (k n : ℕ) (xs ys : List ℕ) (at : ℕ) → length xs ≡ at → n < 256 ^ k → numAt k (xs ++ (toLe k n ++ ys)) at ≡ n
 word-back k n xs ys at e h =
     let l : length (toLe k n) ≡ k = length-toLe k n in
     let m : at + k ≤ length (xs ++ (toLe k n ++ ys)) = simp (length-append, length-toLe) (omega arith) in
@@ -113,15 +113,28 @@ point-back p ys f =
 
 -- ---- and a list of them
 
+-- items of any form of w bytes that are written one after the other, from item i on
+pub items-back : {A : Type 0} (Fits : A → Type 0) (read : List ℕ → A) (bytes : A → List ℕ) (w : ℕ) → ((x : A) → length (bytes x) ≡ w) → ((x : A) → Fits x → read (bytes x) ≡ x)
+    → (s z : List ℕ) (i : ℕ) (l : List A) → i + length l ≤ fixCount s → drop (4 + w * i) s ≡ flatten (map bytes l) ++ z → All Fits l
+    → span (λ j. read (fixItem s w j)) i (length l) ≡ l
+unfolding span flatten
+items-back Fits read bytes w long back s z i [] n e f = refl
+items-back Fits read bytes w long back s z i (x ∷ l) n e f =
+    let g : drop (4 + w * i) s ≡ bytes x ++ (flatten (map bytes l) ++ z) = e ∙ append-assoc (bytes x) (flatten (map bytes l)) z in
+    let item : fixItem s w i ≡ bytes x = item-run s w i (omega arith) ∙ ap (take w) g ∙ take-at (bytes x) (flatten (map bytes l) ++ z) w (long x) in
+    let next : drop (4 + w * suc i) s ≡ flatten (map bytes l) ++ z = sym (next-run s w i) ∙ ap (drop w) g ∙ behind (bytes x) (flatten (map bytes l) ++ z) w (long x) in
+    ap₂ (λ y ys. y ∷ ys) (ap read item ∙ back x (f .0)) (items-back Fits read bytes w long back s z (suc i) l (omega arith) next (f .1))
+
+bytes-flat : (l : List OutPoint) → bytesOf l ≡ flatten (map pointBytes l)
+unfolding bytesOf flatten
+bytes-flat [] = refl
+bytes-flat (p ∷ l) = ap (λ (x : List ℕ). pointBytes p ++ x) (bytes-flat l)
+
 points-back : (s z : List ℕ) (i : ℕ) (l : List OutPoint) → i + length l ≤ fixCount s → drop (4 + 36 * i) s ≡ bytesOf l ++ z → All Fit l → span (pointOf s) i (length l) ≡ l
-unfolding span pointOf bytesOf
-points-back s z i [] n e f = refl
-points-back s z i (p ∷ l) n e f =
-    let g : drop (4 + 36 * i) s ≡ pointBytes p ++ (bytesOf l ++ z) = e ∙ append-assoc (pointBytes p) (bytesOf l) z in
-    let item : fixItem s 36 i ≡ pointBytes p = item-run s 36 i (omega arith) ∙ ap (take 36) g ∙ take-at (pointBytes p) (bytesOf l ++ z) 36 (length-point p) in
-    let point : outPointAt (fixItem s 36 i) 0 ≡ p = ap (λ (x : List ℕ). outPointAt x 0) (item ∙ sym (append-nil (pointBytes p))) ∙ point-back p [] (f .0) in
-    let next : drop (4 + 36 * suc i) s ≡ bytesOf l ++ z = sym (next-run s 36 i) ∙ ap (drop 36) g ∙ behind (pointBytes p) (bytesOf l ++ z) 36 (length-point p) in
-    ap₂ (λ (x : OutPoint) (y : List OutPoint). x ∷ y) point (points-back s z (suc i) l (omega arith) next (f .1))
+unfolding pointOf
+points-back s z i l n e f =
+    items-back Fit (λ x. outPointAt x 0) pointBytes 36 length-point (λ p g. ap (λ (x : List ℕ). outPointAt x 0) (sym (append-nil (pointBytes p))) ∙ point-back p [] g)
+    s z i l n (e ∙ ap (λ (x : List ℕ). x ++ z) (bytes-flat l)) f
 
 -- whatever bytes follow
 list-before : (l : List OutPoint) (z : List ℕ) → length l < 2 ^ 32 → All Fit l → points (pointList l ++ z) ≡ l

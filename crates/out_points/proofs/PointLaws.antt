@@ -61,10 +61,10 @@ module _ (out : List ℕ) (at : ℕ) (l : at ≤ length out) where
   point-short-end p k = end-short out at (pointBytes p) l (omega (arith, length-point p))
 
 -- where there was room, what was put at a place is `putAt`
-put-of : {out after : List ℕ} {at next : ℕ} {xs : List ℕ} → Put out at xs after next → after ≡ putAt out at xs
+pub put-of : {out after : List ℕ} {at next : ℕ} {xs : List ℕ} → Put out at xs after next → after ≡ putAt out at xs
 put-of {out} {after} {at} {next} {xs} p = put-is out at xs (omega (arith, p .room)) (omega (arith, p .room)) (p .bytes)
 
-end-of : {out after : List ℕ} {at next : ℕ} {xs : List ℕ} → Put out at xs after next → next ≡ putEnd out at xs
+pub end-of : {out after : List ℕ} {at next : ℕ} {xs : List ℕ} → Put out at xs after next → next ≡ putEnd out at xs
 end-of {out} {after} {at} {next} {xs} p = p .end ∙ end-is out at xs (omega (arith, p .room)) (omega (arith, p .room))
 
 module _ (out : List ℕ) (at x y : ℕ) {o₁ : List ℕ} {n₁ n₂ : ℕ} (l : at + 16 ≤ length out) (e₁ : o₁ ≡ putAt out at (toLe 8 x)) (f₁ : n₁ ≡ putEnd out at (toLe 8 x)) (f₂ : n₂ ≡ putEnd o₁ n₁ (toLe 8 y)) where
