@@ -1,0 +1,98 @@
+-- The table of holds read and written: one law for each way out of the functions.
+use mathlib.Core.Path.{_≡_, refl, ap, _∙_}
+use Prim.Native.Nat.{ℕ, _+_, _*_, _^_, _≤_, _<_, min}
+use mathlib.Core.List.{List, _++_, map}
+use native.Mathlib.Omega.{arith}
+use borrow.Author.Tests.{eq-eqb, ne-eqb}
+use lib.ListN.{length, length-map}
+use Rattle.arithmetic.specs.LittleEndian.{toLe}
+use Rattle.units.specs.declared.{Millis.Millis}
+use Rattle.molecule.specs.Layout.{fixCount}
+use Rattle.molecule.specs.Partial.{All}
+use Rattle.molecule.specs.Write.{putAt, putEnd, Put}
+use Rattle.out_points.specs.OutPoints.{Fit}
+use Rattle.hold_records.specs.declared.{Owner.Owner, Hold.Hold, Held.Held}
+use Rattle.hold_records.specs.Holds.{recordsOf}
+use Rattle.hold_records.proofs.LoopLaws.{stands}
+use Rattle.table_bytes.specs.declared.{Place.Place}
+use Rattle.table_bytes.specs.Places.{FitPlace, places, placesBytes, tableBytes}
+use Rattle.table_bytes.proofs.LoopLaws.{Reading, read-end, Putting, put-end, put-fit}
+use Rattle.table_bytes.proofs.TableLaws.{table-short, table-room, table-put, records-back, records-put}
+use Rattle.held_bytes.specs.HeldBytes.{ownerOf, holdOf, heldOf, heldAt, kindOf, numberOf, placeFor, heldBytes}
+
+-- ---- one record
+
+pub hold-funding : (p : Place) → p .kind ≡ 0 → _≡_ {A = Hold} (record { point = p .point; owner = Owner.Funding (p .number) }) (holdOf p)
+unfolding holdOf ownerOf
+hold-funding p e = rw (eq-eqb (p .kind) 0 e)
+
+pub hold-tower : (p : Place) → (p .kind ≡ 0 → ⊥) → _≡_ {A = Hold} (record { point = p .point; owner = Owner.Watchtower (record { 0 = p .number }) }) (holdOf p)
+unfolding holdOf ownerOf
+hold-tower p n = rw (ne-eqb (p .kind) 0 n)
+
+module _ (r : Hold) where
+  pub place-funding : {n : ℕ} → r .owner ≡ Owner.Funding n → _≡_ {A = Place} (record { point = r .point; kind = 0; number = n }) (placeFor r)
+  unfolding placeFor kindOf numberOf
+  place-funding e = rw e
+
+  pub place-tower : {t : Millis} → r .owner ≡ Owner.Watchtower t → _≡_ {A = Place} (record { point = r .point; kind = 1; number = t .0 }) (placeFor r)
+  unfolding placeFor kindOf numberOf
+  place-tower e = rw e
+
+  pub fit-funding : {n : ℕ} → Fit (r .point) → n < 2 ^ 64 → FitPlace (record { point = r .point; kind = 0; number = n })
+  fit-funding f b = record { point-fits = f; kind-fits = omega arith; number-fits = b }
+
+  pub fit-tower : {n : ℕ} → Fit (r .point) → n < 2 ^ 64 → FitPlace (record { point = r .point; kind = 1; number = n })
+  fit-tower f b = record { point-fits = f; kind-fits = omega arith; number-fits = b }
+
+same-hold : (r : Hold) → holdOf (placeFor r) ≡ r
+unfolding holdOf ownerOf placeFor kindOf numberOf
+same-hold r = ap (λ (o : Owner). record { point = r .point; owner = o }) (by (r .owner))
+  where
+    by : (o : Owner) → ownerOf (kindOf o) (numberOf o) ≡ o
+    by (Owner.Funding n) = refl
+    by (Owner.Watchtower t) = refl
+
+-- ---- all of them
+
+pub held-read : {s : List ℕ} {g : List Hold} {i n : ℕ} → Reading holdOf s 256 g i → 256 ≤ i → n ≡ fixCount s → _≡_ {A = Held} (record { records = g; count = n }) (heldOf s)
+unfolding heldOf
+held-read r h e = rw (read-end r h, e)
+
+module _ {h : Held} {n : ℕ} {out : List ℕ} {at i : ℕ} {after : List ℕ} {next : ℕ} (w : Putting placeFor (h .records) (h .count) n out at i after next) (l : n ≤ i) where
+  pub held-end : Put out at (placesBytes (map placeFor (recordsOf h))) after next
+  unfolding recordsOf
+  held-end = put-end w l
+
+  pub held-fit : All FitPlace (map placeFor (recordsOf h))
+  unfolding recordsOf
+  held-fit = put-fit w l
+
+module _ (h : Held) (out : List ℕ) {n : ℕ} (e : n ≡ min (h .count) 256) (w : length (h .records) ≡ 256) where
+  counted : n ≡ length (map placeFor (recordsOf h))
+  counted = omega (arith, length-map (recordsOf h) placeFor, stands h w)
+
+  pub held-short : length out < 4 + 48 * n → out ≡ putAt out 0 (heldBytes (recordsOf h))
+  unfolding heldBytes
+  held-short l = table-short (map placeFor (recordsOf h)) out counted l
+
+  pub held-none : length out < 4 + 48 * n → (12292 ≤ length out → heldAt out ≡ recordsOf h)
+  held-none l b = absurd (omega arith)
+
+  module _ (room : 4 + 48 * n ≤ length out) {o : List ℕ} {at : ℕ} (eo : o ≡ putAt out 0 (toLe 4 n)) (ea : at ≡ putEnd out 0 (toLe 4 n)) where
+    pub held-room : at + 48 * min (h .count) 256 ≤ length o
+    held-room = let r = table-room (map placeFor (recordsOf h)) out counted room eo ea in omega arith
+
+    module _ {o₂ : List ℕ} {a : ℕ} (p : Put o at (placesBytes (map placeFor (recordsOf h))) o₂ a) where
+      pub held-put : o₂ ≡ putAt out 0 (heldBytes (recordsOf h))
+      unfolding heldBytes
+      held-put = table-put (map placeFor (recordsOf h)) out counted room eo ea p
+
+      pub held-means : All FitPlace (map placeFor (recordsOf h)) → (12292 ≤ length out → heldAt o₂ ≡ recordsOf h)
+      unfolding heldAt heldOf recordsOf heldBytes
+      held-means f b = records-put holdOf placeFor same-hold (recordsOf h) out 256 (omega (arith, stands h w)) (omega arith) (omega arith) f held-put
+
+-- what was written is read, whatever bytes follow
+pub held-back : (l : List Hold) (z : List ℕ) → length l ≤ 256 → All FitPlace (map placeFor l) → heldAt (heldBytes l ++ z) ≡ l
+unfolding heldAt heldOf recordsOf heldBytes
+held-back l z h f = records-back holdOf placeFor same-hold l z 256 h (omega arith) f

@@ -1,0 +1,107 @@
+// The table of holds as lent bytes.
+use hold_records::Held;
+use hold_records::Hold;
+use hold_records::Owner;
+use molecule::write;
+use table_bytes::Place;
+use units::Millis;
+ghost use mathlib.Core.Path.{_≡_};
+ghost use mathlib.Core.List.{map};
+ghost use Prim.Native.Nat.{_+_, _*_, _≤_, min};
+ghost use lib.ListN.{length};
+ghost use Rattle.molecule.specs.Write.{putAt, Put};
+ghost use Rattle.hold_records.specs.Holds.{recordsOf};
+ghost use Rattle.molecule.specs.Partial.{All};
+ghost use Rattle.table_bytes.specs.Places.{FitPlace, placesBytes};
+ghost use Rattle.held_bytes.specs.HeldBytes.{holdOf, placeFor, heldOf, heldAt, heldBytes};
+
+// How many bytes a lent table has: a count and 256 places.
+pub const HELD_BYTES: usize = 12_292;
+
+// How many places.
+const MOST: usize = 256;
+
+// What a place holds: kind 0 is a funding, and the number its holder; any other the watchtower, and the number the end.
+fn hold_of(p: Place) -> Hold
+    ensures { λ r. ⌜ r ≡ holdOf p ⌝ }
+{
+    let point = p.point;
+    if p.kind == 0 {
+        let owner = Owner::Funding(p.number);
+        return Hold { point, owner };
+    }
+    let end = Millis(p.number);
+    let owner = Owner::Watchtower(end);
+    Hold { point, owner }
+}
+
+// A record as a place.
+fn place_for(r: Hold) -> Place
+    ensures { λ p. ⌜ p ≡ placeFor r ⌝ }
+    ensures { λ p. ⌜ FitPlace p ⌝ }
+{
+    let point = r.point;
+    let owner = r.owner;
+    match owner {
+        Owner::Funding(number) => Place {
+            point,
+            kind: 0,
+            number,
+        },
+        Owner::Watchtower(end) => {
+            let number = end.0;
+            Place {
+                point,
+                kind: 1,
+                number,
+            }
+        }
+    }
+}
+
+// The table that the bytes mean.
+pub fn read_held(s: &[u8]) -> Held
+    ensures { λ r. ⌜ r ≡ heldOf (now (s .entry)) ⌝ }
+{
+    let mut g = hold_records::empty();
+    let mut i: usize = 0;
+    while i < MOST {
+        let p = table_bytes::place_of(s, i);
+        let x = hold_of(p);
+        g.records[i] = x;
+        i += 1;
+    }
+    g.count = molecule::fix_count(s) as usize;
+    g
+}
+
+// Puts the records one after the other from `at` on.
+fn put_records(h: Held, out: &mut [u8], at: usize) -> usize
+    requires { ⌜ at + 48 * min (h .count) 256 ≤ length (now out) ⌝ }
+    ensures { λ r. ⌜ Put (now (out .entry)) at (placesBytes (map placeFor (recordsOf h))) (now (out .exit)) r ⌝ }
+    ensures { λ _. ⌜ All FitPlace (map placeFor (recordsOf h)) ⌝ }
+{
+    let n = hold_records::used(h.count);
+    let mut to = at;
+    let mut i: usize = 0;
+    while i < n {
+        let x = h.records[i];
+        let p = place_for(x);
+        to = table_bytes::put_place(out, to, p);
+        i += 1;
+    }
+    to
+}
+
+// Puts the table at the start of s, and nothing where there is no room for its records; the bytes behind them keep their value.
+pub fn write_held(h: Held, s: &mut [u8])
+    ensures { λ _. ⌜ now (s .exit) ≡ putAt (now (s .entry)) 0 (heldBytes (recordsOf h)) ⌝ }
+    ensures { λ _. ⌜ (12292 ≤ length (now (s .entry)) → heldAt (now (s .exit)) ≡ recordsOf h) ⌝ }
+{
+    let n = hold_records::used(h.count);
+    if s.len() < 4 + 48 * n {
+        return;
+    }
+    let at = write::put_u32(s, 0, n as u32);
+    put_records(h, s, at);
+}
