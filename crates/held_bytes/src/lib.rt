@@ -15,6 +15,8 @@ ghost use Rattle.molecule.specs.Partial.{All};
 ghost use Rattle.table_bytes.specs.Places.{FitPlace, placesBytes};
 ghost use Rattle.held_bytes.specs.HeldBytes.{holdOf, placeFor, heldOf, heldAt, heldBytes};
 
+pub mod calls;
+
 // How many bytes a lent table has: a count and 256 places.
 pub const HELD_BYTES: usize = 12_292;
 

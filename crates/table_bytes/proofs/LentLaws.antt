@@ -5,9 +5,9 @@ use mathlib.Core.List.{List}
 use borrow.Author.Tests.{eq-eqb, ne-eqb}
 use lib.ListN.{length}
 use Rattle.error.specs.declared.{Refusal.Refusal, Answer.Answer}
-use Rattle.error.specs.Refusal.{number}
+use Rattle.error.specs.Refusal.{number, answered}
 use Rattle.out_points.specs.Tables.{Outcome, done, refused, told}
-use Rattle.table_bytes.specs.Lent.{leaving, lent, lentWith}
+use Rattle.table_bytes.specs.Lent.{leaving, lent, lentWith, lentWithTwo, lentRead}
 
 module _ {T M : Type 0} (k : ℕ) (s : List ℕ) where
   pub lent-bad : (means : List ℕ → M) (o : Outcome T M) → (length s ≡ k → ⊥) → told means (Answer.Refused Refusal.LentBytesUnreadable) s ≡ lent k s o
@@ -18,14 +18,33 @@ module _ {T M : Type 0} (k : ℕ) (s : List ℕ) where
   unfolding lent
   lent-is o h e = e ∙ rw (eq-eqb (length s) k h)
 
-  module _ {B : Type 0} (b : B) where
-    pub with-bad : (means : List ℕ → M) (o : Outcome T M × B) → (length s ≡ k → ⊥) → (told means (Answer.Refused Refusal.LentBytesUnreadable) s, b) ≡ lentWith k s b o
+  module _ (b : List ℕ) where
+    pub with-bad : (means : List ℕ → M) (o : Outcome T M × List ℕ) → (length s ≡ k → ⊥) → (told means (Answer.Refused Refusal.LentBytesUnreadable) s, b) ≡ lentWith k s b o
     unfolding lentWith told number
     with-bad means o h = rw (ne-eqb (length s) k h)
 
-    pub with-is : (o : Outcome T M × B) {a : Outcome (List ℕ) M} {c : B} → length s ≡ k → a ≡ leaving s (o .0) → c ≡ o .1 → (a, c) ≡ lentWith k s b o
+    pub with-is : (o : Outcome T M × List ℕ) {x : Outcome T M} {a : Outcome (List ℕ) M} {y : List ℕ} → length s ≡ k → (x, y) ≡ o → a ≡ leaving s x → (a, y) ≡ lentWith k s b o
     unfolding lentWith
-    with-is o h e f = rw (eq-eqb (length s) k h, e, f)
+    with-is o h e f = rw (eq-eqb (length s) k h, f, ← e)
+
+    pub two-bad : (c : List ℕ) (means : List ℕ → M) (o : Outcome T M × List ℕ × List ℕ) → (length s ≡ k → ⊥)
+        → (told means (Answer.Refused Refusal.LentBytesUnreadable) s, b, c) ≡ lentWithTwo k s b c o
+    unfolding lentWithTwo told number
+    two-bad c means o h = rw (ne-eqb (length s) k h)
+
+    pub two-is : (c : List ℕ) (o : Outcome T M × List ℕ × List ℕ) {x : Outcome T M} {a : Outcome (List ℕ) M} {y z : List ℕ} → length s ≡ k → (x, y, z) ≡ o → a ≡ leaving s x
+        → (a, y, z) ≡ lentWithTwo k s b c o
+    unfolding lentWithTwo
+    two-is c o h e f = rw (eq-eqb (length s) k h, f, ← e)
+
+module _ (k : ℕ) (s b : List ℕ) (o : ℕ × List ℕ) where
+  pub only-bad : (length s ≡ k → ⊥) → (answered (Answer.Refused Refusal.LentBytesUnreadable), b) ≡ lentRead k s b o
+  unfolding lentRead answered number
+  only-bad h = rw (ne-eqb (length s) k h)
+
+  pub only-is : {a : ℕ × List ℕ} → length s ≡ k → a ≡ o → a ≡ lentRead k s b o
+  unfolding lentRead
+  only-is h e = e ∙ rw (eq-eqb (length s) k h)
 
 -- a call that is done leaves bytes that mean its table, and one that is refused the bytes
 module _ {T M : Type 0} (means : T → M) (s : List ℕ) {a : Answer} (t : T) where

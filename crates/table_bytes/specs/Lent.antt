@@ -12,6 +12,13 @@ leaving s (refused n t) = refused n s
 unfoldable pub lent : {T M : Type 0} → ℕ → List ℕ → Outcome T M → Outcome (List ℕ) M
 lent k s o = check (eqb (length s) k) (refused 3 s) (leaving s o)
 
--- the same of a call that fills buffers, which are b before it
-unfoldable pub lentWith : {T M B : Type 0} → ℕ → List ℕ → B → Outcome T M × B → Outcome (List ℕ) M × B
+-- the same of a call that fills a buffer, which is b before it, or two
+unfoldable pub lentWith : {T M : Type 0} → ℕ → List ℕ → List ℕ → Outcome T M × List ℕ → Outcome (List ℕ) M × List ℕ
 lentWith k s b o = check (eqb (length s) k) (refused 3 s, b) (leaving s (o .0), o .1)
+
+unfoldable pub lentWithTwo : {T M : Type 0} → ℕ → List ℕ → List ℕ → List ℕ → Outcome T M × List ℕ × List ℕ → Outcome (List ℕ) M × List ℕ × List ℕ
+lentWithTwo k s b c o = check (eqb (length s) k) (refused 3 s, b, c) (leaving s (o .0), o .1, o .2)
+
+-- and of a call that leaves the table: 0 or the refusal's number, and the buffer
+unfoldable pub lentRead : ℕ → List ℕ → List ℕ → ℕ × List ℕ → ℕ × List ℕ
+lentRead k s b o = check (eqb (length s) k) (3, b) o
