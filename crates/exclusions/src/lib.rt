@@ -72,7 +72,7 @@ fn refused(m: LiveCellsExclusionMap, e: Refusal) -> Excluded
 }
 
 // How many rows stand: the array's length at most.
-fn used(count: usize) -> usize
+pub fn used(count: usize) -> usize
     ensures { λ r. ⌜ r ≡ min count 576 ⌝ }
 {
     if count < MOST_ROWS { count } else { MOST_ROWS }
