@@ -1,0 +1,109 @@
+-- The exclusion map read and written: one law for each way out of the functions.
+use mathlib.Core.Path.{_≡_, refl, ap, _∙_}
+use Prim.Native.Nat.{ℕ, _+_, _*_, _^_, _≤_, _<_, min}
+use mathlib.Core.List.{List, _++_, map}
+use native.Mathlib.Omega.{arith}
+use borrow.Author.Tests.{eq-eqb, ne-eqb}
+use lib.ListN.{length, take, length-map, length-take}
+use Rattle.arithmetic.specs.LittleEndian.{toLe}
+use Rattle.units.specs.declared.{BlockNumber.BlockNumber}
+use Rattle.molecule.specs.Layout.{fixCount}
+use Rattle.molecule.specs.Partial.{All}
+use Rattle.molecule.specs.Write.{putAt, putEnd, Put}
+use Rattle.out_points.specs.declared.{Byte32.Byte32, OutPoint.OutPoint}
+use Rattle.out_points.specs.OutPoints.{Fit}
+use Rattle.exclusions.specs.declared.{Row.Row, Slot.Slot, LiveCellsExclusionMap.LiveCellsExclusionMap}
+use Rattle.exclusions.specs.Exclusions.{readRows, entriesOf}
+use Rattle.exclusions.specs.Rows.{rowsOf}
+use Rattle.table_bytes.specs.declared.{Place.Place}
+use Rattle.table_bytes.specs.Places.{FitPlace, placesBytes, tableBytes}
+use Rattle.table_bytes.proofs.LoopLaws.{Reading, read-end, Putting, put-end, put-fit}
+use Rattle.table_bytes.proofs.TableLaws.{table-short, table-room, table-put, records-back, records-put}
+use Rattle.exclusion_bytes.specs.ExclusionBytes.{rowOf, slotOf, mapOf, rowsAt, excludedAt, hashPoint, rowPlace, placeFor, mapBytes}
+
+-- ---- one row
+
+module _ (p : Place) where
+  pub slot-pending : p .kind ≡ 0 → _≡_ {A = Slot} (record { row = Row.Pending (p .point .hash) }) (slotOf p)
+  unfolding slotOf rowOf
+  slot-pending e = rw (eq-eqb (p .kind) 0 e)
+
+  pub slot-committed : (p .kind ≡ 0 → ⊥) → p .kind ≡ 1 → _≡_ {A = Slot} (record { row = Row.Committed (p .point .hash) (record { 0 = p .number }) }) (slotOf p)
+  unfolding slotOf rowOf
+  slot-committed n e = rw (ne-eqb (p .kind) 0 n, eq-eqb (p .kind) 1 e)
+
+  pub slot-input : (p .kind ≡ 0 → ⊥) → (p .kind ≡ 1 → ⊥) → _≡_ {A = Slot} (record { row = Row.Input (p .point) }) (slotOf p)
+  unfolding slotOf rowOf
+  slot-input n m = rw (ne-eqb (p .kind) 0 n, ne-eqb (p .kind) 1 m)
+
+module _ (x : Slot) where
+  pub place-pending : {h : Byte32} → x .row ≡ Row.Pending h → _≡_ {A = Place} (record { point = record { hash = h; index = 0 }; kind = 0; number = 0 }) (placeFor x)
+  unfolding placeFor rowPlace hashPoint
+  place-pending e = rw e
+
+  pub place-committed : {h : Byte32} {b : BlockNumber} → x .row ≡ Row.Committed h b → _≡_ {A = Place} (record { point = record { hash = h; index = 0 }; kind = 1; number = b .0 }) (placeFor x)
+  unfolding placeFor rowPlace hashPoint
+  place-committed e = rw e
+
+  pub place-input : {p : OutPoint} → x .row ≡ Row.Input p → _≡_ {A = Place} (record { point = p; kind = 2; number = 0 }) (placeFor x)
+  unfolding placeFor rowPlace
+  place-input e = rw e
+
+module _ (h : Byte32) (fa : h .a < 2 ^ 64) (fb : h .b < 2 ^ 64) (fc : h .c < 2 ^ 64) (fd : h .d < 2 ^ 64) where
+  fit-point : Fit (record { hash = h; index = 0 })
+  fit-point = record { a-fits = fa; b-fits = fb; c-fits = fc; d-fits = fd; index-fits = omega arith }
+
+  pub fit-pending : FitPlace (record { point = record { hash = h; index = 0 }; kind = 0; number = 0 })
+  fit-pending = record { point-fits = fit-point; kind-fits = omega arith; number-fits = omega arith }
+
+  pub fit-committed : {n : ℕ} → n < 2 ^ 64 → FitPlace (record { point = record { hash = h; index = 0 }; kind = 1; number = n })
+  fit-committed b = record { point-fits = fit-point; kind-fits = omega arith; number-fits = b }
+
+pub fit-input : (p : OutPoint) → Fit p → FitPlace (record { point = p; kind = 2; number = 0 })
+fit-input p f = record { point-fits = f; kind-fits = omega arith; number-fits = omega arith }
+
+same-slot : (x : Slot) → slotOf (placeFor x) ≡ x
+unfolding slotOf rowOf placeFor rowPlace hashPoint
+same-slot x = ap (λ (r : Row). record { row = r }) (by (x .row))
+  where
+    by : (r : Row) → rowOf (rowPlace r .kind) (rowPlace r .point) (rowPlace r .number) ≡ r
+    by (Row.Pending h) = refl
+    by (Row.Committed h b) = refl
+    by (Row.Input p) = refl
+
+-- ---- all of them
+
+pub map-read : {s : List ℕ} {g : List Slot} {i n : ℕ} → Reading slotOf s 576 g i → 576 ≤ i → n ≡ fixCount s → _≡_ {A = LiveCellsExclusionMap} (record { rows = g; count = n }) (mapOf s)
+unfolding mapOf
+map-read r h e = rw (read-end r h, e)
+
+module _ (m : LiveCellsExclusionMap) (out : List ℕ) {n : ℕ} (e : n ≡ min (m .count) 576) (w : length (m .rows) ≡ 576) where
+  counted : n ≡ length (map placeFor (rowsOf m))
+  counted = omega (arith, length-map (rowsOf m) placeFor, length-take (m .count) (m .rows))
+
+  pub map-short : length out < 4 + 48 * n → out ≡ putAt out 0 (mapBytes (rowsOf m))
+  unfolding mapBytes
+  map-short l = table-short (map placeFor (rowsOf m)) out counted l
+
+  pub map-none : length out < 4 + 48 * n → (27652 ≤ length out → excludedAt out ≡ entriesOf m)
+  map-none l b = absurd (omega arith)
+
+  module _ (room : 4 + 48 * n ≤ length out) {o : List ℕ} {at : ℕ} (eo : o ≡ putAt out 0 (toLe 4 n)) (ea : at ≡ putEnd out 0 (toLe 4 n)) where
+    pub map-room : at + 48 * min (m .count) 576 ≤ length o
+    map-room = let r = table-room (map placeFor (rowsOf m)) out counted room eo ea in omega arith
+
+    module _ {o₂ : List ℕ} {a : ℕ} (p : Put o at (placesBytes (map placeFor (rowsOf m))) o₂ a) where
+      pub map-put : o₂ ≡ putAt out 0 (mapBytes (rowsOf m))
+      unfolding mapBytes
+      map-put = table-put (map placeFor (rowsOf m)) out counted room eo ea p
+
+      pub map-means : All FitPlace (map placeFor (rowsOf m)) → (27652 ≤ length out → excludedAt o₂ ≡ entriesOf m)
+      unfolding excludedAt mapOf entriesOf mapBytes
+      map-means f b =
+          ap (λ (l : List Slot). readRows l .1)
+          (records-put slotOf placeFor same-slot (rowsOf m) out 576 (omega (arith, length-take (m .count) (m .rows))) (omega arith) (omega arith) f map-put)
+
+-- what was written is read, whatever bytes follow
+pub rows-back : (l : List Slot) (z : List ℕ) → length l ≤ 576 → All FitPlace (map placeFor l) → rowsAt (mapBytes l ++ z) ≡ l
+unfolding rowsAt mapOf mapBytes
+rows-back l z h f = records-back slotOf placeFor same-slot l z 576 h (omega arith) f
