@@ -48,6 +48,7 @@ def short(crate, text, hint):
     if not needs:
         return None
     binders = dict(re.findall(r'^(\S+) (c(?: κs)?) = ', text, re.M))
+    text = re.sub(r'\{\s*statement,\s*\}', '{statement}', text)  # a long function's name breaks that line
     name = re.search(r'pub (\S+) :', text).group(1)
     answers = dict(a.split('=', 1) for a in hint[3].split(';;')) if hint and len(hint) > 3 and hint[3] else {}
     out = ['use ' + u.strip() for u in hint[0].split(';') if u.strip()] if hint else []
