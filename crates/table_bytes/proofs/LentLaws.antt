@@ -1,5 +1,5 @@
 -- What a call on lent bytes leaves: one law for each way out that all calls share.
-use mathlib.Core.Path.{_≡_, sym, _∙_}
+use mathlib.Core.Path.{_≡_, refl, ap, _∙_}
 use Prim.Native.Nat.{ℕ}
 use mathlib.Core.List.{List}
 use borrow.Author.Tests.{eq-eqb, ne-eqb}
@@ -7,7 +7,7 @@ use lib.ListN.{length}
 use Rattle.error.specs.declared.{Refusal.Refusal, Answer.Answer}
 use Rattle.error.specs.Refusal.{number, answered}
 use Rattle.out_points.specs.Tables.{Outcome, done, refused, told}
-use Rattle.table_bytes.specs.Lent.{leaving, lent, lentWith, lentWithTwo, lentRead}
+use Rattle.table_bytes.specs.Lent.{leaving, lent, lentWith, lentWithTwo, lentRead, toldNumber}
 
 module _ {T M : Type 0} (k : ℕ) (s : List ℕ) where
   pub lent-bad : (means : List ℕ → M) (o : Outcome T M) → (length s ≡ k → ⊥) → told means (Answer.Refused Refusal.LentBytesUnreadable) s ≡ lent k s o
@@ -55,3 +55,40 @@ module _ {T M : Type 0} (means : T → M) (s : List ℕ) {a : Answer} (t : T) wh
   pub leave-refused : (meant : List ℕ → M) {why : Refusal} → a ≡ Answer.Refused why → told meant (Answer.Refused why) s ≡ leaving s (told means a t)
   unfolding told leaving
   leave-refused meant e = rw e
+
+-- ---- the same by number
+
+number-is : {M : Type 0} (means : List ℕ → M) (a : Answer) (s : List ℕ) → toldNumber means (answered a) s ≡ told means a s
+unfolding toldNumber told answered number
+number-is means Answer.Done s = refl
+number-is means (Answer.Refused Refusal.OurTransactionUnreadable) s = refl
+number-is means (Answer.Refused Refusal.PeerTransactionUnreadable) s = refl
+number-is means (Answer.Refused Refusal.LentBytesUnreadable) s = refl
+number-is means (Answer.Refused Refusal.PeerFundingTxExceedsLimit) s = refl
+number-is means (Answer.Refused Refusal.InvalidPeerFundingTx) s = refl
+number-is means (Answer.Refused (Refusal.PeerInputUsesOurFundingLock i)) s = refl
+number-is means (Answer.Refused Refusal.OverflowError) s = refl
+number-is means (Answer.Refused (Refusal.PeerFundingFeeTooLow p q r n)) s = refl
+number-is means (Answer.Refused Refusal.InsufficientCells) s = refl
+number-is means (Answer.Refused Refusal.TokenTotalOverflow) s = refl
+number-is means (Answer.Refused Refusal.MissingCellDep) s = refl
+number-is means (Answer.Refused Refusal.TokenCellDataTooShort) s = refl
+number-is means (Answer.Refused Refusal.BufferTooShort) s = refl
+number-is means (Answer.Refused Refusal.TooManyHolds) s = refl
+number-is means (Answer.Refused Refusal.TooManyExclusions) s = refl
+
+module _ {M : Type 0} (means : List ℕ → M) (s : List ℕ) (a : Answer) {n : ℕ} (e : n ≡ answered a) where
+  by-number : toldNumber means n s ≡ told means a s
+  by-number = ap (λ (k : ℕ). toldNumber means k s) e ∙ number-is means a s
+
+  pub number-told : {o : Outcome (List ℕ) M} → told means a s ≡ o → toldNumber means n s ≡ o
+  number-told h = by-number ∙ h
+
+  pub number-with : {b : List ℕ} {o : Outcome (List ℕ) M × List ℕ} → (told means a s, b) ≡ o → (toldNumber means n s, b) ≡ o
+  number-with h = rw by-number h
+
+  pub number-two : {b c : List ℕ} {o : Outcome (List ℕ) M × List ℕ × List ℕ} → (told means a s, b, c) ≡ o → (toldNumber means n s, b, c) ≡ o
+  number-two h = rw by-number h
+
+pub number-read : (a : Answer) {n : ℕ} {b : List ℕ} {o : ℕ × List ℕ} → n ≡ answered a → (answered a, b) ≡ o → (n, b) ≡ o
+number-read a e h = rw e h

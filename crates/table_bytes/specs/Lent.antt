@@ -1,5 +1,6 @@
 -- What a call on a lent table leaves: the table has k bytes, or it is refused with 3 before all else; a refusal leaves the bytes as they were.
 use Prim.Native.Nat.{ℕ}
+use mathlib.Core.Bool.{cond}
 use mathlib.Core.List.{List}
 use lib.{Dec.eqb, ListN.length}
 use Rattle.out_points.specs.Tables.{Outcome, done, refused, check}
@@ -22,3 +23,7 @@ lentWithTwo k s b c o = check (eqb (length s) k) (refused 3 s, b, c) (leaving s 
 -- and of a call that leaves the table: 0 or the refusal's number, and the buffer
 unfoldable pub lentRead : ℕ → List ℕ → List ℕ → ℕ × List ℕ → ℕ × List ℕ
 lentRead k s b o = check (eqb (length s) k) (3, b) o
+
+-- the outcome by the answer's number and the bytes that it leaves, which mean `means s`: 0 is done
+unfoldable pub toldNumber : {M : Type 0} → (List ℕ → M) → ℕ → List ℕ → Outcome (List ℕ) M
+toldNumber means n s = cond (eqb n 0) (done (means s)) (refused n s)
