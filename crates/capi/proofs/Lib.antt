@@ -2,4 +2,6 @@ pub mod AnswerLaws
 pub mod CallLaws
 pub mod BufferLaws
 pub mod ReplayLaws
+pub mod TableLaws
+pub mod TableWays
 pub mod Ways

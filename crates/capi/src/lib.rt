@@ -2,6 +2,7 @@
 mod answers;
 mod buffers;
 mod replay;
+mod tables;
 
 use arithmetic::Amount;
 use units::Tokens;
