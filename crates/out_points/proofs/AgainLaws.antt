@@ -5,10 +5,9 @@ use mathlib.Core.List.{List, [], _∷_, _++_, map, flatten, append-assoc, append
 use mathlib.Core.Bool.{Bool, true, false, cond}
 use borrow.Author.Tests.{leb-true}
 use lib.Dec.{leb, ltb}
-use native.Mathlib.Nat.{mul-suc, mul-zero}
 use native.Mathlib.Omega.{arith}
-use lib.ListN.{length, take, drop, getD, length-append, length-drop}
-use lib.Seq.{take-add, drop-drop, length-take-le, take-length, take-at, drop-append-add, getD-take}
+use lib.ListN.{length, take, drop, length-append, length-drop}
+use lib.Seq.{take-add, length-take-le, take-length, take-at}
 use Rattle.arithmetic.specs.LittleEndian.{le, toLe, AllBytes, numAt, u32At, u64At}
 use Rattle.arithmetic.proofs.LittleEndianLaws.{num-some, toLe-le, le-toLe, length-toLe, le-lt, bytes-toLe}
 use Rattle.molecule.specs.Layout.{part, span, word, fixCount, fixItem}
@@ -16,7 +15,7 @@ use Rattle.molecule.specs.Molecule.{readable}
 use Rattle.lists.proofs.RunLaws.{item-run, next-run}
 use Rattle.molecule.specs.Partial.{All}
 use Rattle.transaction.specs.Ckb.{OutPoints as OutPointsForm}
-use Rattle.out_points.specs.declared.{Byte32.Byte32, OutPoint.OutPoint}
+use Rattle.out_points.specs.declared.{OutPoint.OutPoint}
 use Rattle.out_points.specs.OutPoints.{byte32At, outPointAt, pointOf, points, hashBytes, pointBytes, bytesOf, pointList, Fit}
 use Rattle.out_points.specs.Tables.{written}
 use Rattle.out_points.proofs.PointLaws.{length-point}
@@ -156,7 +155,7 @@ written-back l out h f = list-before l (drop (length (pointList l)) out) h f
 
 -- ---- what is read from bytes fits
 
-num-fits : (k : ℕ) (s : List ℕ) (at : ℕ) → AllBytes s → numAt k s at < 256 ^ k
+pub num-fits : (k : ℕ) (s : List ℕ) (at : ℕ) → AllBytes s → numAt k s at < 256 ^ k
 unfolding numAt
 num-fits k s at b = by (leb (at + k) (length s)) refl
   where
@@ -167,22 +166,22 @@ num-fits k s at b = by (leb (at + k) (length s)) refl
         let l : length (take k (drop at s)) ≡ k = length-take-le k (drop at s) (rw (length-drop at s) (omega arith)) in
         subst (λ (n : ℕ). le (take k (drop at s)) < 256 ^ n) l (le-lt (take k (drop at s)) (bytes-take k (drop at s) (bytes-drop at s b)))
 
-point-fits : (s : List ℕ) → AllBytes s → Fit (outPointAt s 0)
+pub point-fits : (s : List ℕ) → AllBytes s → Fit (outPointAt s 0)
 unfolding outPointAt byte32At
 point-fits s b = record { a-fits = num-fits 8 s 0 b; b-fits = num-fits 8 s 8 b; c-fits = num-fits 8 s 16 b; d-fits = num-fits 8 s 24 b; index-fits = num-fits 4 s 32 b }
 
-item-bytes : (s : List ℕ) (i : ℕ) → AllBytes s → AllBytes (fixItem s 36 i)
+pub item-bytes : (s : List ℕ) (w i : ℕ) → AllBytes s → AllBytes (fixItem s w i)
 unfolding fixItem part
-item-bytes s i b = by (ltb i (fixCount s))
+item-bytes s w i b = by (ltb i (fixCount s))
   where
-    by : (t : Bool) → AllBytes (cond t (take (4 + 36 * i + 36 - (4 + 36 * i)) (drop (4 + 36 * i) s)) [])
-    by true = bytes-take (4 + 36 * i + 36 - (4 + 36 * i)) (drop (4 + 36 * i) s) (bytes-drop (4 + 36 * i) s b)
+    by : (t : Bool) → AllBytes (cond t (take (4 + w * i + w - (4 + w * i)) (drop (4 + w * i) s)) [])
+    by true = bytes-take (4 + w * i + w - (4 + w * i)) (drop (4 + w * i) s) (bytes-drop (4 + w * i) s b)
     by false = λ j. omega arith
 
 span-fits : (s : List ℕ) (i k : ℕ) → AllBytes s → All Fit (span (pointOf s) i k)
 unfolding span pointOf
 span-fits s i zero b = tt
-span-fits s i (suc k) b = (point-fits (fixItem s 36 i) (item-bytes s i b), span-fits s (suc i) k b)
+span-fits s i (suc k) b = (point-fits (fixItem s 36 i) (item-bytes s 36 i b), span-fits s (suc i) k b)
 
 pub points-fit : (s : List ℕ) → AllBytes s → All Fit (points s)
 points-fit s b = span-fits s 0 (fixCount s) b
