@@ -1,11 +1,13 @@
 -- The exclusion map read and written: one law for each way out of the functions.
-use mathlib.Core.Path.{_≡_, refl, ap, _∙_}
+use mathlib.Core.Path.{_≡_, refl, ap}
 use Prim.Native.Nat.{ℕ, _+_, _*_, _^_, _≤_, _<_, min}
+use mathlib.Core.Bool.{Bool, true, false, cond}
 use mathlib.Core.List.{List, _++_, map}
 use native.Mathlib.Omega.{arith}
 use borrow.Author.Tests.{eq-eqb, ne-eqb}
-use lib.ListN.{length, take, length-map, length-take}
-use Rattle.arithmetic.specs.LittleEndian.{toLe}
+use lib.Dec.{eqb}
+use lib.ListN.{length, length-map, length-take}
+use Rattle.arithmetic.specs.LittleEndian.{toLe, AllBytes}
 use Rattle.units.specs.declared.{BlockNumber.BlockNumber}
 use Rattle.molecule.specs.Layout.{fixCount}
 use Rattle.molecule.specs.Partial.{All}
@@ -16,9 +18,9 @@ use Rattle.exclusions.specs.declared.{Row.Row, Slot.Slot, LiveCellsExclusionMap
 use Rattle.exclusions.specs.Exclusions.{readRows, entriesOf}
 use Rattle.exclusions.specs.Rows.{rowsOf}
 use Rattle.table_bytes.specs.declared.{Place.Place}
-use Rattle.table_bytes.specs.Places.{FitPlace, placesBytes, tableBytes}
-use Rattle.table_bytes.proofs.LoopLaws.{Reading, read-end, Putting, put-end, put-fit}
-use Rattle.table_bytes.proofs.TableLaws.{table-short, table-room, table-put, records-back, records-put}
+use Rattle.table_bytes.specs.Places.{FitPlace, placesBytes}
+use Rattle.table_bytes.proofs.LoopLaws.{Reading, read-end}
+use Rattle.table_bytes.proofs.TableLaws.{table-short, table-room, table-put, records-back, records-put, records-again}
 use Rattle.exclusion_bytes.specs.ExclusionBytes.{rowOf, slotOf, mapOf, rowsAt, excludedAt, hashPoint, rowPlace, placeFor, mapBytes}
 
 -- ---- one row
@@ -107,3 +109,20 @@ module _ (m : LiveCellsExclusionMap) (out : List ℕ) {n : ℕ} (e : n ≡ min (
 pub rows-back : (l : List Slot) (z : List ℕ) → length l ≤ 576 → All FitPlace (map placeFor l) → rowsAt (mapBytes l ++ z) ≡ l
 unfolding rowsAt mapOf mapBytes
 rows-back l z h f = records-back slotOf placeFor same-slot l z 576 h (omega arith) f
+
+-- and a table in bytes, written again, means the same
+slot-fits : (p : Place) → FitPlace p → FitPlace (placeFor (slotOf p))
+unfolding slotOf rowOf placeFor rowPlace hashPoint
+slot-fits p f = by (eqb (p .kind) 0) (eqb (p .kind) 1)
+  where
+    hash : FitPlace (record { point = record { hash = p .point .hash; index = 0 }; kind = 0; number = 0 })
+    hash = let g = f .point-fits in fit-pending (p .point .hash) (g .a-fits) (g .b-fits) (g .c-fits) (g .d-fits)
+
+    by : (t u : Bool) → FitPlace (rowPlace (cond t (Row.Pending (p .point .hash)) (cond u (Row.Committed (p .point .hash) (record { 0 = p .number })) (Row.Input (p .point)))))
+    by true u = hash
+    by false true = record { point-fits = hash .point-fits; kind-fits = omega arith; number-fits = f .number-fits }
+    by false false = fit-input (p .point) (f .point-fits)
+
+pub rows-again : (s z : List ℕ) → AllBytes s → rowsAt (mapBytes (rowsAt s) ++ z) ≡ rowsAt s
+unfolding rowsAt mapOf mapBytes
+rows-again s z b = records-again slotOf placeFor same-slot slot-fits s z 576 b (omega arith)

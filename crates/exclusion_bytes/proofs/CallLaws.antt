@@ -9,7 +9,7 @@ use Rattle.units.specs.declared.{BlockNumber.BlockNumber}
 use Rattle.out_points.specs.Tables.{Outcome, done, told}
 use Rattle.exclusions.specs.declared.{LiveCellsExclusionMap.LiveCellsExclusionMap, Excluded.Excluded}
 use Rattle.exclusions.specs.Exclusions.{Entry, entriesOf, commitCall, removeCall, truncated, applyCall, addCall, migrateCall}
-use Rattle.table_bytes.specs.Lent.{leaving, lent, lentRead}
+use Rattle.table_bytes.specs.Lent.{leaving, lentTable, lentRead}
 use Rattle.table_bytes.proofs.LentLaws.{lent-is, only-is, leave-done}
 use Rattle.exclusion_bytes.specs.ExclusionBytes.{mapOf, excludedAt, truncateCall}
 
@@ -25,20 +25,20 @@ module _ (s : List ℕ) {m : LiveCellsExclusionMap} (l : length s ≡ 27652) (e 
     abbrev before : Outcome LiveCellsExclusionMap (List Entry)
     before = told entriesOf (r .answer) (r .map)
 
-    pub add-call : (hash tx : List ℕ) {a : After} → before ≡ addCall m hash tx → a ≡ leaving s before → a ≡ lent 27652 s (addCall (mapOf s) hash tx)
+    pub add-call : (hash tx : List ℕ) {a : After} → before ≡ addCall m hash tx → a ≡ leaving s before → a ≡ lentTable 27652 s (addCall (mapOf s) hash tx)
     add-call hash tx k b = lent-is 27652 s (addCall (mapOf s) hash tx) l (b ∙ ap (leaving s) (k ∙ rw e))
 
-    pub commit-call : (hash : List ℕ) (block : BlockNumber) {a : After} → before ≡ commitCall m hash block → a ≡ leaving s before → a ≡ lent 27652 s (commitCall (mapOf s) hash block)
+    pub commit-call : (hash : List ℕ) (block : BlockNumber) {a : After} → before ≡ commitCall m hash block → a ≡ leaving s before → a ≡ lentTable 27652 s (commitCall (mapOf s) hash block)
     commit-call hash block k b = lent-is 27652 s (commitCall (mapOf s) hash block) l (b ∙ ap (leaving s) (k ∙ rw e))
 
-    pub remove-call : (hash : List ℕ) {a : After} → before ≡ removeCall m hash → a ≡ leaving s before → a ≡ lent 27652 s (removeCall (mapOf s) hash)
+    pub remove-call : (hash : List ℕ) {a : After} → before ≡ removeCall m hash → a ≡ leaving s before → a ≡ lentTable 27652 s (removeCall (mapOf s) hash)
     remove-call hash k b = lent-is 27652 s (removeCall (mapOf s) hash) l (b ∙ ap (leaving s) (k ∙ rw e))
 
-    pub migrate-call : (old new tx : List ℕ) {a : After} → before ≡ migrateCall m old new tx → a ≡ leaving s before → a ≡ lent 27652 s (migrateCall (mapOf s) old new tx)
+    pub migrate-call : (old new tx : List ℕ) {a : After} → before ≡ migrateCall m old new tx → a ≡ leaving s before → a ≡ lentTable 27652 s (migrateCall (mapOf s) old new tx)
     migrate-call old new tx k b = lent-is 27652 s (migrateCall (mapOf s) old new tx) l (b ∙ ap (leaving s) (k ∙ rw e))
 
   pub truncate-call : (tip : BlockNumber) (g : LiveCellsExclusionMap) (o : List ℕ) → entriesOf g ≡ truncated tip (entriesOf m) → (27652 ≤ length s → excludedAt o ≡ entriesOf g)
-      → told excludedAt Answer.Done o ≡ lent 27652 s (truncateCall (mapOf s) tip)
+      → told excludedAt Answer.Done o ≡ lentTable 27652 s (truncateCall (mapOf s) tip)
   unfolding told leaving truncateCall
   truncate-call tip g o k h = lent-is 27652 s (truncateCall (mapOf s) tip) l (ap done (h (omega arith) ∙ k ∙ rw e))
 

@@ -1,11 +1,13 @@
 -- The table of holds read and written: one law for each way out of the functions.
-use mathlib.Core.Path.{_≡_, refl, ap, _∙_}
+use mathlib.Core.Path.{_≡_, refl, ap}
 use Prim.Native.Nat.{ℕ, _+_, _*_, _^_, _≤_, _<_, min}
+use mathlib.Core.Bool.{Bool, true, false, cond}
 use mathlib.Core.List.{List, _++_, map}
 use native.Mathlib.Omega.{arith}
 use borrow.Author.Tests.{eq-eqb, ne-eqb}
+use lib.Dec.{eqb}
 use lib.ListN.{length, length-map}
-use Rattle.arithmetic.specs.LittleEndian.{toLe}
+use Rattle.arithmetic.specs.LittleEndian.{toLe, AllBytes}
 use Rattle.units.specs.declared.{Millis.Millis}
 use Rattle.molecule.specs.Layout.{fixCount}
 use Rattle.molecule.specs.Partial.{All}
@@ -15,9 +17,9 @@ use Rattle.hold_records.specs.declared.{Owner.Owner, Hold.Hold, Held.Held}
 use Rattle.hold_records.specs.Holds.{recordsOf}
 use Rattle.hold_records.proofs.LoopLaws.{stands}
 use Rattle.table_bytes.specs.declared.{Place.Place}
-use Rattle.table_bytes.specs.Places.{FitPlace, places, placesBytes, tableBytes}
+use Rattle.table_bytes.specs.Places.{FitPlace, placesBytes}
 use Rattle.table_bytes.proofs.LoopLaws.{Reading, read-end, Putting, put-end, put-fit}
-use Rattle.table_bytes.proofs.TableLaws.{table-short, table-room, table-put, records-back, records-put}
+use Rattle.table_bytes.proofs.TableLaws.{table-short, table-room, table-put, records-back, records-put, records-again}
 use Rattle.held_bytes.specs.HeldBytes.{ownerOf, holdOf, heldOf, heldAt, kindOf, numberOf, placeFor, heldBytes}
 
 -- ---- one record
@@ -96,3 +98,20 @@ module _ (h : Held) (out : List ℕ) {n : ℕ} (e : n ≡ min (h .count) 256) (w
 pub held-back : (l : List Hold) (z : List ℕ) → length l ≤ 256 → All FitPlace (map placeFor l) → heldAt (heldBytes l ++ z) ≡ l
 unfolding heldAt heldOf recordsOf heldBytes
 held-back l z h f = records-back holdOf placeFor same-hold l z 256 h (omega arith) f
+
+-- and a table in bytes, written again, means the same
+owner-fits : (k n : ℕ) → n < 2 ^ 64 → (kindOf (ownerOf k n) < 2 ^ 32) × (numberOf (ownerOf k n) < 2 ^ 64)
+unfolding ownerOf kindOf numberOf
+owner-fits k n b = by (eqb k 0)
+  where
+    by : (t : Bool) → (kindOf (cond t (Owner.Funding n) (Owner.Watchtower (record { 0 = n }))) < 2 ^ 32) × (numberOf (cond t (Owner.Funding n) (Owner.Watchtower (record { 0 = n }))) < 2 ^ 64)
+    by true = (omega arith, b)
+    by false = (omega arith, b)
+
+hold-fits : (p : Place) → FitPlace p → FitPlace (placeFor (holdOf p))
+unfolding holdOf placeFor
+hold-fits p f = let o = owner-fits (p .kind) (p .number) (f .number-fits) in record { point-fits = f .point-fits; kind-fits = o .0; number-fits = o .1 }
+
+pub held-again : (s z : List ℕ) → AllBytes s → heldAt (heldBytes (heldAt s) ++ z) ≡ heldAt s
+unfolding heldAt heldOf recordsOf heldBytes
+held-again s z b = records-again holdOf placeFor same-hold hold-fits s z 256 b (omega arith)

@@ -1,15 +1,15 @@
 -- The calls on a lent table: one law for each way out.
-use mathlib.Core.Path.{_≡_, sym, ap, _∙_}
+use mathlib.Core.Path.{_≡_, ap, _∙_}
 use Prim.Native.Nat.{ℕ, _≤_}
 use native.Mathlib.Omega.{arith}
 use mathlib.Core.List.{List}
 use lib.ListN.{length}
-use Rattle.error.specs.declared.{Refusal.Refusal, Answer.Answer}
+use Rattle.error.specs.declared.{Answer.Answer}
 use Rattle.units.specs.declared.{Millis.Millis}
 use Rattle.out_points.specs.Tables.{Outcome, told}
 use Rattle.hold_records.specs.declared.{Hold.Hold, Held.Held, Holds.Holds, Taker.Taker}
 use Rattle.hold_records.specs.Holds.{recordsOf, holdFunding, releaseForWatchtower, holdForWatchtower, lockHeld, unavailable, takeCells}
-use Rattle.table_bytes.specs.Lent.{leaving, lent, lentWith, lentWithTwo, lentRead}
+use Rattle.table_bytes.specs.Lent.{leaving, lentTable, lentWith, lentWithTwo, lentRead}
 use Rattle.table_bytes.proofs.LentLaws.{lent-is, with-is, two-is, only-is, leave-done}
 use Rattle.held_bytes.specs.HeldBytes.{heldOf, heldAt}
 
@@ -24,13 +24,13 @@ module _ (s : List ℕ) (r : Holds) {h : Held} (l : length s ≡ 12292) (e : h �
   abbrev before : Outcome Held (List Hold)
   before = told recordsOf (r .answer) (r .held)
 
-  pub hold-call : (holder : ℕ) (cells : List ℕ) {a : After} → before ≡ holdFunding h holder cells → a ≡ leaving s before → a ≡ lent 12292 s (holdFunding (heldOf s) holder cells)
+  pub hold-call : (holder : ℕ) (cells : List ℕ) {a : After} → before ≡ holdFunding h holder cells → a ≡ leaving s before → a ≡ lentTable 12292 s (holdFunding (heldOf s) holder cells)
   hold-call holder cells k b = lent-is 12292 s (holdFunding (heldOf s) holder cells) l (b ∙ ap (leaving s) (k ∙ rw e))
 
-  pub release-call : (cells : List ℕ) {a : After} → before ≡ releaseForWatchtower h cells → a ≡ leaving s before → a ≡ lent 12292 s (releaseForWatchtower (heldOf s) cells)
+  pub release-call : (cells : List ℕ) {a : After} → before ≡ releaseForWatchtower h cells → a ≡ leaving s before → a ≡ lentTable 12292 s (releaseForWatchtower (heldOf s) cells)
   release-call cells k b = lent-is 12292 s (releaseForWatchtower (heldOf s) cells) l (b ∙ ap (leaving s) (k ∙ rw e))
 
-  pub watch-call : (cells : List ℕ) (time : Millis) {a : After} → before ≡ holdForWatchtower h cells time → a ≡ leaving s before → a ≡ lent 12292 s (holdForWatchtower (heldOf s) cells time)
+  pub watch-call : (cells : List ℕ) (time : Millis) {a : After} → before ≡ holdForWatchtower h cells time → a ≡ leaving s before → a ≡ lentTable 12292 s (holdForWatchtower (heldOf s) cells time)
   watch-call cells time k b = lent-is 12292 s (holdForWatchtower (heldOf s) cells time) l (b ∙ ap (leaving s) (k ∙ rw e))
 
   pub lock-call : (time : Millis) (out : List ℕ) {a : After} {after : List ℕ} → (before, after) ≡ lockHeld h time out → a ≡ leaving s before

@@ -10,7 +10,7 @@ ghost use lib.ListN.{length};
 ghost use Rattle.error.specs.Refusal.{answered};
 ghost use Rattle.out_points.specs.Tables.{told};
 ghost use Rattle.hold_records.specs.Holds.{recordsOf, holdFunding, releaseForWatchtower, holdForWatchtower, lockHeld, unavailable, takeCells};
-ghost use Rattle.table_bytes.specs.Lent.{leaving, lent, lentWith, lentWithTwo, lentRead};
+ghost use Rattle.table_bytes.specs.Lent.{leaving, lentTable, lentWith, lentWithTwo, lentRead};
 ghost use Rattle.held_bytes.specs.HeldBytes.{heldOf, heldAt};
 
 // Writes the table that a call returned, if the call is done.
@@ -31,7 +31,7 @@ fn leave(s: &mut [u8], r: Holds) -> Answer
 
 // The funding inputs that `holder` holds now, in place of the ones that it held before.
 pub fn hold_funding(held: &mut [u8], holder: u64, cells: &[u8]) -> Answer
-    ensures { λ r. ⌜ told heldAt r (now (held .exit)) ≡ lent 12292 (now (held .entry)) (holdFunding (heldOf (now (held .entry))) holder (now (cells .entry))) ⌝ }
+    ensures { λ r. ⌜ told heldAt r (now (held .exit)) ≡ lentTable 12292 (now (held .entry)) (holdFunding (heldOf (now (held .entry))) holder (now (cells .entry))) ⌝ }
 {
     if held.len() != HELD_BYTES {
         return Answer::Refused(Refusal::LentBytesUnreadable);
@@ -43,7 +43,7 @@ pub fn hold_funding(held: &mut [u8], holder: u64, cells: &[u8]) -> Answer
 
 // The cells of a transaction that the watchtower sent are held from `time` on.
 pub fn hold_for_watchtower(held: &mut [u8], cells: &[u8], time: Millis) -> Answer
-    ensures { λ r. ⌜ told heldAt r (now (held .exit)) ≡ lent 12292 (now (held .entry)) (holdForWatchtower (heldOf (now (held .entry))) (now (cells .entry)) time) ⌝ }
+    ensures { λ r. ⌜ told heldAt r (now (held .exit)) ≡ lentTable 12292 (now (held .entry)) (holdForWatchtower (heldOf (now (held .entry))) (now (cells .entry)) time) ⌝ }
 {
     if held.len() != HELD_BYTES {
         return Answer::Refused(Refusal::LentBytesUnreadable);
@@ -55,7 +55,7 @@ pub fn hold_for_watchtower(held: &mut [u8], cells: &[u8], time: Millis) -> Answe
 
 // The cells of a transaction that the watchtower could not send are free again.
 pub fn release_for_watchtower(held: &mut [u8], cells: &[u8]) -> Answer
-    ensures { λ r. ⌜ told heldAt r (now (held .exit)) ≡ lent 12292 (now (held .entry)) (releaseForWatchtower (heldOf (now (held .entry))) (now (cells .entry))) ⌝ }
+    ensures { λ r. ⌜ told heldAt r (now (held .exit)) ≡ lentTable 12292 (now (held .entry)) (releaseForWatchtower (heldOf (now (held .entry))) (now (cells .entry))) ⌝ }
 {
     if held.len() != HELD_BYTES {
         return Answer::Refused(Refusal::LentBytesUnreadable);

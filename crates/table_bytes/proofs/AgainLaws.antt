@@ -1,16 +1,16 @@
--- What was written is read: the places of a table whose numbers fit, whatever bytes follow.
+-- What was written is read: the places of a table whose numbers fit, whatever bytes follow. Those of every table in bytes do.
 use mathlib.Core.Path.{_≡_, refl, sym, ap, _∙_}
-use Prim.Native.Nat.{ℕ, zero, suc, _+_, _*_, _^_, _≤_, _<_}
+use Prim.Native.Nat.{ℕ, zero, suc, _+_, _^_, _≤_, _<_}
 use mathlib.Core.List.{List, [], _∷_, _++_, map, flatten, append-assoc, append-nil}
 use native.Mathlib.Omega.{arith}
 use lib.ListN.{length, take, drop, length-append}
-use Rattle.arithmetic.specs.LittleEndian.{toLe, u32At, u64At}
+use Rattle.arithmetic.specs.LittleEndian.{toLe, AllBytes, u32At, u64At}
 use Rattle.arithmetic.proofs.LittleEndianLaws.{length-toLe}
-use Rattle.molecule.specs.Layout.{span, word, fixCount}
+use Rattle.molecule.specs.Layout.{span, word, fixCount, fixItem}
 use Rattle.molecule.specs.Partial.{All}
 use Rattle.out_points.specs.OutPoints.{outPointAt, pointBytes}
 use Rattle.out_points.proofs.PointLaws.{length-point}
-use Rattle.out_points.proofs.AgainLaws.{behind, word-back, point-back, items-back}
+use Rattle.out_points.proofs.AgainLaws.{behind, word-back, point-back, items-back, num-fits, point-fits, item-bytes}
 use Rattle.table_bytes.specs.declared.{Place.Place}
 use Rattle.table_bytes.specs.Places.{FitPlace, placeAt, placeOf, places, placeBytes, placesBytes, tableBytes}
 use Rattle.table_bytes.proofs.PlaceLaws.{length-place}
@@ -47,3 +47,14 @@ table-back l z n h b f =
     ap (λ (k : ℕ). take k (places n s)) c
     ∙ span-take (placeOf s) 0 (length l) n h
     ∙ items-back FitPlace placeAt placeBytes 48 length-place place-back s z 0 l (omega (arith, c)) (ap (drop 4) g ∙ behind (toLe 4 (length l)) (flatten (map placeBytes l) ++ z) 4 (length-toLe 4 (length l))) f
+
+-- ---- what is read from bytes fits
+
+place-fits : (x : List ℕ) → AllBytes x → FitPlace (placeAt x)
+unfolding placeAt
+place-fits x b = record { point-fits = point-fits x b; kind-fits = num-fits 4 x 36 b; number-fits = num-fits 8 x 40 b }
+
+pub places-fit : (s : List ℕ) (i n : ℕ) → AllBytes s → All FitPlace (span (placeOf s) i n)
+unfolding span placeOf
+places-fit s i zero b = tt
+places-fit s i (suc n) b = (place-fits (fixItem s 48 i) (item-bytes s 48 i b), places-fit s (suc i) n b)

@@ -7,15 +7,15 @@ use lib.ListN.{length}
 use Rattle.error.specs.declared.{Refusal.Refusal, Answer.Answer}
 use Rattle.error.specs.Refusal.{number, answered}
 use Rattle.out_points.specs.Tables.{Outcome, done, refused, told}
-use Rattle.table_bytes.specs.Lent.{leaving, lent, lentWith, lentWithTwo, lentRead, toldNumber}
+use Rattle.table_bytes.specs.Lent.{leaving, lentTable, lentWith, lentWithTwo, lentRead, toldNumber}
 
 module _ {T M : Type 0} (k : ℕ) (s : List ℕ) where
-  pub lent-bad : (means : List ℕ → M) (o : Outcome T M) → (length s ≡ k → ⊥) → told means (Answer.Refused Refusal.LentBytesUnreadable) s ≡ lent k s o
-  unfolding lent told number
+  pub lent-bad : (means : List ℕ → M) (o : Outcome T M) → (length s ≡ k → ⊥) → told means (Answer.Refused Refusal.LentBytesUnreadable) s ≡ lentTable k s o
+  unfolding lentTable told number
   lent-bad means o h = rw (ne-eqb (length s) k h)
 
-  pub lent-is : (o : Outcome T M) {a : Outcome (List ℕ) M} → length s ≡ k → a ≡ leaving s o → a ≡ lent k s o
-  unfolding lent
+  pub lent-is : (o : Outcome T M) {a : Outcome (List ℕ) M} → length s ≡ k → a ≡ leaving s o → a ≡ lentTable k s o
+  unfolding lentTable
   lent-is o h e = e ∙ rw (eq-eqb (length s) k h)
 
   module _ (b : List ℕ) where

@@ -1,20 +1,21 @@
 -- A whole table: its count and its places put at the start of lent bytes, and what these then mean.
-use mathlib.Core.Path.{_≡_, refl, sym, ap, _∙_}
-use Prim.Native.Nat.{ℕ, _+_, _*_, _^_, _≤_, _<_}
+use mathlib.Core.Path.{_≡_, refl, ap, _∙_}
+use Prim.Native.Nat.{ℕ, zero, suc, _+_, _*_, _^_, _≤_, _<_, min}
 use mathlib.Core.List.{List, [], _∷_, _++_, map}
 use native.Mathlib.Omega.{arith}
-use lib.ListN.{length, take, drop, length-append, length-map}
-use Rattle.arithmetic.specs.LittleEndian.{toLe}
+use lib.ListN.{length, take, drop, length-append, length-map, length-take}
+use Rattle.arithmetic.specs.LittleEndian.{toLe, AllBytes}
 use Rattle.arithmetic.proofs.LittleEndianLaws.{length-toLe}
 use Rattle.molecule.specs.Layout.{fixCount}
+use Rattle.molecule.proofs.Offsets.{span-length}
 use Rattle.molecule.specs.Partial.{All}
 use Rattle.molecule.specs.Write.{putAt, putEnd, Put}
 use Rattle.molecule.proofs.WriteLaws.{did, then, put-yes, put-short, splice-zero, length-kept}
 use Rattle.out_points.proofs.PointLaws.{put-of}
 use Rattle.table_bytes.specs.declared.{Place.Place}
-use Rattle.table_bytes.specs.Places.{FitPlace, places, placesBytes, tableBytes}
+use Rattle.table_bytes.specs.Places.{FitPlace, placeOf, places, placesBytes, tableBytes}
 use Rattle.table_bytes.proofs.LoopLaws.{length-places}
-use Rattle.table_bytes.proofs.AgainLaws.{take-map, table-back}
+use Rattle.table_bytes.proofs.AgainLaws.{take-map, table-back, places-fit}
 
 length-table : (l : List Place) → length (tableBytes l) ≡ 4 + 48 * length l
 unfolding tableBytes
@@ -58,3 +59,18 @@ module _ {A : Type 0} (f : Place → A) (place : A → Place) (same : (x : A) �
       let w : 0 + length t ≤ length out = omega (arith, length-table (map place l), length-map l place) in
       let s : o ≡ t ++ drop (length t) out = e ∙ put-yes out 0 t w ∙ splice-zero out t in
       ap (λ (x : List ℕ). take (fixCount x) (map f (places n x))) s ∙ records-back l (drop (length t) out) n h (omega arith) k
+
+  -- a table in bytes, written again, means the same
+  module _ (fits : (p : Place) → FitPlace p → FitPlace (place (f p))) where
+    all-fit : (n : ℕ) (l : List Place) → All FitPlace l → All FitPlace (map place (take n (map f l)))
+    all-fit zero l a = tt
+    all-fit (suc n) [] a = tt
+    all-fit (suc n) (p ∷ l) a = (fits p (a .0), all-fit n l (a .1))
+
+    pub records-again : (s z : List ℕ) (n : ℕ) → AllBytes s → n < 2 ^ 32
+        → take (fixCount (tableBytes (map place (take (fixCount s) (map f (places n s)))) ++ z)) (map f (places n (tableBytes (map place (take (fixCount s) (map f (places n s)))) ++ z)))
+        ≡ take (fixCount s) (map f (places n s))
+    records-again s z n b h =
+        let l : List A = take (fixCount s) (map f (places n s)) in
+        let k : length l ≡ min (fixCount s) n = length-take (fixCount s) (map f (places n s)) ∙ ap (min (fixCount s)) (length-map (places n s) f ∙ span-length (placeOf s) 0 n) in
+        records-back l z n (omega arith) (omega arith) (all-fit (fixCount s) (places n s) (places-fit s 0 n b))

@@ -10,8 +10,8 @@ unfoldable pub leaving : {T M : Type 0} → List ℕ → Outcome T M → Outcome
 leaving s (done l) = done l
 leaving s (refused n t) = refused n s
 
-unfoldable pub lent : {T M : Type 0} → ℕ → List ℕ → Outcome T M → Outcome (List ℕ) M
-lent k s o = check (eqb (length s) k) (refused 3 s) (leaving s o)
+unfoldable pub lentTable : {T M : Type 0} → ℕ → List ℕ → Outcome T M → Outcome (List ℕ) M
+lentTable k s o = check (eqb (length s) k) (refused 3 s) (leaving s o)
 
 -- the same of a call that fills a buffer, which is b before it, or two
 unfoldable pub lentWith : {T M : Type 0} → ℕ → List ℕ → List ℕ → Outcome T M × List ℕ → Outcome (List ℕ) M × List ℕ

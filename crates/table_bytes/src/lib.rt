@@ -4,7 +4,6 @@ use arithmetic::little_endian;
 use molecule::write;
 use out_points::OutPoint;
 ghost use mathlib.Core.Path.{_≡_};
-ghost use Prim.Native.Nat.{min};
 ghost use Rattle.molecule.specs.Write.{putAt, putEnd};
 ghost use Rattle.table_bytes.specs.Places.{placeOf, placeBytes};
 
