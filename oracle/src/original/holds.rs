@@ -1,0 +1,60 @@
+//! The original's table of holds. There is one for each process, behind a lock.
+use super::{plain, point, Point};
+use crate::ckb::{funding::funding_tx::probe::Lent, held_cells as held};
+use std::collections::{BTreeMap, BTreeSet};
+
+/// Its records: what each holder holds, in order, and the watchtower's cells with their ends.
+#[derive(Clone, Debug, Default, PartialEq)]
+pub struct Holds {
+    pub funding: BTreeMap<u64, Vec<Point>>,
+    pub watchtower: BTreeMap<Point, u64>,
+}
+impl Holds {
+    pub fn count(&self) -> usize {
+        self.funding.values().map(Vec::len).sum::<usize>() + self.watchtower.len()
+    }
+}
+
+fn points(cells: &[Point]) -> Vec<crate::standins::packed::OutPoint> {
+    cells.iter().map(point).collect()
+}
+
+pub fn reset() {
+    held::probe::reset()
+}
+pub fn load(holds: &Holds) {
+    let funding = holds.funding.iter().map(|(h, v)| (*h, points(v)));
+    held::probe::load(funding, holds.watchtower.iter().map(|(c, end)| (point(c), *end)))
+}
+pub fn dump() -> Holds {
+    let (funding, watchtower) = held::probe::dump();
+    let mut holds = Holds::default();
+    funding.iter().for_each(|(h, o)| holds.funding.entry(*h).or_default().push(plain(o)));
+    holds.watchtower = watchtower.iter().map(|(o, end)| (plain(o), *end)).collect();
+    holds
+}
+pub fn hold_funding(holder: u64, cells: &[Point]) {
+    held::hold_funding(holder, points(cells))
+}
+pub fn hold_for_watchtower(cells: &[Point], now: u64) {
+    held::hold_for_watchtower(points(cells), now)
+}
+pub fn release_for_watchtower(cells: &[Point]) {
+    held::release_for_watchtower(points(cells))
+}
+/// For the funding of a holder, or for the watchtower (none): the cells taken, and those refused.
+pub fn take(picked: &[Point], spent: &[Point], holder: Option<u64>, now: u64) -> (Vec<Point>, Vec<Point>) {
+    let taker = holder.map_or(held::Taker::Watchtower, held::Taker::Funding);
+    let (taken, refused) = held::take(points(picked), &points(spent).into_iter().collect(), taker, now);
+    (taken.iter().map(plain).collect(), refused.iter().map(plain).collect())
+}
+/// Without order: the original answers with a set.
+pub fn unavailable(picked: &[Point], spent: &[Point], now: u64) -> BTreeSet<Point> {
+    held::probe::look(&points(picked), &points(spent).into_iter().collect(), now).iter().map(plain).collect()
+}
+/// In an order that the original leaves open.
+pub fn lock_held(now: u64) -> Vec<Point> {
+    let mut collector = Lent::default();
+    held::lock_held(&mut collector, now).unwrap();
+    collector.locked.iter().map(plain).collect()
+}
