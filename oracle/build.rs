@@ -71,7 +71,7 @@ fn declared(header: &str) -> Vec<&str> {
 
 /// Whether a static library names a symbol.
 fn has(library: &[u8], name: &str) -> bool {
-    let ended = [b"\0", name.as_bytes(), b"\0"].concat();
+    let ended = [name.as_bytes(), b"\0"].concat();
     library.windows(ended.len()).any(|w| w == ended)
 }
 

@@ -1,1 +1,79 @@
-fn main() {}
+//! The library and the original in one process: random, small and damaged inputs, call by call.
+mod kind;
+mod library;
+mod parts;
+mod random;
+mod report;
+mod update;
+mod updates;
+
+use kind::{run, Kind};
+use report::Tally;
+
+struct Options {
+    calls: u64,
+    seed: u64,
+    kind: Option<String>,
+}
+
+fn options() -> Option<Options> {
+    let mut o = Options { calls: 1_000_000, seed: 1, kind: None };
+    let mut args = std::env::args().skip(1);
+    while let Some(a) = args.next() {
+        let value = args.next()?;
+        match a.as_str() {
+            "--calls" => o.calls = value.parse().ok()?,
+            "--seed" => o.seed = value.parse().ok()?,
+            "--kind" => o.kind = Some(value),
+            _ => return None,
+        }
+    }
+    Some(o)
+}
+
+macro_rules! kinds {
+    ($($kind:ty),* $(,)?) => {
+        const NAMES: &[&str] = &[$(<$kind>::NAME),*];
+        /// Each kind with its share of the calls, or one with all of them.
+        fn tallies(o: &Options) -> Vec<(&'static str, Tally)> {
+            let mut out = vec![];
+            $(match &o.kind {
+                None => out.push((<$kind>::NAME, run::<$kind>(o.calls * <$kind>::SHARE / 1000, o.seed))),
+                Some(name) if name == <$kind>::NAME => out.push((<$kind>::NAME, run::<$kind>(o.calls, o.seed))),
+                Some(_) => {}
+            })*
+            out
+        }
+    };
+}
+kinds!(update::Any, update::Damaged, update::Small);
+
+fn main() {
+    let known = |o: &Options| o.kind.as_ref().is_none_or(|k| NAMES.contains(&k.as_str()));
+    let Some(o) = options().filter(known) else {
+        eprintln!("compare [--calls N] [--seed S] [--kind {}]", NAMES.join("|"));
+        std::process::exit(2);
+    };
+    // Panics of the original are answers; our own are not.
+    std::panic::set_hook(Box::new(|p| {
+        if p.location().is_some_and(|l| l.file().contains("compare")) {
+            eprintln!("{p}");
+        }
+    }));
+    let started = std::time::Instant::now();
+    let tallies = tallies(&o);
+    let mut all = Tally::default();
+    tallies.iter().for_each(|(_, t)| all.join(t));
+    Tally::head();
+    tallies.iter().for_each(|(name, t)| t.line(name));
+    all.line("all");
+    println!("\nby number, of those that do not disagree:");
+    tallies.iter().for_each(|(name, t)| t.numbers(name));
+    all.numbers("all");
+    println!();
+    all.others();
+    println!("{} calls, {} disagreements, seed {}, {:.0} s", all.calls, all.wrong, o.seed, started.elapsed().as_secs_f64());
+    if all.wrong > 0 {
+        std::process::exit(1);
+    }
+}

@@ -1,0 +1,86 @@
+//! A kind of calls, and how a run over one goes.
+use crate::library::MISSING;
+use crate::random::Rng;
+use crate::report::{Outcome, Tally};
+use std::panic::{catch_unwind, AssertUnwindSafe};
+
+pub trait Kind {
+    type Input: Clone;
+    const NAME: &'static str;
+    /// The functions of the library that it calls.
+    const NEEDS: &'static [&'static str];
+    /// Of a thousand calls of a run, how many.
+    const SHARE: u64;
+    /// How many inputs there are, where all of them are made.
+    const ALL: Option<u64> = None;
+    /// The n-th input of a run.
+    fn make(rng: &mut Rng, n: u64) -> Self::Input;
+    /// Makes the calls of an input here and there.
+    fn compare(input: &Self::Input) -> Vec<Outcome>;
+    /// Inputs with something less.
+    fn smaller(input: &Self::Input) -> Vec<Self::Input>;
+    fn show(input: &Self::Input) -> String;
+}
+
+/// How many disagreements of a kind are shown.
+const SHOWN: u64 = 3;
+
+/// What differs in an input, if anything; a panic on either side that no rule expects differs too.
+fn wrong<K: Kind>(input: &K::Input) -> Option<String> {
+    match catch_unwind(AssertUnwindSafe(|| K::compare(input))) {
+        Ok(outcomes) => outcomes.into_iter().find_map(|o| o.wrong),
+        Err(p) => Some(match p.downcast::<String>() {
+            Ok(text) => *text,
+            Err(p) => p.downcast::<&str>().map_or("a panic".into(), |text| text.to_string()),
+        }),
+    }
+}
+
+/// The smallest input found that differs too, by leaving out one thing after the other.
+fn shrunk<K: Kind>(mut input: K::Input) -> K::Input {
+    let mut tries = 20_000;
+    'again: loop {
+        for less in K::smaller(&input) {
+            tries -= 1;
+            if tries == 0 {
+                return input;
+            }
+            if wrong::<K>(&less).is_some() {
+                input = less;
+                continue 'again;
+            }
+        }
+        return input;
+    }
+}
+
+/// So many calls of a kind, from a seed.
+pub fn run<K: Kind>(calls: u64, seed: u64) -> Tally {
+    let mut tally = Tally::default();
+    let missing: Vec<_> = K::NEEDS.iter().filter(|f| MISSING.contains(f)).collect();
+    if !missing.is_empty() {
+        println!("{}: passed over, the library does not have {missing:?}", K::NAME);
+        return tally;
+    }
+    let mut rng = Rng::new(seed);
+    let all = K::ALL.filter(|all| *all <= calls);
+    let calls = all.unwrap_or(calls);
+    let mut n = 0;
+    while tally.calls < calls {
+        let at = if all.is_some() || K::ALL.is_none() { n } else { rng.below(K::ALL.unwrap() as usize) as u64 };
+        n += 1;
+        let input = K::make(&mut rng, at);
+        match catch_unwind(AssertUnwindSafe(|| K::compare(&input))) {
+            Ok(outcomes) if outcomes.iter().all(|o| o.wrong.is_none()) => outcomes.iter().for_each(|o| tally.add(o)),
+            _ => {
+                tally.calls += 1;
+                tally.wrong += 1;
+                if tally.wrong <= SHOWN {
+                    let least = shrunk::<K>(input);
+                    println!("{} DISAGREES: {}\n{}", K::NAME, wrong::<K>(&least).unwrap_or_default(), K::show(&least));
+                }
+            }
+        }
+    }
+    tally
+}

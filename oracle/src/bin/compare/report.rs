@@ -1,0 +1,84 @@
+//! What was compared, and how it came out.
+use std::collections::BTreeMap;
+
+/// Where the answer that is expected comes from.
+#[derive(Clone, Copy, Debug, PartialEq)]
+pub enum Source {
+    /// The original said so.
+    Original,
+    /// The stand-ins' strict reader: the original can't be asked, since it is handed values that were read.
+    Reader,
+    /// The original says something else, or panics, and a rule of docs/DIFFERENCES.md says what is expected instead.
+    Intended(&'static str),
+    /// Nobody can be asked what the answer is: only that a refusal changes nothing is looked at.
+    Nobody(&'static str),
+}
+
+/// Of one call.
+#[derive(Debug)]
+pub struct Outcome {
+    /// The library's answer.
+    pub number: u32,
+    pub source: Source,
+    /// What differs, if anything.
+    pub wrong: Option<String>,
+}
+
+#[derive(Default)]
+pub struct Tally {
+    pub calls: u64,
+    pub wrong: u64,
+    original: u64,
+    reader: u64,
+    numbers: BTreeMap<u32, u64>,
+    intended: BTreeMap<&'static str, u64>,
+    nobody: BTreeMap<&'static str, u64>,
+}
+
+impl Tally {
+    pub fn add(&mut self, o: &Outcome) {
+        self.calls += 1;
+        if o.wrong.is_some() {
+            self.wrong += 1;
+            return;
+        }
+        *self.numbers.entry(o.number).or_default() += 1;
+        match o.source {
+            Source::Original => self.original += 1,
+            Source::Reader => self.reader += 1,
+            Source::Intended(name) => *self.intended.entry(name).or_default() += 1,
+            Source::Nobody(name) => *self.nobody.entry(name).or_default() += 1,
+        }
+    }
+    /// The other's calls too.
+    pub fn join(&mut self, other: &Tally) {
+        self.calls += other.calls;
+        self.wrong += other.wrong;
+        self.original += other.original;
+        self.reader += other.reader;
+        other.numbers.iter().for_each(|(k, n)| *self.numbers.entry(*k).or_default() += n);
+        other.intended.iter().for_each(|(k, n)| *self.intended.entry(k).or_default() += n);
+        other.nobody.iter().for_each(|(k, n)| *self.nobody.entry(k).or_default() += n);
+    }
+    pub fn head() {
+        let of = ["calls", "agree", "original", "reader", "intended", "nobody", "disagree"];
+        print!("{:<14}", "kind");
+        of.iter().for_each(|name| print!(" {name:>9}"));
+        println!();
+    }
+    pub fn line(&self, kind: &str) {
+        let (intended, nobody) = (self.intended.values().sum(), self.nobody.values().sum());
+        let counts = [self.calls, self.original + self.reader, self.original, self.reader, intended, nobody, self.wrong];
+        print!("{kind:<14}");
+        counts.iter().for_each(|n: &u64| print!(" {n:>9}"));
+        println!();
+    }
+    pub fn numbers(&self, kind: &str) {
+        let listed: Vec<String> = self.numbers.iter().map(|(k, n)| format!("{k}: {n}")).collect();
+        println!("{kind:<14} {}", listed.join(", "));
+    }
+    pub fn others(&self) {
+        self.intended.iter().for_each(|(name, n)| println!("{n:>9}  intended: {name}"));
+        self.nobody.iter().for_each(|(name, n)| println!("{n:>9}  not compared: {name}"));
+    }
+}
