@@ -1,9 +1,12 @@
 //! The library and the original in one process: random, small and damaged inputs, call by call.
 mod kind;
 mod library;
+mod negotiation;
 mod parts;
 mod random;
+mod reading;
 mod report;
+mod requests;
 mod update;
 mod updates;
 
@@ -46,7 +49,17 @@ macro_rules! kinds {
         }
     };
 }
-kinds!(update::Any, update::Damaged, update::Small);
+kinds!(
+    update::Any,
+    update::Damaged,
+    update::Small,
+    negotiation::Negotiation,
+    requests::FundingCell,
+    requests::TokenPick,
+    requests::Base,
+    reading::Reading,
+    reading::CaseFile,
+);
 
 fn main() {
     let known = |o: &Options| o.kind.as_ref().is_none_or(|k| NAMES.contains(&k.as_str()));
