@@ -109,14 +109,15 @@ pub fn run() {
     let o = output(10_000_000_000, &l, None);
     for n in [3, 4] {
         four(&mut t, "outputs", tx(1, &vec![o.clone(); n], &vec![data(b""); n], 0, &[]), n == 4);
-        four(&mut t, "inputs", tx(61 + n, &[o.clone()], &[data(b"")], 0, &[]), n == 4);
-        four(&mut t, "deps", tx(1, &[o.clone()], &[data(b"")], 5 + n, &[]), n == 4);
-        let big = tx(1, &[o.clone()], &[data(b"")], 0, &[data(&vec![0; 133_116 - 201 - 8 + (n - 3)])]);
+        four(&mut t, "inputs", tx(61 + n, std::slice::from_ref(&o), &[data(b"")], 0, &[]), n == 4);
+        four(&mut t, "deps", tx(1, std::slice::from_ref(&o), &[data(b"")], 5 + n, &[]), n == 4);
+        let big = tx(1, std::slice::from_ref(&o), &[data(b"")], 0, &[data(&vec![0; 133_116 - 201 - 8 + (n - 3)])]);
         t.eq("bytes", big.len(), 133_113 + n);
         four(&mut t, "bytes", big, n == 4);
     }
-    let ours = tx(2, &[o.clone()], &[data(b"")], 0, &[]);
-    let d = Case { ours, peer: tx(4, &[o.clone()], &[data(b"")], 0, &[]), records: vec![rec(&output(1, &s, None), b""), None], ..c.clone() };
+    let ours = tx(2, std::slice::from_ref(&o), &[data(b"")], 0, &[]);
+    let d =
+        Case { ours, peer: tx(4, std::slice::from_ref(&o), &[data(b"")], 0, &[]), records: vec![rec(&output(1, &s, None), b""), None], ..c.clone() };
     t.case("our lock", &d, "6 2");
     let tok = |n: u128| rec(&output(10_000_000_000, &l, Some(&ty)), &n.to_le_bytes());
     let typed = tx(2, &[output(10_000_000_000, &l, Some(&ty))], &[data(&5u128.to_le_bytes())], 0, &[]);

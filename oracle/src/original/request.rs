@@ -11,6 +11,9 @@ pub enum Answer<T> {
     Panics,
 }
 
+/// The inputs, and the change output with its data, if any.
+pub type Picked = (Vec<CellInput>, Option<(CellOutput, Vec<u8>)>);
+
 /// The lent parts that were read; `ours` may be none.
 #[derive(Clone, Debug, Default)]
 pub struct Request {
@@ -62,8 +65,7 @@ impl Request {
             Err(e) => Err(Refusal::from(&e)),
         }
     }
-    /// The inputs, and the change output with its data, if any.
-    pub fn pick(&self) -> Answer<(Vec<CellInput>, Option<(CellOutput, Vec<u8>)>)> {
+    pub fn pick(&self) -> Answer<Picked> {
         DESK.with_borrow_mut(|d| d.udt_deps = Some(vec![]));
         let (b, mut lent) = (self.builder(), self.lent());
         match catch_unwind(AssertUnwindSafe(|| probe::pick(&b, &mut lent))) {

@@ -21,7 +21,7 @@ fn bounds(b: &[u8]) -> Option<Vec<usize>> {
         return None;
     }
     let first = word(b, 4);
-    if first % 4 != 0 || first < 8 || first > b.len() {
+    if !first.is_multiple_of(4) || first < 8 || first > b.len() {
         return None;
     }
     let mut v: Vec<usize> = (1..first / 4).map(|i| word(b, 4 * i)).collect();

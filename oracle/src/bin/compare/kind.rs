@@ -22,6 +22,46 @@ pub trait Kind {
     fn show(input: &Self::Input) -> String;
 }
 
+/// A kind of which all inputs are made, with the calls of another.
+macro_rules! all_of {
+    ($name:ident, $of:ty, $text:expr, $share:expr, $all:expr, $make:expr) => {
+        impl Kind for $name {
+            type Input = <$of as Kind>::Input;
+            const NAME: &'static str = $text;
+            const NEEDS: &'static [&'static str] = <$of as Kind>::NEEDS;
+            const SHARE: u64 = $share;
+            const ALL: Option<u64> = Some($all);
+            fn make(_: &mut Rng, n: u64) -> Self::Input {
+                $make(n)
+            }
+            fn compare(input: &Self::Input) -> Vec<Outcome> {
+                <$of>::compare(input)
+            }
+            fn smaller(input: &Self::Input) -> Vec<Self::Input> {
+                <$of>::smaller(input)
+            }
+            fn show(input: &Self::Input) -> String {
+                <$of>::show(input)
+            }
+        }
+    };
+}
+pub(crate) use all_of;
+
+/// The digits of a number, from the last one on, for choices among so many.
+pub struct Digits(pub u64);
+
+impl Digits {
+    pub fn below(&mut self, n: usize) -> usize {
+        let digit = self.0 % n as u64;
+        self.0 /= n as u64;
+        digit as usize
+    }
+    pub fn pick<T: Clone>(&mut self, from: &[T]) -> T {
+        from[self.below(from.len())].clone()
+    }
+}
+
 /// How many disagreements of a kind are shown.
 const SHOWN: u64 = 3;
 
@@ -64,9 +104,8 @@ pub fn run<K: Kind>(calls: u64, seed: u64) -> Tally {
     }
     let mut rng = Rng::new(seed);
     let all = K::ALL.filter(|all| *all <= calls);
-    let calls = all.unwrap_or(calls);
     let mut n = 0;
-    while tally.calls < calls {
+    while all.map_or(tally.calls < calls, |all| n < all) {
         let at = if all.is_some() || K::ALL.is_none() { n } else { rng.below(K::ALL.unwrap() as usize) as u64 };
         n += 1;
         let input = K::make(&mut rng, at);

@@ -1,5 +1,6 @@
 //! The library through its C interface (bindings/c/basinpantry.h), with slices for pointers and lengths.
 #![allow(clippy::too_many_arguments)]
+use crate::report::{Outcome, Source};
 
 /// Functions of the header that the static library does not have yet.
 #[allow(clashing_extern_declarations)]
@@ -102,4 +103,13 @@ pub fn with_words(call: impl FnOnce(&mut [u64]) -> u32) -> (u32, [u64; 4]) {
     let number = call(&mut words);
     assert!(words[4] == WORD, "a word behind the four was set");
     (number, words[..4].try_into().unwrap())
+}
+
+/// The same with three words, which are too few: 13, and they stay as they are.
+pub fn with_too_few_words(call: impl FnOnce(&mut [u64]) -> u32) -> Outcome {
+    let mut words = [WORD; 3];
+    let number = call(&mut words);
+    let right = number == 13 && words == [WORD; 3];
+    let wrong = (!right).then(|| format!("with three words for values: the library says {number}, and leaves {words:?}"));
+    Outcome { number, source: Source::Intended("13 where the original has no such bound: words for values"), wrong }
 }

@@ -1,4 +1,6 @@
 //! The library and the original in one process: random, small and damaged inputs, call by call.
+mod exclusions;
+mod holds;
 mod kind;
 mod library;
 mod negotiation;
@@ -7,6 +9,7 @@ mod random;
 mod reading;
 mod report;
 mod requests;
+mod tables;
 mod update;
 mod updates;
 
@@ -54,9 +57,14 @@ kinds!(
     update::Damaged,
     update::Small,
     negotiation::Negotiation,
+    holds::OfHolds,
+    holds::Small,
+    exclusions::OfExclusions,
+    exclusions::Small,
     requests::FundingCell,
     requests::TokenPick,
     requests::Base,
+    requests::SmallBase,
     reading::Reading,
     reading::CaseFile,
 );

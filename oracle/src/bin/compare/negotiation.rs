@@ -85,7 +85,7 @@ impl Input {
             ((3, [0; 4]), Source::Reader)
         } else if self.damaged.is_some() {
             // a list of other updates
-            return Outcome { number, source: Source::Nobody("replay of a damaged list that can still be read"), wrong: None };
+            return Outcome { number, source: Source::Unknown("replay of a damaged list that can still be read"), wrong: None };
         } else if room < 5 * answers.len() {
             ((13, [0; 4]), Source::Intended("13 where the original has no such bound: the answers of replay"))
         } else {
@@ -107,7 +107,7 @@ impl Input {
             let call = Update { ours: here.clone(), lock: self.lock.clone(), udt: self.udt.clone(), ..u.clone() };
             let verdict = original.as_mut().map_or(Verdict::Unreadable(1), |o| o.update(call.lent()));
             let (number, words, source) = expected(&verdict);
-            let (said, values) = call.call();
+            let (said, values) = library::with_words(|words| call.call(words));
             let mut wrong = None;
             if (said, values) != (number, words) {
                 wrong = Some(format!("update {k}: expected {number} {words:?} ({source:?}), the library says {said} {values:?}"));
@@ -136,7 +136,7 @@ impl Kind for Negotiation {
     type Input = Input;
     const NAME: &'static str = "negotiation";
     const NEEDS: &'static [&'static str] = &["basinpantry_update_for_peer"];
-    const SHARE: u64 = 100;
+    const SHARE: u64 = 80;
     fn make(rng: &mut Rng, _: u64) -> Input {
         let c = channel(rng);
         let start = in_force(rng, &c).map_or(vec![], |t| t.write());

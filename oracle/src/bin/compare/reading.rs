@@ -18,7 +18,7 @@ pub struct Input {
 }
 
 fn outcome(number: u32, what: &str, right: bool) -> Outcome {
-    Outcome { number, source: Source::Reader, wrong: (!right).then(|| format!("{what}: the library says {number}")) }
+    Outcome { number, source: Source::Reader, wrong: (!right).then(|| format!("{what}: the library answers {number} and differs")) }
 }
 
 pub struct Reading;
@@ -34,7 +34,7 @@ impl Reading {
         ];
         let test = |(name, test, layout): &(&str, Test, &L)| {
             let said = test(s);
-            outcome(said as u32, name, said == readable(layout, s))
+            outcome(0, name, said == readable(layout, s))
         };
         tests.iter().map(test).collect()
     }
@@ -113,7 +113,7 @@ impl Kind for Reading {
     const NAME: &'static str = "reading";
     const NEEDS: &'static [&'static str] =
         &["basinpantry_is_transaction", "basinpantry_is_script", "basinpantry_is_records", "basinpantry_is_out_points"];
-    const SHARE: u64 = 60;
+    const SHARE: u64 = 40;
     fn make(rng: &mut Rng, _: u64) -> Input {
         let u = any_update(rng).write();
         let inputs = Tx::read(&u.peer).unwrap().inputs;
@@ -148,6 +148,8 @@ impl Kind for Reading {
     }
 }
 
+const NO_ROOM: &str = "no line where the original has no such bound: room for under 105 bytes";
+
 /// Case files and their lines.
 pub struct CaseFile;
 
@@ -155,7 +157,7 @@ impl Kind for CaseFile {
     type Input = Vec<u8>;
     const NAME: &'static str = "case_file";
     const NEEDS: &'static [&'static str] = &["basinpantry_check_case"];
-    const SHARE: u64 = 30;
+    const SHARE: u64 = 20;
     fn make(rng: &mut Rng, _: u64) -> Vec<u8> {
         let plan = any_update(rng);
         let u = plan.write();
@@ -183,7 +185,13 @@ impl Kind for CaseFile {
         };
         let number = line[..n.min(120)].iter().take_while(|b| b.is_ascii_digit()).fold(0, |k, d| 10 * k + (d - b'0') as u32);
         let said = String::from_utf8_lossy(&line[..n.min(120)]).to_string();
-        vec![Outcome { number, source, wrong: (!right).then(|| format!("expected {expected:?}, the library says {said:?}")) }]
+        let mut short = [BYTE; 104];
+        let none = library::check_case(file, &mut short);
+        let kept = none == 0 && short.iter().all(|b| *b == BYTE);
+        vec![
+            Outcome { number, source, wrong: (!right).then(|| format!("expected {expected:?}, the library says {said:?}")) },
+            Outcome { number: 0, source: Source::Intended(NO_ROOM), wrong: (!kept).then(|| format!("room for 104 bytes: the library says {none}")) },
+        ]
     }
     fn smaller(file: &Vec<u8>) -> Vec<Vec<u8>> {
         smaller_bytes(file)

@@ -11,7 +11,7 @@ pub enum Source {
     /// The original says something else, or panics, and a rule of docs/DIFFERENCES.md says what is expected instead.
     Intended(&'static str),
     /// Nobody can be asked what the answer is: only that a refusal changes nothing is looked at.
-    Nobody(&'static str),
+    Unknown(&'static str),
 }
 
 /// Of one call.
@@ -32,7 +32,7 @@ pub struct Tally {
     reader: u64,
     numbers: BTreeMap<u32, u64>,
     intended: BTreeMap<&'static str, u64>,
-    nobody: BTreeMap<&'static str, u64>,
+    unknown: BTreeMap<&'static str, u64>,
 }
 
 impl Tally {
@@ -47,7 +47,7 @@ impl Tally {
             Source::Original => self.original += 1,
             Source::Reader => self.reader += 1,
             Source::Intended(name) => *self.intended.entry(name).or_default() += 1,
-            Source::Nobody(name) => *self.nobody.entry(name).or_default() += 1,
+            Source::Unknown(name) => *self.unknown.entry(name).or_default() += 1,
         }
     }
     /// The other's calls too.
@@ -58,27 +58,27 @@ impl Tally {
         self.reader += other.reader;
         other.numbers.iter().for_each(|(k, n)| *self.numbers.entry(*k).or_default() += n);
         other.intended.iter().for_each(|(k, n)| *self.intended.entry(k).or_default() += n);
-        other.nobody.iter().for_each(|(k, n)| *self.nobody.entry(k).or_default() += n);
+        other.unknown.iter().for_each(|(k, n)| *self.unknown.entry(k).or_default() += n);
     }
     pub fn head() {
-        let of = ["calls", "agree", "original", "reader", "intended", "nobody", "disagree"];
-        print!("{:<14}", "kind");
+        let of = ["calls", "agree", "original", "reader", "intended", "unknown", "disagree"];
+        print!("{:<17}", "kind");
         of.iter().for_each(|name| print!(" {name:>9}"));
         println!();
     }
     pub fn line(&self, kind: &str) {
-        let (intended, nobody) = (self.intended.values().sum(), self.nobody.values().sum());
-        let counts = [self.calls, self.original + self.reader, self.original, self.reader, intended, nobody, self.wrong];
-        print!("{kind:<14}");
+        let (intended, unknown) = (self.intended.values().sum(), self.unknown.values().sum());
+        let counts = [self.calls, self.original + self.reader, self.original, self.reader, intended, unknown, self.wrong];
+        print!("{kind:<17}");
         counts.iter().for_each(|n: &u64| print!(" {n:>9}"));
         println!();
     }
     pub fn numbers(&self, kind: &str) {
         let listed: Vec<String> = self.numbers.iter().map(|(k, n)| format!("{k}: {n}")).collect();
-        println!("{kind:<14} {}", listed.join(", "));
+        println!("{kind:<17} {}", listed.join(", "));
     }
     pub fn others(&self) {
         self.intended.iter().for_each(|(name, n)| println!("{n:>9}  intended: {name}"));
-        self.nobody.iter().for_each(|(name, n)| println!("{n:>9}  not compared: {name}"));
+        self.unknown.iter().for_each(|(name, n)| println!("{n:>9}  not compared: {name}"));
     }
 }

@@ -1,5 +1,5 @@
 //! Requests of our own side: the funding cell, the token pick, the base transaction.
-use crate::kind::Kind;
+use crate::kind::{all_of, Digits, Kind};
 use crate::library::{self, BYTE};
 use crate::parts::{bytes, damaged, dep, list, one_less, parts, point, sized_list, smaller_bytes, Tx};
 use crate::random::Rng;
@@ -425,11 +425,11 @@ macro_rules! requests {
         }
     };
 }
-requests!(FundingCell, "funding_cell", 40, "basinpantry_build_funding_cell", any_request, funding_cell);
+requests!(FundingCell, "funding_cell", 30, "basinpantry_build_funding_cell", any_request, funding_cell);
 requests!(
     TokenPick,
     "token_pick",
-    40,
+    30,
     "basinpantry_build_udt_inputs_outputs",
     |rng: &mut Rng| {
         let mut r = any_request(rng);
@@ -442,7 +442,7 @@ requests!(
 requests!(
     Base,
     "base",
-    60,
+    50,
     "basinpantry_build_base",
     |rng: &mut Rng| {
         let mut r = any_request(rng);
@@ -467,3 +467,34 @@ requests!(
     },
     base
 );
+
+/// Every base of up to three cells with four kinds of data, four wanted amounts, three present transactions, and deps that are supplied, missing or equal.
+pub struct SmallBase;
+all_of!(SmallBase, Base, "base_small", 40, 2 * 3 * 4 * 3 * 2 * 3 * (1 + 4 + 16 + 64), |n| {
+    let mut of = Digits(n);
+    let script = |code| crate::parts::script(code, 0, &[]);
+    let (lock, source, udt) = (script(1), script(3), of.pick(&[vec![], script(2)]));
+    let funded = Tx {
+        deps: vec![dep(1, 0)],
+        inputs: vec![crate::parts::input(9, 0)],
+        outputs: vec![crate::parts::Output::new(1, &lock, &udt); 2],
+        data: vec![vec![0; 16]],
+        ..Tx::default()
+    };
+    let ours = of.pick(&[vec![], Tx::default().write(), funded.write()]);
+    let local = of.pick(&[0, 1, 2, u128::MAX]);
+    let one = sized_list(&[dep(2, 0)]);
+    let udt_deps = of.pick(&[vec![], sized_list::<[u8; 37]>(&[]), one.clone()]);
+    let lock_dep = of.pick(&[vec![], dep(3, 0).to_vec()]);
+    let extra_deps = of.pick(&[sized_list::<[u8; 37]>(&[]), one, sized_list(&[dep(3, 0), dep(1, 0)])]);
+    // the number that is left, less those of shorter lists
+    let (mut rest, mut length) = (of.0, 0);
+    while rest >= 1 << (2 * length) {
+        rest -= 1 << (2 * length);
+        length += 1;
+    }
+    let mut of = Digits(rest);
+    let data = [vec![0; 16], 1u128.to_le_bytes().to_vec(), vec![255; 16], vec![1; 15]];
+    let cells: Vec<_> = (0..length).map(|i| list(&[point(i).to_vec(), bytes(&of.pick(&data))])).collect();
+    Input { ours, lock, udt, source, cells: list(&cells), udt_deps, lock_dep, extra_deps, local, room: 2_000, at_once: 1, ..Input::default() }
+});

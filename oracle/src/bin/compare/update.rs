@@ -1,7 +1,7 @@
 //! One update: `update_for_peer` here and there.
-use crate::kind::Kind;
+use crate::kind::{all_of, Kind};
 use crate::library;
-use crate::parts::{damaged, dep, input, smaller_bytes, Output, Tx};
+use crate::parts::{damaged, dep, input, list, one_less, parts, smaller_bytes, Output, Tx};
 use crate::random::Rng;
 use crate::report::{Outcome, Source};
 use crate::updates::{any_update, Plan, Update};
@@ -30,14 +30,12 @@ impl Update {
         Lent { peer, lock, udt, source, rate: *rate, records: read_records(records) }
     }
     /// The library's answer.
-    pub fn call(&self) -> (u32, [u64; 4]) {
-        library::with_words(|words| {
-            library::update_for_peer(&self.ours, &self.peer, &self.lock, &self.udt, &self.source, self.rate, &self.records, words)
-        })
+    pub fn call(&self, words: &mut [u64]) -> u32 {
+        library::update_for_peer(&self.ours, &self.peer, &self.lock, &self.udt, &self.source, self.rate, &self.records, words)
     }
     pub fn compare(&self) -> Outcome {
         let (number, words, source) = expected(&judge(&self.ours, self.lent()));
-        let (said, values) = self.call();
+        let (said, values) = library::with_words(|words| self.call(words));
         let differs = (said, values) != (number, words);
         Outcome {
             number: said,
@@ -50,6 +48,7 @@ impl Update {
         if let (Some(a), Some(b)) = (Tx::read(&self.ours), Tx::read(&self.peer)) {
             out.extend(both_smaller(&a, &b).into_iter().map(|(a, b)| Update { ours: a.write(), peer: b.write(), ..self.clone() }));
         }
+        out.extend(self.added_less());
         let fields: [fn(&mut Update) -> &mut Vec<u8>; 6] =
             [|u| &mut u.ours, |u| &mut u.peer, |u| &mut u.records, |u| &mut u.udt, |u| &mut u.lock, |u| &mut u.source];
         for field in fields {
@@ -63,6 +62,18 @@ impl Update {
             }
         }
         out
+    }
+    /// An added input less, with its record.
+    fn added_less(&self) -> Vec<Update> {
+        let shared = Tx::read(&self.ours).map_or(0, |t| t.inputs.len());
+        let (Some(peer), true) = (Tx::read(&self.peer), read_records(&self.records).is_some()) else { return vec![] };
+        let records = parts(&self.records);
+        let without = |(i, records): (usize, Vec<&[u8]>)| {
+            let mut peer = peer.clone();
+            (shared + i < peer.inputs.len()).then(|| peer.inputs.remove(shared + i));
+            Update { peer: peer.write(), records: list(&records), ..self.clone() }
+        };
+        one_less(&records).enumerate().map(without).collect()
     }
     pub fn show(&self) -> String {
         let Update { ours, peer, lock, udt, source, rate, records } = self;
@@ -90,18 +101,21 @@ fn both_smaller(a: &Tx, b: &Tx) -> Vec<(Tx, Tx)> {
 }
 
 macro_rules! updates {
-    ($name:ident, $text:expr, $share:expr, $all:expr, $make:expr) => {
+    ($name:ident, $text:expr, $share:expr, $make:expr) => {
         impl Kind for $name {
             type Input = Update;
             const NAME: &'static str = $text;
             const NEEDS: &'static [&'static str] = &["basinpantry_update_for_peer"];
             const SHARE: u64 = $share;
-            const ALL: Option<u64> = $all;
-            fn make(rng: &mut Rng, n: u64) -> Update {
-                $make(rng, n)
+            fn make(rng: &mut Rng, _: u64) -> Update {
+                $make(rng)
             }
             fn compare(input: &Update) -> Vec<Outcome> {
-                vec![input.compare()]
+                let mut out = vec![input.compare()];
+                if input.peer.len() % 64 == 0 {
+                    out.push(library::with_too_few_words(|words| input.call(words)));
+                }
+                out
             }
             fn smaller(input: &Update) -> Vec<Update> {
                 input.smaller()
@@ -115,11 +129,11 @@ macro_rules! updates {
 
 /// Good updates, and changed ones.
 pub struct Any;
-updates!(Any, "update", 250, None, |rng: &mut Rng, _| any_update(rng).write());
+updates!(Any, "update", 220, |rng: &mut Rng| any_update(rng).write());
 
 /// Updates with damaged bytes.
 pub struct Damaged;
-updates!(Damaged, "damaged", 150, None, |rng: &mut Rng, _| {
+updates!(Damaged, "update_damaged", 120, |rng: &mut Rng| {
     let mut u = any_update(rng).write();
     for _ in 0..rng.pick(&[1, 1, 1, 2]) {
         let field = match rng.below(10) {
@@ -137,7 +151,7 @@ updates!(Damaged, "damaged", 150, None, |rng: &mut Rng, _| {
 
 /// Every shape with none, one or two items in each list of ours and of the peer's; and with none, one or two items behind each list of ours.
 pub struct Small;
-updates!(Small, "small", 160, Some(APART + GROWN), |_: &mut Rng, n| small(n).write());
+all_of!(Small, Any, "update_small", 160, APART + GROWN, |n| small(n).write());
 
 /// Three lengths of each of five lists, or of each of four where there is one header dep.
 const FIVE: u64 = 243;

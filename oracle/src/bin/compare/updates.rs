@@ -93,7 +93,8 @@ pub fn in_force(rng: &mut Rng, c: &Channel) -> Option<Tx> {
     }
     let least = (kind > 5) as usize;
     if kind != 3 && kind != 5 {
-        t.inputs = (0..rng.between(least, 4)).map(|i| input(i as u32, 0)).collect();
+        let n = if rng.once_in(40) { rng.between(60, 80) } else { rng.between(least, 4) };
+        t.inputs = (0..n).map(|i| input(i as u32, 0)).collect();
     }
     if kind > 4 {
         let tokens = rng.tokens();
