@@ -15,6 +15,7 @@ const TRANSACTIONS: usize = 64;
 const OUT_POINTS: usize = 512;
 const OVER: &str = "15 where the original has no such bound: a 65th transaction or a 513th out point";
 const ROOM: &str = "13 where the original has no such bound: the buffer of apply";
+const TWICE: &str = "a table with a transaction's hash twice, which the original can't have";
 
 #[derive(Clone, Debug)]
 enum Call {
@@ -32,23 +33,24 @@ type Entry = (Hash, Option<u64>, Vec<Point>);
 
 #[derive(Clone, Debug)]
 pub struct Input {
-    start: Vec<Entry>,
+    start: Vec<u8>,
     calls: Vec<Call>,
 }
 
-/// The entries of a table, in order; none where an out point has no transaction above it.
-fn entries(table: &[u8]) -> Option<Vec<Entry>> {
+/// The entries of a table, in order. An out point without a transaction above it means nothing.
+fn entries(table: &[u8]) -> Vec<Entry> {
     let mut out: Vec<Entry> = vec![];
     for p in places(table) {
         let hash = p.point[..32].try_into().unwrap();
         match p.kind {
             0 => out.push((hash, None, vec![])),
             1 => out.push((hash, Some(p.number), vec![])),
-            _ => out.last_mut()?.2.push(p.point),
+            _ => out.iter_mut().last().into_iter().for_each(|e| e.2.push(p.point)),
         }
     }
-    Some(out)
+    out
 }
+/// None where a hash is entered twice.
 fn by_hash(list: &[Entry]) -> Option<Entries> {
     let map: Entries = list.iter().map(|(h, block, points)| (*h, (*block, points.clone()))).collect();
     (map.len() == list.len()).then_some(map)
@@ -134,14 +136,14 @@ impl Call {
             *table == before && out.untouched()
         } else if let Apply { .. } = self {
             // in the table's order
-            let in_table: Vec<Point> = entries(table).into_iter().flatten().flat_map(|e| e.2).collect();
+            let in_table: Vec<Point> = entries(table).into_iter().flat_map(|e| e.2).collect();
             *table == before && out.has(&in_table) && sorted(&in_table) == sorted(&map.apply())
         } else {
-            rest_kept(&before, table) && entries(table).and_then(|l| by_hash(&l)) == Some(map.entries())
+            rest_kept(&before, table) && by_hash(&entries(table)) == Some(map.entries())
         };
         let wrong = || {
             let shown = |e: &Entries| -> Vec<String> { e.iter().map(|(h, (b, p))| format!("{} {b:?} {}", hex(h), hex(&p.concat()))).collect() };
-            let there = entries(table).and_then(|l| by_hash(&l));
+            let there = by_hash(&entries(table));
             format!(
                 "{self:?}: expected {expected} ({source:?}), {:?}; the library says {number}, {:?}",
                 shown(&map.entries()),
@@ -150,6 +152,33 @@ impl Call {
         };
         Outcome { number, source, wrong: (number != expected || !right).then(wrong) }
     }
+    /// On a table that the original can't have: only that a refusal changes nothing.
+    fn call_alone(&self, table: &mut Vec<u8>) -> Outcome {
+        let before = table.clone();
+        let mut out = Buffer::new(if let Apply { room } = self { *room } else { 0 });
+        let number = self.library(table, &mut out);
+        let right = number == 0 || *table == before && out.untouched();
+        Outcome { number, source: Source::Unknown(TWICE), wrong: (!right).then(|| format!("{self:?}: {number}, and something has changed")) }
+    }
+}
+
+/// Places of any kind, and any count.
+fn odd_table(rng: &mut Rng) -> Vec<u8> {
+    let mut list = vec![];
+    for i in 0..rng.pick(&[1, 3, 20, 576]) {
+        let mut p = point(rng.below(30) as u32);
+        let kind = rng.pick(&[0, 1, 2, 2, 2, 3, u32::MAX]);
+        if kind < 2 {
+            p = [i as u8; 36];
+        }
+        list.push(Place { point: p, kind, number: rng.pick(&[0, 100, u64::MAX]) });
+    }
+    let mut t = table(rng, &list, BYTES);
+    if rng.once_in(3) {
+        let count = rng.pick(&[575u32, 576, 577, 1 << 31, u32::MAX]);
+        t[..4].copy_from_slice(&count.to_le_bytes());
+    }
+    t
 }
 
 /// A hash of a pool; of another length at times.
@@ -222,12 +251,17 @@ impl Kind for OfExclusions {
             now = now.saturating_add(rng.pick(&[0, 0, 1, 12, 13]));
             calls.push(any_call(rng, pool, now));
         }
+        let start = if rng.once_in(30) { odd_table(rng) } else { table_of(&start) };
         Input { start, calls }
     }
     fn compare(input: &Input) -> Vec<Outcome> {
-        let mut table = table_of(&input.start);
+        let mut table = input.start.clone();
+        let start = entries(&table);
+        if by_hash(&start).is_none() {
+            return input.calls.iter().take(3).map(|c| c.call_alone(&mut table)).collect();
+        }
         let mut map = Map::default();
-        for (hash, block, points) in &input.start {
+        for (hash, block, points) in &start {
             map.add(hash, &spending(points));
             block.iter().for_each(|b| map.commit(hash, *b));
         }
@@ -248,12 +282,14 @@ impl Kind for OfExclusions {
     }
     fn smaller(input: &Input) -> Vec<Input> {
         let mut out: Vec<Input> = one_less(&input.calls).map(|calls| Input { calls, ..input.clone() }).collect();
-        out.extend(one_less(&input.start).map(|start| Input { start, ..input.clone() }));
-        for (k, (hash, block, points)) in input.start.iter().enumerate() {
+        let start = entries(&input.start);
+        let with = |start: &[Entry]| Input { start: table_of(start), ..input.clone() };
+        out.extend(one_less(&start).map(|less| with(&less)));
+        for (k, (hash, block, points)) in start.iter().enumerate() {
             for less in one_less(points) {
-                let mut of = input.clone();
-                of.start[k] = (*hash, *block, less);
-                out.push(of);
+                let mut of = start.clone();
+                of[k] = (*hash, *block, less);
+                out.push(with(&of));
             }
         }
         for (k, c) in input.calls.iter().enumerate() {
@@ -274,14 +310,15 @@ impl Kind for OfExclusions {
     fn show(input: &Input) -> String {
         let entry = |(h, b, p): &Entry| format!("  entry {} {b:?} {}\n", hex(h), hex(&p.concat()));
         let call = |c: &Call| format!("  {c:?}\n");
-        input.start.iter().map(entry).chain(input.calls.iter().map(call)).collect()
+        let head = format!("  {} places, which are\n", places(&input.start).len());
+        [head].into_iter().chain(entries(&input.start).iter().map(entry)).chain(input.calls.iter().map(call)).collect()
     }
 }
 
 /// Every three calls one after the other on a map that is empty before them, over two hashes, four transactions (one of them none) and two blocks.
 pub struct Small;
 all_of!(Small, OfExclusions, "exclusions_small", 50, CALLS * CALLS * CALLS, |n| Input {
-    start: vec![],
+    start: vec![0; BYTES],
     calls: vec![small_call(n % CALLS), small_call(n / CALLS % CALLS), small_call(n / CALLS / CALLS)],
 });
 

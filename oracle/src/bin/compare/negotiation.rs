@@ -25,6 +25,13 @@ pub struct Input {
 
 pub struct Negotiation;
 
+/// An update of a lent list.
+fn read_update(b: &[u8]) -> Update {
+    let p = parts(b);
+    let (peer, records, source) = (p[0][4..].to_vec(), p[1][4..].to_vec(), p[2][4..].to_vec());
+    Update { peer, records, source, rate: u64::from_le_bytes(p[3].try_into().unwrap()), ..Update::default() }
+}
+
 /// A number of up to 192 bits.
 #[derive(Clone, Copy, Debug, Default, PartialEq)]
 struct Wide(u64, u128);
@@ -51,7 +58,7 @@ fn sums(m: Measure, start: &Tx, end: &Tx, surpluses: &[u128], kept: &[(Output, V
 }
 
 impl Input {
-    /// Each update with what was in force before it.
+    /// What is wrong with the sums, of the updates that were accepted and their surpluses.
     fn wrong_sums(&self, end: &[u8], accepted: &[(&Update, (u128, u128))]) -> Option<String> {
         if accepted.is_empty() {
             return (end != self.start).then(|| "nothing was accepted, and another transaction is in force".into());
@@ -74,35 +81,48 @@ impl Input {
         let update = |u: &Update| list(&[bytes(&u.peer), bytes(&u.records), bytes(&u.source), u.rate.to_le_bytes().to_vec()]);
         self.damaged.clone().unwrap_or_else(|| list(&self.updates.iter().map(update).collect::<Vec<_>>()))
     }
-    /// One call of `replay`, where the answers of the updates are known.
-    fn replay(&self, answers: &[(u32, [u64; 4])], at: usize) -> Outcome {
-        let updates = self.list();
-        let room = (5 * answers.len() + 1).saturating_sub(self.short);
-        let mut words = vec![u64::MAX; room];
-        let (number, values) = library::with_words(|v| library::replay(&self.start, &self.lock, &self.udt, &updates, &mut words, v));
-        let mut left = vec![u64::MAX; room];
-        let (expected, source) = if !readable(&UPDATES, &updates) {
-            ((3, [0; 4]), Source::Reader)
-        } else if self.damaged.is_some() {
-            // a list of other updates
-            return Outcome { number, source: Source::Unknown("replay of a damaged list that can still be read"), wrong: None };
-        } else if room < 5 * answers.len() {
-            ((13, [0; 4]), Source::Intended("13 where the original has no such bound: the answers of replay"))
-        } else {
-            for (k, (n, v)) in answers.iter().enumerate() {
-                left[5 * k] = *n as u64;
-                left[5 * k + 1..5 * k + 5].copy_from_slice(v);
-            }
-            let accepted = answers.iter().filter(|a| a.0 == 0).count();
-            ((0, [answers.len() as u64, accepted as u64, at as u64, 0]), Source::Original)
+    /// What the original says of a list of updates, and which transaction is then in force: 0 for the one at the start, k + 1 for that of update k.
+    fn judged(&self, updates: &[Update]) -> (Vec<Verdict>, usize) {
+        let mut in_force = InForce::read(&self.start);
+        let judge = |u: &Update| {
+            let call = Update { lock: self.lock.clone(), udt: self.udt.clone(), ..u.clone() };
+            in_force.as_mut().map_or(Verdict::Unreadable(1), |o| o.update(call.lent()))
         };
-        let differs = (number, values) != expected || words != left;
-        Outcome { number, source, wrong: differs.then(|| format!("replay: expected {expected:?}, the library says {number} {values:?}, {words:?}")) }
+        let verdicts: Vec<Verdict> = updates.iter().map(judge).collect();
+        let at = verdicts.iter().rposition(|v| matches!(v, Verdict::Accept(..))).map_or(0, |k| k + 1);
+        (verdicts, at)
+    }
+    /// One call of `replay`, over the list as it is lent.
+    fn replay(&self) -> Outcome {
+        let lent = self.list();
+        let updates = readable(&UPDATES, &lent).then(|| parts(&lent).into_iter().map(read_update).collect::<Vec<_>>());
+        let count = updates.as_ref().map_or(0, Vec::len);
+        let room = (5 * count + 1).saturating_sub(self.short);
+        let mut words = vec![u64::MAX; room];
+        let (number, values) = library::with_words(|v| library::replay(&self.start, &self.lock, &self.udt, &lent, &mut words, v));
+        let mut left = vec![u64::MAX; room];
+        let (wanted, source) = match updates {
+            None => ((3, [0; 4]), Source::Reader),
+            Some(_) if room < 5 * count => ((13, [0; 4]), Source::Intended("13 where the original has no such bound: the answers of replay")),
+            Some(updates) => {
+                let (verdicts, at) = self.judged(&updates);
+                for (k, v) in verdicts.iter().enumerate() {
+                    let (n, values, _) = expected(v);
+                    left[5 * k] = n as u64;
+                    left[5 * k + 1..5 * k + 5].copy_from_slice(&values);
+                }
+                let accepted = verdicts.iter().filter(|v| matches!(v, Verdict::Accept(..))).count();
+                ((0, [count as u64, accepted as u64, at as u64, 0]), Source::Original)
+            }
+        };
+        let differs = (number, values) != wanted || words != left;
+        let wrong = || format!("replay: expected {wanted:?} {left:?}, the library says {number} {values:?} {words:?}");
+        Outcome { number, source, wrong: differs.then(wrong) }
     }
     fn calls(&self) -> Vec<Outcome> {
         let mut original = InForce::read(&self.start);
-        let (mut here, mut at) = (&self.start, 0);
-        let (mut out, mut answers, mut accepted) = (vec![], vec![], vec![]);
+        let mut here = &self.start;
+        let (mut out, mut accepted) = (vec![], vec![]);
         for (k, u) in self.updates.iter().enumerate() {
             let call = Update { ours: here.clone(), lock: self.lock.clone(), udt: self.udt.clone(), ..u.clone() };
             let verdict = original.as_mut().map_or(Verdict::Unreadable(1), |o| o.update(call.lent()));
@@ -114,19 +134,18 @@ impl Input {
             }
             if let Verdict::Accept(c, t) = verdict {
                 accepted.push((u, (c, t)));
-                (here, at) = (&u.peer, k + 1);
+                here = &u.peer;
             }
             if original.as_ref().is_some_and(|o| o.bytes() != *here) {
                 wrong = Some(format!("update {k}: another transaction is in force"));
             }
-            answers.push((said, values));
             out.push(Outcome { number: said, source, wrong });
         }
         if let (Some(wrong), Some(last)) = (self.wrong_sums(here, &accepted), out.last_mut()) {
             last.wrong = Some(wrong);
         }
         if !MISSING.contains(&"basinpantry_replay") && out.iter().all(|o| o.wrong.is_none()) {
-            out.push(self.replay(&answers, at));
+            out.push(self.replay());
         }
         out
     }
@@ -139,7 +158,11 @@ impl Kind for Negotiation {
     const SHARE: u64 = 80;
     fn make(rng: &mut Rng, _: u64) -> Input {
         let c = channel(rng);
-        let start = in_force(rng, &c).map_or(vec![], |t| t.write());
+        let mut start = in_force(rng, &c);
+        if rng.once_in(30) {
+            start.iter_mut().for_each(|t| t.data.clear());
+        }
+        let start = start.map_or(vec![], |t| t.write());
         let start = if rng.once_in(60) { damaged(rng, &start) } else { start };
         let mut now = InForce::read(&start).unwrap_or_default();
         let (mut updates, mut older) = (vec![], Tx::read(&start));

@@ -185,13 +185,15 @@ impl Kind for CaseFile {
         };
         let number = line[..n.min(120)].iter().take_while(|b| b.is_ascii_digit()).fold(0, |k, d| 10 * k + (d - b'0') as u32);
         let said = String::from_utf8_lossy(&line[..n.min(120)]).to_string();
-        let mut short = [BYTE; 104];
-        let none = library::check_case(file, &mut short);
-        let kept = none == 0 && short.iter().all(|b| *b == BYTE);
-        vec![
-            Outcome { number, source, wrong: (!right).then(|| format!("expected {expected:?}, the library says {said:?}")) },
-            Outcome { number: 0, source: Source::Intended(NO_ROOM), wrong: (!kept).then(|| format!("room for 104 bytes: the library says {none}")) },
-        ]
+        let mut out = vec![Outcome { number, source, wrong: (!right).then(|| format!("expected {expected:?}, the library says {said:?}")) }];
+        if file.len() % 64 == 0 {
+            let mut short = [BYTE; 104];
+            let none = library::check_case(file, &mut short);
+            let kept = none == 0 && short.iter().all(|b| *b == BYTE);
+            let wrong = (!kept).then(|| format!("room for 104 bytes: the library says {none}"));
+            out.push(Outcome { number: 0, source: Source::Intended(NO_ROOM), wrong });
+        }
+        out
     }
     fn smaller(file: &Vec<u8>) -> Vec<Vec<u8>> {
         smaller_bytes(file)
