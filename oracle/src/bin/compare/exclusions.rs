@@ -107,6 +107,14 @@ impl Call {
             Apply { .. } => library::exclusions_apply(table, &mut out.0),
         }
     }
+    /// Whether it enters a transaction; a table that is lent may be over a bound before.
+    fn enters(&self, map: &Map) -> bool {
+        match self {
+            Add { tx, .. } => !tx.is_empty(),
+            Migrate { old, tx, .. } => !tx.is_empty() && as_hash(old).is_some_and(|h| map.entries().contains_key(&h)),
+            _ => false,
+        }
+    }
     fn expected(&self, map: &mut Map, length: usize) -> (u32, Source) {
         if length != BYTES {
             return (3, Source::Reader);
@@ -121,7 +129,8 @@ impl Call {
             }
         }
         let entries = after.entries();
-        if entries.len() > TRANSACTIONS || entries.values().map(|e| e.1.len()).sum::<usize>() > OUT_POINTS {
+        let over = entries.len() > TRANSACTIONS || entries.values().map(|e| e.1.len()).sum::<usize>() > OUT_POINTS;
+        if over && self.enters(map) {
             return (15, Source::Intended(OVER));
         }
         *map = after;
@@ -310,7 +319,9 @@ impl Kind for OfExclusions {
     fn show(input: &Input) -> String {
         let entry = |(h, b, p): &Entry| format!("  entry {} {b:?} {}\n", hex(h), hex(&p.concat()));
         let call = |c: &Call| format!("  {c:?}\n");
-        let head = format!("  {} places, which are\n", places(&input.start).len());
+        let stand = places(&input.start).len();
+        let whole = hex(&input.start[..4 + 48 * stand]);
+        let head = if table_of(&entries(&input.start)) == input.start { String::new() } else { format!("  table {whole}, which is\n") };
         [head].into_iter().chain(entries(&input.start).iter().map(entry)).chain(input.calls.iter().map(call)).collect()
     }
 }

@@ -101,7 +101,7 @@ fn both_smaller(a: &Tx, b: &Tx) -> Vec<(Tx, Tx)> {
 }
 
 macro_rules! updates {
-    ($name:ident, $text:expr, $share:expr, $make:expr) => {
+    ($name:ident, $text:expr, $share:expr, $make:expr, $compare:expr) => {
         impl Kind for $name {
             type Input = Update;
             const NAME: &'static str = $text;
@@ -111,11 +111,7 @@ macro_rules! updates {
                 $make(rng)
             }
             fn compare(input: &Update) -> Vec<Outcome> {
-                let mut out = vec![input.compare()];
-                if input.peer.len() % 64 == 0 {
-                    out.push(library::with_too_few_words(|words| input.call(words)));
-                }
-                out
+                $compare(input)
             }
             fn smaller(input: &Update) -> Vec<Update> {
                 input.smaller()
@@ -129,11 +125,19 @@ macro_rules! updates {
 
 /// Good updates, and changed ones.
 pub struct Any;
-updates!(Any, "update", 220, |rng: &mut Rng| any_update(rng).write());
+updates!(Any, "update", 220, |rng: &mut Rng| any_update(rng).write(), |u: &Update| vec![u.compare()]);
 
-/// Updates with damaged bytes.
+/// Updates with damaged bytes; at times with too few words for the values.
 pub struct Damaged;
-updates!(Damaged, "update_damaged", 120, |rng: &mut Rng| {
+updates!(Damaged, "update_damaged", 120, damaged_update, |u: &Update| {
+    let mut out = vec![u.compare()];
+    if u.peer.len() % 64 == 0 {
+        out.push(library::with_too_few_words(|words| u.call(words)));
+    }
+    out
+});
+
+fn damaged_update(rng: &mut Rng) -> Update {
     let mut u = any_update(rng).write();
     for _ in 0..rng.pick(&[1, 1, 1, 2]) {
         let field = match rng.below(10) {
@@ -147,7 +151,7 @@ updates!(Damaged, "update_damaged", 120, |rng: &mut Rng| {
         *field = damaged(rng, field);
     }
     u
-});
+}
 
 /// Every shape with none, one or two items in each list of ours and of the peer's; and with none, one or two items behind each list of ours.
 pub struct Small;
