@@ -186,7 +186,7 @@ impl Kind for CaseFile {
         let number = line[..n.min(120)].iter().take_while(|b| b.is_ascii_digit()).fold(0, |k, d| 10 * k + (d - b'0') as u32);
         let said = String::from_utf8_lossy(&line[..n.min(120)]).to_string();
         let mut out = vec![Outcome { number, source, wrong: (!right).then(|| format!("expected {expected:?}, the library says {said:?}")) }];
-        if file.len() % 64 == 0 {
+        if file.len().is_multiple_of(64) {
             let mut short = [BYTE; 104];
             let none = library::check_case(file, &mut short);
             let kept = none == 0 && short.iter().all(|b| *b == BYTE);

@@ -131,7 +131,7 @@ updates!(Any, "update", 220, |rng: &mut Rng| any_update(rng).write(), |u: &Updat
 pub struct Damaged;
 updates!(Damaged, "update_damaged", 120, damaged_update, |u: &Update| {
     let mut out = vec![u.compare()];
-    if u.peer.len() % 64 == 0 {
+    if u.peer.len().is_multiple_of(64) {
         out.push(library::with_too_few_words(|words| u.call(words)));
     }
     out
