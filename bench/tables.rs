@@ -1,6 +1,6 @@
 //! Times `take` here and in the original, in turns: see bench/tables.
-use crate::ckb::held_cells::{self as original, probe, Taker};
-use crate::standins::packed::OutPoint;
+use oracle::original::{holds as original, Point};
+use oracle::standins::packed::OutPoint;
 use std::collections::HashSet;
 use std::hint::black_box;
 use std::time::Instant;
@@ -84,7 +84,7 @@ fn take(cells: &[u8], picks: &[u8], spent: &[u8], taken: &mut [u8], refused: &mu
     });
 }
 
-pub fn run() {
+fn main() {
     println!("{:<40} {:>9} {:>12} {:>6}", "", "here (us)", "original (us)", "ratio");
     let cases = [
         ("256 records, 64 picks, all held", 256u32, 0..64u32),
@@ -96,7 +96,8 @@ pub fn run() {
         let picked: Vec<_> = picks.map(point).collect();
         let (cell_list, pick_list, none) = (list(&cells), list(&picked), list(&[]));
         let (mut taken, mut refused) = (vec![0u8; 4 + 36 * 64], vec![0u8; 4 + 36 * 64]);
-        let (cells, picked, spent) = (parsed(&cells), parsed(&picked), HashSet::new());
+        let cells: Vec<Point> = cells.iter().map(|p| p[..].try_into().unwrap()).collect();
+        let (picked, spent) = (parsed(&picked), HashSet::new());
         let (mut hold, mut hold_and_take, mut theirs) = (f64::MAX, f64::MAX, f64::MAX);
         for _ in 0..300 {
             let rounds = 20;
@@ -112,11 +113,11 @@ pub fn run() {
             }
             hold_and_take = hold_and_take.min(start.elapsed().as_secs_f64() / rounds as f64);
             for _ in 0..rounds {
-                probe::reset();
-                original::hold_funding(1, cells.clone());
+                original::reset();
+                original::hold_funding(1, &cells);
                 let picks = picked.clone();
                 let start = Instant::now();
-                black_box(original::take(picks, &spent, Taker::Funding(2), 5));
+                black_box(original::take_parsed(picks, &spent, Some(2), 5));
                 theirs = theirs.min(start.elapsed().as_secs_f64());
             }
         }

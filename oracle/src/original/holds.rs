@@ -1,7 +1,8 @@
 //! The original's table of holds. There is one for each process, behind a lock.
 use super::{plain, point, Point};
 use crate::ckb::{funding::funding_tx::probe::Lent, held_cells as held};
-use std::collections::{BTreeMap, BTreeSet};
+use crate::standins::packed::OutPoint;
+use std::collections::{BTreeMap, BTreeSet, HashSet};
 
 /// Its records: what each holder holds, in order, and the watchtower's cells with their ends.
 #[derive(Clone, Debug, Default, PartialEq)]
@@ -15,7 +16,7 @@ impl Holds {
     }
 }
 
-fn points(cells: &[Point]) -> Vec<crate::standins::packed::OutPoint> {
+fn points(cells: &[Point]) -> Vec<OutPoint> {
     cells.iter().map(point).collect()
 }
 
@@ -44,9 +45,12 @@ pub fn release_for_watchtower(cells: &[Point]) {
 }
 /// For the funding of a holder, or for the watchtower (none): the cells taken, and those refused.
 pub fn take(picked: &[Point], spent: &[Point], holder: Option<u64>, now: u64) -> (Vec<Point>, Vec<Point>) {
-    let taker = holder.map_or(held::Taker::Watchtower, held::Taker::Funding);
-    let (taken, refused) = held::take(points(picked), &points(spent).into_iter().collect(), taker, now);
+    let (taken, refused) = take_parsed(points(picked), &points(spent).into_iter().collect(), holder, now);
     (taken.iter().map(plain).collect(), refused.iter().map(plain).collect())
+}
+/// The same from lists that are parsed already.
+pub fn take_parsed(picked: Vec<OutPoint>, spent: &HashSet<OutPoint>, holder: Option<u64>, now: u64) -> (Vec<OutPoint>, Vec<OutPoint>) {
+    held::take(picked, spent, holder.map_or(held::Taker::Watchtower, held::Taker::Funding), now)
 }
 /// Without order: the original answers with a set.
 pub fn unavailable(picked: &[Point], spent: &[Point], now: u64) -> BTreeSet<Point> {
