@@ -1,0 +1,270 @@
+//! Case files: an update with everything that decides it.
+use crate::cells::record;
+use crate::molecule;
+use crate::refusal::Refusal;
+use crate::update::{Accepted, Update, update_for_peer};
+use std::fmt;
+
+/// The longest case file that is judged.
+pub const MAX_CASE_BYTES: usize = 65_536;
+
+/// The cell that an added input spends, as a case file has it: the bytes of its output, which may be anything, and its data.
+///
+/// ```
+/// let record = basinpantry::CaseRecord { output: basinpantry::CellOutput::default().to_bytes(), data: vec![] };
+/// assert_eq!(record.output.len(), 77);
+/// ```
+#[derive(Clone, Debug, Default, PartialEq, Eq, Hash)]
+pub struct CaseRecord {
+    /// The bytes of the output.
+    pub output: Vec<u8>,
+    /// The data.
+    pub data: Vec<u8>,
+}
+
+/// What a case file holds. The parts are any bytes: whether they are transactions and scripts is judged.
+///
+/// The file is a sequence of items: a 32-bit word (top 4 bits the kind, low 28 the length, little-endian), then the body, padded with zeros to 4 bytes. In
+/// order: 1 our transaction (may be missing), 2 the peer's, 3 the expected funding lock, 4 the expected token type (may be missing), 5 our source lock, 6 the fee
+/// rate (8 bytes), and for each added input 7 the output and 8 the data of the cell that it spends, or 9 (length 0) where that cell is not live.
+///
+/// ```
+/// use basinpantry::*;
+///
+/// let case = CaseFile { lock: Script::default().to_bytes(), rate: 1000, records: vec![None], ..CaseFile::default() };
+/// let bytes = case.to_bytes().unwrap();
+/// assert_eq!(bytes[..4], [0, 0, 0, 0x20]);
+/// assert_eq!(CaseFile::from_bytes(&bytes), Ok(case));
+/// ```
+#[derive(Clone, Debug, Default, PartialEq, Eq, Hash)]
+pub struct CaseFile {
+    /// Our transaction in force; no bytes: none.
+    pub ours: Vec<u8>,
+    /// The peer's transaction.
+    pub peer: Vec<u8>,
+    /// The expected funding lock.
+    pub lock: Vec<u8>,
+    /// The expected token type; no bytes: untyped.
+    pub udt: Vec<u8>,
+    /// Our source lock.
+    pub source: Vec<u8>,
+    /// The fee rate, in shannons per 1000 bytes.
+    pub rate: u64,
+    /// For each input that the peer added its cell; none where that is not live.
+    pub records: Vec<Option<CaseRecord>>,
+}
+
+/// Where and why bytes are no case file.
+///
+/// ```
+/// let why = basinpantry::CaseFile::from_bytes(&[0; 8]).unwrap_err();
+/// assert_eq!(why.to_string(), "byte 0: an item of kind 2 (the peer's transaction) is expected here, and this is of kind 0");
+/// ```
+#[derive(Clone, Debug, PartialEq, Eq)]
+pub struct CaseError {
+    /// The place in the file, or its length where something is missing at the end.
+    pub at: usize,
+    message: String,
+}
+
+impl fmt::Display for CaseError {
+    fn fmt(&self, f: &mut fmt::Formatter<'_>) -> fmt::Result {
+        write!(f, "byte {}: {}", self.at, self.message)
+    }
+}
+
+impl std::error::Error for CaseError {}
+
+/// What stands in an item of a kind.
+fn kind_name(kind: u32) -> &'static str {
+    match kind {
+        1 => "our transaction",
+        2 => "the peer's transaction",
+        3 => "the expected funding lock",
+        4 => "the expected token type",
+        5 => "our source lock",
+        6 => "the fee rate",
+        7 => "the output of a cell",
+        8 => "the data of a cell",
+        9 => "a cell that is not live",
+        _ => "no kind of item",
+    }
+}
+
+/// Goes through the items of a file.
+struct Items<'a> {
+    file: &'a [u8],
+    at: usize,
+}
+
+impl<'a> Items<'a> {
+    fn fail<T>(&self, at: usize, message: impl Into<String>) -> Result<T, CaseError> {
+        Err(CaseError { at, message: message.into() })
+    }
+
+    /// The kind and length of the item here; none at the end of the file.
+    fn word(&self) -> Result<Option<(u32, usize)>, CaseError> {
+        let rest = &self.file[self.at..];
+        if rest.is_empty() {
+            return Ok(None);
+        }
+        match rest.first_chunk::<4>() {
+            Some(word) => {
+                let word = u32::from_le_bytes(*word);
+                Ok(Some((word >> 28, (word & 0x0fff_ffff) as usize)))
+            }
+            None => self.fail(self.at, "an item begins with a word of 4 bytes, and the file ends within it"),
+        }
+    }
+
+    /// The body of the next item if it is of this kind; else nothing is passed.
+    fn optional(&mut self, kind: u32) -> Result<Option<&'a [u8]>, CaseError> {
+        let file = self.file;
+        let Some((found, length)) = self.word()? else { return Ok(None) };
+        if found != kind {
+            return Ok(None);
+        }
+        // no sum here is above 2^28 more than the file's length
+        let (start, end) = (self.at + 4, self.at + 4 + length);
+        let padded = end.next_multiple_of(4);
+        let Some(body) = file.get(start..end) else {
+            return self.fail(
+                self.at,
+                format!(
+                    "{} has a length of {length} bytes, and the file ends {} bytes after its word",
+                    kind_name(kind),
+                    file.len() - start
+                ),
+            );
+        };
+        match file.get(end..padded) {
+            Some(padding) if padding.iter().all(|b| *b == 0) => {
+                self.at = padded;
+                Ok(Some(body))
+            }
+            Some(_) => self.fail(end, "the padding to 4 bytes is not zero"),
+            None => self.fail(file.len(), "the padding to 4 bytes is missing"),
+        }
+    }
+
+    /// The body of the next item, which has to be of this kind.
+    fn required(&mut self, kind: u32) -> Result<&'a [u8], CaseError> {
+        let at = self.at;
+        if let Some(body) = self.optional(kind)? {
+            return Ok(body);
+        }
+        let expected = format!("an item of kind {kind} ({}) is expected here, and ", kind_name(kind));
+        match self.word()? {
+            Some((found, _)) => self.fail(at, format!("{expected}this is of kind {found}")),
+            None => self.fail(at, format!("{expected}the file ends")),
+        }
+    }
+}
+
+impl CaseFile {
+    /// What a case file holds. A file of more than 65,536 bytes is read all the same, though it is not judged.
+    ///
+    /// ```
+    /// let why = basinpantry::CaseFile::from_bytes(b"").unwrap_err();
+    /// assert_eq!(why.at, 0);
+    /// ```
+    pub fn from_bytes(file: &[u8]) -> Result<CaseFile, CaseError> {
+        let mut items = Items { file, at: 0 };
+        let ours = items.optional(1)?.unwrap_or_default().to_vec();
+        let peer = items.required(2)?.to_vec();
+        let lock = items.required(3)?.to_vec();
+        let udt = items.optional(4)?.unwrap_or_default().to_vec();
+        let source = items.required(5)?.to_vec();
+        let at = items.at;
+        let Ok(rate) = items.required(6)?.try_into() else { return items.fail(at, "the fee rate is 8 bytes") };
+        let mut records = Vec::new();
+        while items.at < file.len() {
+            let at = items.at;
+            if let Some(body) = items.optional(9)? {
+                if !body.is_empty() {
+                    return items.fail(at, "a cell that is not live has no bytes");
+                }
+                records.push(None);
+            } else {
+                let output = items.required(7)?.to_vec();
+                let data = items.required(8)?.to_vec();
+                records.push(Some(CaseRecord { output, data }));
+            }
+        }
+        Ok(CaseFile { ours, peer, lock, udt, source, rate: u64::from_le_bytes(rate), records })
+    }
+
+    /// The case file's bytes; none where a part has 2^28 bytes or more, which no item can.
+    ///
+    /// ```
+    /// assert_eq!(basinpantry::CaseFile::default().to_bytes().map(|s| s.len()), Some(24));
+    /// ```
+    pub fn to_bytes(&self) -> Option<Vec<u8>> {
+        fn put(out: &mut Vec<u8>, kind: u32, body: &[u8]) -> Option<()> {
+            let length = u32::try_from(body.len()).ok().filter(|n| *n < 1 << 28)?;
+            out.extend((kind << 28 | length).to_le_bytes());
+            out.extend(body);
+            out.resize(out.len().next_multiple_of(4), 0);
+            Some(())
+        }
+        let mut out = Vec::new();
+        if !self.ours.is_empty() {
+            put(&mut out, 1, &self.ours)?;
+        }
+        put(&mut out, 2, &self.peer)?;
+        put(&mut out, 3, &self.lock)?;
+        if !self.udt.is_empty() {
+            put(&mut out, 4, &self.udt)?;
+        }
+        put(&mut out, 5, &self.source)?;
+        put(&mut out, 6, &self.rate.to_le_bytes())?;
+        for record in &self.records {
+            match record {
+                Some(record) => {
+                    put(&mut out, 7, &record.output)?;
+                    put(&mut out, 8, &record.data)?;
+                }
+                None => put(&mut out, 9, &[])?,
+            }
+        }
+        Some(out)
+    }
+
+    /// The records as the list that an update lends.
+    ///
+    /// ```
+    /// assert_eq!(basinpantry::CaseFile::default().records_bytes(), [4, 0, 0, 0]);
+    /// ```
+    pub fn records_bytes(&self) -> Vec<u8> {
+        let items: Vec<Vec<u8>> = self
+            .records
+            .iter()
+            .map(|cell| match cell {
+                Some(cell) => record(&cell.output, &cell.data),
+                None => Vec::new(),
+            })
+            .collect();
+        molecule::table(&items)
+    }
+
+    /// Judges the update that it holds ([`update_for_peer`]).
+    ///
+    /// ```
+    /// assert_eq!(basinpantry::CaseFile::default().judge(), Err(basinpantry::Refusal::PeerTransactionUnreadable));
+    /// ```
+    pub fn judge(&self) -> Result<Accepted, Refusal> {
+        let records = self.records_bytes();
+        let Update { peer, records, source, rate } = self.update(&records);
+        update_for_peer(&self.ours, peer, &self.lock, &self.udt, source, rate, records)
+    }
+
+    /// The update that it holds, over its list of records.
+    ///
+    /// ```
+    /// let case = basinpantry::CaseFile { rate: 7, ..Default::default() };
+    /// assert_eq!(case.update(&case.records_bytes()).rate, 7);
+    /// ```
+    pub fn update<'a>(&'a self, records: &'a [u8]) -> Update<'a> {
+        Update { peer: &self.peer, records, source: &self.source, rate: self.rate }
+    }
+}

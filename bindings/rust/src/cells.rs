@@ -1,0 +1,289 @@
+//! Cells and the parts of a transaction (RFC 0019), as Rust values.
+use crate::molecule;
+use std::fmt;
+
+/// Which output of which transaction: the name of a cell.
+///
+/// ```
+/// use basinpantry::OutPoint;
+///
+/// let point = OutPoint { tx_hash: [0xab; 32], index: 3 };
+/// assert_eq!(point.to_string(), format!("0x{}:3", "ab".repeat(32)));
+/// assert_eq!(OutPoint::from_bytes(&point.to_bytes()), Some(point));
+/// ```
+#[derive(Clone, Copy, Debug, Default, PartialEq, Eq, PartialOrd, Ord, Hash)]
+pub struct OutPoint {
+    /// The hash of the transaction.
+    pub tx_hash: [u8; 32],
+    /// The place among its outputs.
+    pub index: u32,
+}
+
+impl OutPoint {
+    /// Its 36 bytes.
+    ///
+    /// ```
+    /// assert_eq!(basinpantry::OutPoint { tx_hash: [7; 32], index: 258 }.to_bytes()[31..], [7, 2, 1, 0, 0]);
+    /// ```
+    pub fn to_bytes(&self) -> [u8; 36] {
+        let mut out = [0; 36];
+        out[..32].copy_from_slice(&self.tx_hash);
+        out[32..].copy_from_slice(&self.index.to_le_bytes());
+        out
+    }
+
+    /// The out point of 36 bytes; none of any other count.
+    ///
+    /// ```
+    /// assert_eq!(basinpantry::OutPoint::from_bytes(&[0; 36]), Some(basinpantry::OutPoint::default()));
+    /// assert_eq!(basinpantry::OutPoint::from_bytes(&[0; 35]), None);
+    /// ```
+    pub fn from_bytes(s: &[u8]) -> Option<OutPoint> {
+        let s: &[u8; 36] = s.try_into().ok()?;
+        let (tx_hash, index) = s.split_at(32);
+        Some(OutPoint { tx_hash: tx_hash.try_into().ok()?, index: u32::from_le_bytes(index.try_into().ok()?) })
+    }
+}
+
+impl fmt::Display for OutPoint {
+    fn fmt(&self, f: &mut fmt::Formatter<'_>) -> fmt::Result {
+        f.write_str("0x")?;
+        for b in self.tx_hash {
+            write!(f, "{b:02x}")?;
+        }
+        write!(f, ":{}", self.index)
+    }
+}
+
+/// A script: a cell's lock, or its type.
+///
+/// ```
+/// use basinpantry::{Script, is_script};
+///
+/// let lock = Script { code_hash: [1; 32], hash_type: 1, args: vec![2; 20] };
+/// assert!(is_script(&lock.to_bytes()));
+/// assert_eq!(Script::from_bytes(&lock.to_bytes()), Some(lock));
+/// ```
+#[derive(Clone, Debug, Default, PartialEq, Eq, Hash)]
+pub struct Script {
+    /// The hash by which the code is found.
+    pub code_hash: [u8; 32],
+    /// How it is found: in CKB data is 0, type 1, data1 2 and data2 4. Any byte is read and written.
+    pub hash_type: u8,
+    /// What the script is run on.
+    pub args: Vec<u8>,
+}
+
+impl Script {
+    /// Its bytes (RFC 0008).
+    ///
+    /// ```
+    /// assert_eq!(basinpantry::Script::default().to_bytes().len(), 53);
+    /// ```
+    pub fn to_bytes(&self) -> Vec<u8> {
+        molecule::table(&[&self.code_hash[..], &[self.hash_type], &molecule::bytes(&self.args)])
+    }
+
+    /// The script of these bytes, if they are one.
+    ///
+    /// ```
+    /// assert_eq!(basinpantry::Script::from_bytes(b"no script"), None);
+    /// ```
+    pub fn from_bytes(s: &[u8]) -> Option<Script> {
+        let [code_hash, hash_type, args] = molecule::parts(s)?.try_into().ok()?;
+        let [hash_type] = hash_type.try_into().ok()?;
+        Some(Script { code_hash: code_hash.try_into().ok()?, hash_type, args: molecule::content(args)?.to_vec() })
+    }
+}
+
+/// An output: a cell without its data.
+///
+/// ```
+/// use basinpantry::{CellOutput, Script};
+///
+/// let output = CellOutput { capacity: 10_000_000_000, lock: Script::default(), type_: None };
+/// assert_eq!(CellOutput::from_bytes(&output.to_bytes()), Some(output));
+/// ```
+#[derive(Clone, Debug, Default, PartialEq, Eq, Hash)]
+pub struct CellOutput {
+    /// In shannons.
+    pub capacity: u64,
+    /// Who may spend it.
+    pub lock: Script,
+    /// The type script; none where it is untyped.
+    pub type_: Option<Script>,
+}
+
+impl CellOutput {
+    /// Its bytes (RFC 0008).
+    ///
+    /// ```
+    /// assert_eq!(basinpantry::CellOutput::default().to_bytes().len(), 77);
+    /// ```
+    pub fn to_bytes(&self) -> Vec<u8> {
+        let type_ = self.type_.as_ref().map(Script::to_bytes).unwrap_or_default();
+        molecule::table(&[&self.capacity.to_le_bytes()[..], &self.lock.to_bytes(), &type_])
+    }
+
+    /// The output of these bytes, if they are one.
+    ///
+    /// ```
+    /// assert_eq!(basinpantry::CellOutput::from_bytes(&[]), None);
+    /// ```
+    pub fn from_bytes(s: &[u8]) -> Option<CellOutput> {
+        let [capacity, lock, type_] = molecule::parts(s)?.try_into().ok()?;
+        let type_ = if type_.is_empty() { None } else { Some(Script::from_bytes(type_)?) };
+        Some(CellOutput { capacity: u64::from_le_bytes(capacity.try_into().ok()?), lock: Script::from_bytes(lock)?, type_ })
+    }
+}
+
+/// An input: which cell is spent.
+///
+/// ```
+/// use basinpantry::CellInput;
+///
+/// let input = CellInput { since: 7, ..CellInput::default() };
+/// assert_eq!(CellInput::from_bytes(&input.to_bytes()), Some(input));
+/// ```
+#[derive(Clone, Copy, Debug, Default, PartialEq, Eq, Hash)]
+pub struct CellInput {
+    /// Since when it may be spent (RFC 0017).
+    pub since: u64,
+    /// The cell.
+    pub previous_output: OutPoint,
+}
+
+impl CellInput {
+    /// Its 44 bytes.
+    ///
+    /// ```
+    /// assert_eq!(basinpantry::CellInput { since: 258, ..Default::default() }.to_bytes()[..3], [2, 1, 0]);
+    /// ```
+    pub fn to_bytes(&self) -> [u8; 44] {
+        let mut out = [0; 44];
+        out[..8].copy_from_slice(&self.since.to_le_bytes());
+        out[8..].copy_from_slice(&self.previous_output.to_bytes());
+        out
+    }
+
+    /// The input of 44 bytes; none of any other count.
+    ///
+    /// ```
+    /// assert_eq!(basinpantry::CellInput::from_bytes(&[0; 43]), None);
+    /// ```
+    pub fn from_bytes(s: &[u8]) -> Option<CellInput> {
+        let s: &[u8; 44] = s.try_into().ok()?;
+        let (since, point) = s.split_at(8);
+        Some(CellInput { since: u64::from_le_bytes(since.try_into().ok()?), previous_output: OutPoint::from_bytes(point)? })
+    }
+}
+
+/// A cell dep: a cell whose data a script needs.
+///
+/// ```
+/// use basinpantry::CellDep;
+///
+/// let dep = CellDep { dep_type: 1, ..CellDep::default() };
+/// assert_eq!(CellDep::from_bytes(&dep.to_bytes()), Some(dep));
+/// ```
+#[derive(Clone, Copy, Debug, Default, PartialEq, Eq, Hash)]
+pub struct CellDep {
+    /// The cell.
+    pub out_point: OutPoint,
+    /// In CKB code is 0 and dep_group 1. Any byte is read and written.
+    pub dep_type: u8,
+}
+
+impl CellDep {
+    /// Its 37 bytes.
+    ///
+    /// ```
+    /// assert_eq!(basinpantry::CellDep { dep_type: 1, ..Default::default() }.to_bytes()[36], 1);
+    /// ```
+    pub fn to_bytes(&self) -> [u8; 37] {
+        let mut out = [0; 37];
+        out[..36].copy_from_slice(&self.out_point.to_bytes());
+        out[36] = self.dep_type;
+        out
+    }
+
+    /// The cell dep of 37 bytes; none of any other count.
+    ///
+    /// ```
+    /// assert_eq!(basinpantry::CellDep::from_bytes(&[0; 36]), None);
+    /// ```
+    pub fn from_bytes(s: &[u8]) -> Option<CellDep> {
+        let (dep_type, point) = s.split_last()?;
+        Some(CellDep { out_point: OutPoint::from_bytes(point)?, dep_type: *dep_type })
+    }
+}
+
+/// A cell that an input spends, as the chain has it.
+///
+/// ```
+/// use basinpantry::{ResolvedCell, is_records, write_records};
+///
+/// let cell = ResolvedCell { data: 7u128.to_le_bytes().to_vec(), ..ResolvedCell::default() };
+/// assert_eq!(cell.amount(), Some(7));
+/// // the second input's cell is not live
+/// assert!(is_records(&write_records(&[Some(cell), None])));
+/// ```
+#[derive(Clone, Debug, Default, PartialEq, Eq, Hash)]
+pub struct ResolvedCell {
+    /// The output.
+    pub output: CellOutput,
+    /// Its data.
+    pub data: Vec<u8>,
+}
+
+impl ResolvedCell {
+    /// Its first 16 data bytes as an amount of tokens (RFC 0025); none where it has fewer. Whether the cell is of a token's type is another matter.
+    ///
+    /// ```
+    /// assert_eq!(basinpantry::ResolvedCell::default().amount(), None);
+    /// ```
+    pub fn amount(&self) -> Option<u128> {
+        amount_of(&self.data)
+    }
+}
+
+/// The amount of tokens that data begins with.
+pub(crate) fn amount_of(data: &[u8]) -> Option<u128> {
+    Some(u128::from_le_bytes(data.get(..16)?.try_into().ok()?))
+}
+
+/// The list of records that an update is judged over: for each input that the peer added its cell, or none where that is not live.
+///
+/// ```
+/// assert_eq!(basinpantry::write_records(&[]), [4, 0, 0, 0]);
+/// assert_eq!(basinpantry::write_records(&[None]), [8, 0, 0, 0, 8, 0, 0, 0]);
+/// ```
+pub fn write_records(cells: &[Option<ResolvedCell>]) -> Vec<u8> {
+    let items: Vec<Vec<u8>> = cells
+        .iter()
+        .map(|cell| match cell {
+            Some(cell) => record(&cell.output.to_bytes(), &cell.data),
+            None => Vec::new(),
+        })
+        .collect();
+    molecule::table(&items)
+}
+
+/// A record of an output's bytes, whatever they are, and data.
+pub(crate) fn record(output: &[u8], data: &[u8]) -> Vec<u8> {
+    molecule::table(&[output, &molecule::bytes(data)])
+}
+
+/// A list of out points, as the tables' calls read and write it.
+#[cfg_attr(not(feature = "pending"), allow(dead_code))]
+pub(crate) fn write_out_points(points: &[OutPoint]) -> Vec<u8> {
+    molecule::fixvec(points.iter().map(OutPoint::to_bytes))
+}
+
+/// The out points of a list at the start of a buffer.
+#[cfg_attr(not(feature = "pending"), allow(dead_code))]
+pub(crate) fn read_out_points(buffer: &[u8]) -> Vec<OutPoint> {
+    let Some((count, rest)) = buffer.split_first_chunk::<4>() else { return Vec::new() };
+    let count = usize::try_from(u32::from_le_bytes(*count)).unwrap_or(usize::MAX);
+    rest.chunks_exact(36).take(count).filter_map(OutPoint::from_bytes).collect()
+}

@@ -1,0 +1,35 @@
+//! Basinpantry judges the funding transactions that a peer proposes when a CKB payment channel is opened. This crate is a safe one over the proved
+//! library (`libcapi.a`, header `bindings/c/basinpantry.h`): no bytes that a peer, a caller or a damaged file supplies stop it, and a refused call has changed
+//! nothing.
+//!
+//! - [`update_for_peer`] judges one update, [`Negotiation`] keeps the transaction in force.
+//! - [`CaseFile`] is an update in one file; the program `basinpantry` makes, judges and shows such files.
+//! - [`Transaction`], [`Script`] and the like are the lent bytes as Rust values.
+//!
+//! A call needs up to half a megabyte of stack.
+//!
+//! ```
+//! use basinpantry::{Refusal, Script, update_for_peer, write_records};
+//!
+//! let script = Script::default().to_bytes();
+//! let answer = update_for_peer(&[], b"no transaction", &script, &[], &script, 1000, &write_records(&[]));
+//! assert_eq!(answer, Err(Refusal::PeerTransactionUnreadable));
+//! ```
+#![deny(missing_docs, unsafe_code)]
+
+mod case_file;
+mod cells;
+#[allow(unsafe_code)]
+mod ffi;
+mod molecule;
+mod refusal;
+mod sum;
+mod transaction;
+mod update;
+
+pub use case_file::{CaseError, CaseFile, CaseRecord, MAX_CASE_BYTES};
+pub use cells::{CellDep, CellInput, CellOutput, OutPoint, ResolvedCell, Script, write_records};
+pub use refusal::Refusal;
+pub use sum::Sum;
+pub use transaction::{MAX_TRANSACTION_BYTES, Transaction, is_out_points, is_records, is_script, is_transaction};
+pub use update::{Accepted, Negotiation, Update, update_for_peer};

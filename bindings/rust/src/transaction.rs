@@ -1,0 +1,154 @@
+//! Transactions as Rust values.
+use crate::cells::{CellDep, CellInput, CellOutput, amount_of};
+use crate::{ffi, molecule};
+
+/// The longest transaction that is judged or written.
+pub const MAX_TRANSACTION_BYTES: usize = 133_116;
+
+/// Whether the bytes are a transaction (RFC 0019), without extra fields.
+///
+/// ```
+/// use basinpantry::{Transaction, is_transaction};
+///
+/// let bytes = Transaction::default().to_bytes();
+/// assert_eq!(bytes.len(), 68);
+/// assert!(is_transaction(&bytes));
+/// assert!(!is_transaction(&bytes[..67]));
+/// ```
+pub fn is_transaction(s: &[u8]) -> bool {
+    ffi::is_transaction(s)
+}
+
+/// Whether the bytes are a script.
+///
+/// ```
+/// assert!(basinpantry::is_script(&basinpantry::Script::default().to_bytes()));
+/// assert!(!basinpantry::is_script(&[]));
+/// ```
+pub fn is_script(s: &[u8]) -> bool {
+    ffi::is_script(s)
+}
+
+/// Whether the bytes are a list of resolved cells, as [`write_records`](crate::write_records) writes it.
+///
+/// ```
+/// assert!(basinpantry::is_records(&[4, 0, 0, 0]));
+/// assert!(!basinpantry::is_records(&[]));
+/// ```
+pub fn is_records(s: &[u8]) -> bool {
+    ffi::is_records(s)
+}
+
+/// Whether the bytes are a list of out points: a count of four bytes, and 36 bytes for each.
+///
+/// ```
+/// assert!(basinpantry::is_out_points(&[0; 4]));
+/// assert!(!basinpantry::is_out_points(&[1, 0, 0, 0]));
+/// ```
+pub fn is_out_points(s: &[u8]) -> bool {
+    ffi::is_out_points(s)
+}
+
+/// A transaction by its fields; the default has version 0 and empty lists.
+///
+/// ```
+/// use basinpantry::{CellInput, Transaction};
+///
+/// let tx = Transaction { inputs: vec![CellInput::default()], witnesses: vec![vec![1, 2]], ..Transaction::default() };
+/// assert_eq!(Transaction::from_bytes(&tx.to_bytes()), Some(tx));
+/// ```
+#[derive(Clone, Debug, Default, PartialEq, Eq, Hash)]
+pub struct Transaction {
+    /// The version.
+    pub version: u32,
+    /// The cells whose data the scripts need.
+    pub cell_deps: Vec<CellDep>,
+    /// The blocks whose headers the scripts need.
+    pub header_deps: Vec<[u8; 32]>,
+    /// The cells that are spent.
+    pub inputs: Vec<CellInput>,
+    /// The cells that are made.
+    pub outputs: Vec<CellOutput>,
+    /// Their data, by place.
+    pub outputs_data: Vec<Vec<u8>>,
+    /// What the locks are shown.
+    pub witnesses: Vec<Vec<u8>>,
+}
+
+impl Transaction {
+    /// Its bytes (RFC 0019).
+    ///
+    /// ```
+    /// use basinpantry::{CellInput, CellOutput, Transaction};
+    ///
+    /// let tx = Transaction {
+    ///     inputs: vec![CellInput::default()],
+    ///     outputs: vec![CellOutput::default()],
+    ///     outputs_data: vec![vec![]],
+    ///     ..Transaction::default()
+    /// };
+    /// assert_eq!(tx.to_bytes().len(), 201);
+    /// ```
+    pub fn to_bytes(&self) -> Vec<u8> {
+        let [cell_deps, header_deps, inputs, outputs, outputs_data, witnesses] = self.lists();
+        let raw = molecule::table(&[&self.version.to_le_bytes()[..], &cell_deps, &header_deps, &inputs, &outputs, &outputs_data]);
+        molecule::table(&[raw, witnesses])
+    }
+
+    /// Its six lists, in the order of the fields.
+    fn lists(&self) -> [Vec<u8>; 6] {
+        let outputs: Vec<Vec<u8>> = self.outputs.iter().map(CellOutput::to_bytes).collect();
+        [
+            molecule::fixvec(self.cell_deps.iter().map(CellDep::to_bytes)),
+            molecule::fixvec(&self.header_deps),
+            molecule::fixvec(self.inputs.iter().map(CellInput::to_bytes)),
+            molecule::table(&outputs),
+            bytes_vec(&self.outputs_data),
+            bytes_vec(&self.witnesses),
+        ]
+    }
+
+    /// The transaction of these bytes, if they are one.
+    ///
+    /// ```
+    /// assert_eq!(basinpantry::Transaction::from_bytes(&[]), None);
+    /// ```
+    pub fn from_bytes(s: &[u8]) -> Option<Transaction> {
+        if !is_transaction(s) {
+            return None;
+        }
+        let [raw, witnesses] = molecule::parts(s)?.try_into().ok()?;
+        let [version, cell_deps, header_deps, inputs, outputs, outputs_data] = molecule::parts(raw)?.try_into().ok()?;
+        Some(Transaction {
+            version: u32::from_le_bytes(version.try_into().ok()?),
+            cell_deps: molecule::items(cell_deps, 37)?.into_iter().map(CellDep::from_bytes).collect::<Option<_>>()?,
+            header_deps: molecule::items(header_deps, 32)?.into_iter().map(|hash| hash.try_into().ok()).collect::<Option<_>>()?,
+            inputs: molecule::items(inputs, 44)?.into_iter().map(CellInput::from_bytes).collect::<Option<_>>()?,
+            outputs: molecule::parts(outputs)?.into_iter().map(CellOutput::from_bytes).collect::<Option<_>>()?,
+            outputs_data: contents(outputs_data)?,
+            witnesses: contents(witnesses)?,
+        })
+    }
+
+    /// The amount of tokens that the data of an output begins with (RFC 0025); none where it has under 16 bytes or is missing.
+    ///
+    /// ```
+    /// use basinpantry::Transaction;
+    ///
+    /// let tx = Transaction { outputs_data: vec![5u128.to_le_bytes().to_vec(), vec![1]], ..Transaction::default() };
+    /// assert_eq!((tx.amount(0), tx.amount(1), tx.amount(2)), (Some(5), None, None));
+    /// ```
+    pub fn amount(&self, i: usize) -> Option<u128> {
+        amount_of(self.outputs_data.get(i)?)
+    }
+}
+
+/// A list of byte strings, each with its count.
+fn bytes_vec(entries: &[Vec<u8>]) -> Vec<u8> {
+    let items: Vec<Vec<u8>> = entries.iter().map(|entry| molecule::bytes(entry)).collect();
+    molecule::table(&items)
+}
+
+fn contents(list: &[u8]) -> Option<Vec<Vec<u8>>> {
+    molecule::parts(list)?.into_iter().map(|entry| molecule::content(entry).map(<[u8]>::to_vec)).collect()
+}

@@ -1,0 +1,200 @@
+//! A peer's update, and a list of them.
+use crate::ffi;
+use crate::refusal::Refusal;
+use crate::sum::Sum;
+
+/// What an accepted update leaves over: what the added inputs brought in, less the growth of output 0 and the outputs that were added after it.
+///
+/// ```
+/// let accepted = basinpantry::Accepted { capacity: 205, token: 0 };
+/// assert_eq!(accepted.to_string(), "205 shannons and 0 tokens");
+/// ```
+#[derive(Clone, Copy, Debug, Default, PartialEq, Eq, Hash)]
+pub struct Accepted {
+    /// In shannons; for an opening update this pays the fee.
+    pub capacity: u128,
+    /// In the expected token, 0 where none is expected.
+    pub token: u128,
+}
+
+impl std::fmt::Display for Accepted {
+    fn fmt(&self, f: &mut std::fmt::Formatter<'_>) -> std::fmt::Result {
+        write!(f, "{} shannons and {} tokens", self.capacity, self.token)
+    }
+}
+
+/// The figures of four words: each low half first.
+fn accepted(values: [u64; 4]) -> Accepted {
+    let [capacity_low, capacity_high, token_low, token_high] = values;
+    Accepted { capacity: whole(capacity_low, capacity_high), token: whole(token_low, token_high) }
+}
+
+/// A number of two halves.
+pub(crate) fn whole(low: u64, high: u64) -> u128 {
+    u128::from(high) << 64 | u128::from(low)
+}
+
+/// Judges the peer's transaction against ours (no bytes: none), under the expected funding lock, the expected token type (no bytes: untyped), our
+/// source lock and a fee rate in shannons per 1000 bytes, over one record for each input that the peer added.
+///
+/// After an acceptance the peer's transaction is in force, after a refusal ours ([`Negotiation`] keeps it). Refused: 1 to 8.
+///
+/// ```
+/// use basinpantry::*;
+///
+/// let lock = Script::default();
+/// let source = Script { code_hash: [1; 32], ..Script::default() };
+/// let output = CellOutput { capacity: 10_000_000_000, lock: lock.clone(), type_: None };
+/// let peer = Transaction {
+///     inputs: vec![CellInput::default()],
+///     outputs: vec![output.clone()],
+///     outputs_data: vec![vec![]],
+///     ..Transaction::default()
+/// };
+/// let judge = |brought_in| {
+///     let cell = ResolvedCell { output: CellOutput { capacity: brought_in, ..output.clone() }, data: vec![] };
+///     let records = write_records(&[Some(cell)]);
+///     update_for_peer(&[], &peer.to_bytes(), &lock.to_bytes(), &[], &source.to_bytes(), 1000, &records)
+/// };
+/// assert_eq!(judge(10_000_000_205), Ok(Accepted { capacity: 205, token: 0 }));
+/// assert_eq!(
+///     judge(10_000_000_204),
+///     Err(Refusal::PeerFundingFeeTooLow { peer_fee: 204, required_fee: 205, funding_fee_rate: 1000, tx_size: 205 })
+/// );
+/// ```
+pub fn update_for_peer(
+    ours: &[u8],
+    peer: &[u8],
+    lock: &[u8],
+    udt: &[u8],
+    source: &[u8],
+    rate: u64,
+    records: &[u8],
+) -> Result<Accepted, Refusal> {
+    ffi::update_for_peer(ours, peer, lock, udt, source, rate, records).map(accepted)
+}
+
+/// What one update of a negotiation brings.
+///
+/// ```
+/// let update = basinpantry::Update { peer: &[], records: &[4, 0, 0, 0], source: &[], rate: 1000 };
+/// assert_eq!(update.rate, 1000);
+/// ```
+#[derive(Clone, Copy, Debug, PartialEq, Eq, Hash)]
+pub struct Update<'a> {
+    /// The peer's transaction.
+    pub peer: &'a [u8],
+    /// One record for each input that it adds ([`write_records`](crate::write_records)).
+    pub records: &'a [u8],
+    /// Our source lock.
+    pub source: &'a [u8],
+    /// The fee rate, in shannons per 1000 bytes.
+    pub rate: u64,
+}
+
+/// A negotiation under one expected lock and type: the transaction in force, and the sums of the surpluses of the updates accepted so far.
+///
+/// It is proved of any list of updates that these sums are exactly the surplus of the transaction in force against the one at the start.
+///
+/// ```
+/// use basinpantry::*;
+///
+/// let lock = Script::default();
+/// let source = Script { code_hash: [1; 32], ..Script::default() }.to_bytes();
+/// let output = CellOutput { capacity: 10_000_000_000, lock: lock.clone(), type_: None };
+/// let peer = Transaction {
+///     inputs: vec![CellInput::default()],
+///     outputs: vec![output.clone()],
+///     outputs_data: vec![vec![]],
+///     ..Transaction::default()
+/// };
+/// let cell = ResolvedCell { output: CellOutput { capacity: 10_000_000_205, ..output }, data: vec![] };
+/// let records = write_records(&[Some(cell)]);
+///
+/// let mut negotiation = Negotiation::new(&[], &lock.to_bytes(), &[]);
+/// let update = Update { peer: &peer.to_bytes(), records: &records, source: &source, rate: 1000 };
+/// assert_eq!(negotiation.update(&update), Ok(Accepted { capacity: 205, token: 0 }));
+/// assert_eq!(negotiation.in_force(), peer.to_bytes());
+/// // the same again adds no input, so there is no record to lend
+/// assert_eq!(negotiation.update(&update), Err(Refusal::LentBytesUnreadable));
+/// assert_eq!(negotiation.update(&Update { records: &write_records(&[]), ..update }), Ok(Accepted { capacity: 0, token: 0 }));
+/// assert_eq!(negotiation.capacity().to_u128(), Some(205));
+/// assert_eq!(negotiation.accepted(), 2);
+/// ```
+#[derive(Clone, Debug, PartialEq, Eq)]
+pub struct Negotiation {
+    in_force: Vec<u8>,
+    lock: Vec<u8>,
+    udt: Vec<u8>,
+    capacity: Sum,
+    token: Sum,
+    accepted: usize,
+}
+
+impl Negotiation {
+    /// A negotiation from a transaction (no bytes: none), under the expected funding lock and token type (no bytes: untyped).
+    ///
+    /// ```
+    /// assert!(basinpantry::Negotiation::new(&[], &[], &[]).in_force().is_empty());
+    /// ```
+    pub fn new(start: &[u8], lock: &[u8], udt: &[u8]) -> Negotiation {
+        Negotiation { in_force: start.to_vec(), lock: lock.to_vec(), udt: udt.to_vec(), capacity: Sum::ZERO, token: Sum::ZERO, accepted: 0 }
+    }
+
+    /// Judges an update against the transaction in force. A refusal changes nothing.
+    ///
+    /// ```
+    /// use basinpantry::*;
+    ///
+    /// let mut negotiation = Negotiation::new(&[], &Script::default().to_bytes(), &[]);
+    /// let update = Update { peer: b"no transaction", records: &[4, 0, 0, 0], source: &Script::default().to_bytes(), rate: 1000 };
+    /// assert_eq!(negotiation.update(&update), Err(Refusal::PeerTransactionUnreadable));
+    /// assert!(negotiation.in_force().is_empty());
+    /// ```
+    pub fn update(&mut self, update: &Update) -> Result<Accepted, Refusal> {
+        let Update { peer, records, source, rate } = *update;
+        let accepted = update_for_peer(&self.in_force, peer, &self.lock, &self.udt, source, rate, records)?;
+        self.in_force.clear();
+        self.in_force.extend(peer);
+        self.capacity = self.capacity.plus(Sum::from(accepted.capacity));
+        self.token = self.token.plus(Sum::from(accepted.token));
+        self.accepted = self.accepted.saturating_add(1);
+        Ok(accepted)
+    }
+
+    /// The transaction in force: the peer's of the last accepted update, or the one at the start.
+    ///
+    /// ```
+    /// assert_eq!(basinpantry::Negotiation::new(&[1, 2], &[], &[]).in_force(), [1, 2]);
+    /// ```
+    pub fn in_force(&self) -> &[u8] {
+        &self.in_force
+    }
+
+    /// The sum of the capacity surpluses, in shannons.
+    ///
+    /// ```
+    /// assert_eq!(basinpantry::Negotiation::new(&[], &[], &[]).capacity(), basinpantry::Sum::ZERO);
+    /// ```
+    pub fn capacity(&self) -> Sum {
+        self.capacity
+    }
+
+    /// The sum of the token surpluses.
+    ///
+    /// ```
+    /// assert_eq!(basinpantry::Negotiation::new(&[], &[], &[]).token(), basinpantry::Sum::ZERO);
+    /// ```
+    pub fn token(&self) -> Sum {
+        self.token
+    }
+
+    /// How many updates were accepted.
+    ///
+    /// ```
+    /// assert_eq!(basinpantry::Negotiation::new(&[], &[], &[]).accepted(), 0);
+    /// ```
+    pub fn accepted(&self) -> usize {
+        self.accepted
+    }
+}
