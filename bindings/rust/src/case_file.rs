@@ -268,3 +268,24 @@ impl CaseFile {
         Update { peer: &self.peer, records, source: &self.source, rate: self.rate }
     }
 }
+
+/// The verdict line of a case file, which ends in a newline: 0 and the capacity surplus as 32 hex digits, or the number of the refusal and its values. Any
+/// bytes that are no case file, or more than 65,536, are 3.
+///
+/// ```
+/// assert_eq!(basinpantry::check_case(b"no case"), "3\n");
+/// ```
+#[cfg(not(feature = "pending"))]
+pub fn check_case(file: &[u8]) -> String {
+    let answer = match CaseFile::from_bytes(file) {
+        Ok(case) if file.len() <= MAX_CASE_BYTES => case.judge(),
+        _ => Err(Refusal::LentBytesUnreadable),
+    };
+    match answer {
+        Ok(accepted) => format!("0 {:032x}\n", accepted.capacity),
+        Err(why) => {
+            let values: String = why.values().iter().map(|value| format!(" {value}")).collect();
+            format!("{}{values}\n", why.number())
+        }
+    }
+}

@@ -34,56 +34,6 @@ mod c {
             values: *mut u64,
             values_len: usize,
         ) -> u32;
-    }
-    #[cfg(feature = "pending")]
-    unsafe extern "C" {
-        pub fn basinpantry_version(tx: *const u8, tx_len: usize) -> u32;
-        pub fn basinpantry_item_count(tx: *const u8, tx_len: usize, list: u32) -> u32;
-        pub fn basinpantry_item(
-            tx: *const u8,
-            tx_len: usize,
-            list: u32,
-            i: usize,
-            out: *mut u8,
-            out_len: usize,
-            values: *mut u64,
-            values_len: usize,
-        ) -> u32;
-        pub fn basinpantry_write_transaction(
-            version: u32,
-            cell_deps: *const u8,
-            cell_deps_len: usize,
-            header_deps: *const u8,
-            header_deps_len: usize,
-            inputs: *const u8,
-            inputs_len: usize,
-            outputs: *const u8,
-            outputs_len: usize,
-            outputs_data: *const u8,
-            outputs_data_len: usize,
-            witnesses: *const u8,
-            witnesses_len: usize,
-            out: *mut u8,
-            out_len: usize,
-            values: *mut u64,
-            values_len: usize,
-        ) -> u32;
-        pub fn basinpantry_rewrite(tx: *const u8, tx_len: usize, out: *mut u8, out_len: usize, values: *mut u64, values_len: usize) -> u32;
-        pub fn basinpantry_replay(
-            start: *const u8,
-            start_len: usize,
-            lock: *const u8,
-            lock_len: usize,
-            udt: *const u8,
-            udt_len: usize,
-            updates: *const u8,
-            updates_len: usize,
-            answers: *mut u64,
-            answers_len: usize,
-            values: *mut u64,
-            values_len: usize,
-        ) -> u32;
-        pub fn basinpantry_check_case(file: *const u8, file_len: usize, line: *mut u8, line_len: usize) -> usize;
         pub fn basinpantry_build_funding_cell(
             ours: *const u8,
             ours_len: usize,
@@ -140,6 +90,56 @@ mod c {
             values: *mut u64,
             values_len: usize,
         ) -> u32;
+    }
+    #[cfg(feature = "pending")]
+    unsafe extern "C" {
+        pub fn basinpantry_version(tx: *const u8, tx_len: usize) -> u32;
+        pub fn basinpantry_item_count(tx: *const u8, tx_len: usize, list: u32) -> u32;
+        pub fn basinpantry_item(
+            tx: *const u8,
+            tx_len: usize,
+            list: u32,
+            i: usize,
+            out: *mut u8,
+            out_len: usize,
+            values: *mut u64,
+            values_len: usize,
+        ) -> u32;
+        pub fn basinpantry_write_transaction(
+            version: u32,
+            cell_deps: *const u8,
+            cell_deps_len: usize,
+            header_deps: *const u8,
+            header_deps_len: usize,
+            inputs: *const u8,
+            inputs_len: usize,
+            outputs: *const u8,
+            outputs_len: usize,
+            outputs_data: *const u8,
+            outputs_data_len: usize,
+            witnesses: *const u8,
+            witnesses_len: usize,
+            out: *mut u8,
+            out_len: usize,
+            values: *mut u64,
+            values_len: usize,
+        ) -> u32;
+        pub fn basinpantry_rewrite(tx: *const u8, tx_len: usize, out: *mut u8, out_len: usize, values: *mut u64, values_len: usize) -> u32;
+        pub fn basinpantry_replay(
+            start: *const u8,
+            start_len: usize,
+            lock: *const u8,
+            lock_len: usize,
+            udt: *const u8,
+            udt_len: usize,
+            updates: *const u8,
+            updates_len: usize,
+            answers: *mut u64,
+            answers_len: usize,
+            values: *mut u64,
+            values_len: usize,
+        ) -> u32;
+        pub fn basinpantry_check_case(file: *const u8, file_len: usize, line: *mut u8, line_len: usize) -> usize;
         pub fn basinpantry_hold_funding(held: *mut u8, held_len: usize, holder: u64, cells: *const u8, cells_len: usize) -> u32;
         pub fn basinpantry_hold_for_watchtower(held: *mut u8, held_len: usize, cells: *const u8, cells_len: usize, time: u64) -> u32;
         pub fn basinpantry_release_for_watchtower(held: *mut u8, held_len: usize, cells: *const u8, cells_len: usize) -> u32;
@@ -267,6 +267,42 @@ pub(crate) fn update_for_peer(
     answer(number, values)
 }
 
+/// `figures` are local low, high, reserved, then remote low, high, reserved.
+pub(crate) fn build_funding_cell(ours: &[u8], udt: &[u8], figures: [u64; 6]) -> Result<[u64; 4], Refusal> {
+    let mut values = [0; 4];
+    let number = call!(basinpantry_build_funding_cell(
+        bytes ours, bytes udt, number figures[0], number figures[1], number figures[2], number figures[3], number figures[4],
+        number figures[5], buffer values
+    ));
+    answer(number, values)
+}
+
+pub(crate) fn build_udt_inputs_outputs(
+    cells: &[u8],
+    udt: &[u8],
+    source: &[u8],
+    wanted: [u64; 2],
+    out: &mut [u8],
+) -> Result<[u64; 4], Refusal> {
+    let mut values = [0; 4];
+    let number = call!(basinpantry_build_udt_inputs_outputs(
+        bytes cells, bytes udt, bytes source, number wanted[0], number wanted[1], buffer out, buffer values
+    ));
+    answer(number, values)
+}
+
+/// `lent` are ours, lock, udt, source, cells, the token's deps, the lock's dep and extra deps; `figures` as for `build_funding_cell`.
+pub(crate) fn build_base(lent: [&[u8]; 8], figures: [u64; 6], out: &mut [u8]) -> Result<[u64; 4], Refusal> {
+    let [ours, lock, udt, source, cells, udt_deps, lock_dep, extra_deps] = lent;
+    let mut values = [0; 4];
+    let number = call!(basinpantry_build_base(
+        bytes ours, bytes lock, bytes udt, bytes source, bytes cells, bytes udt_deps, bytes lock_dep, bytes extra_deps,
+        number figures[0], number figures[1], number figures[2], number figures[3], number figures[4], number figures[5],
+        buffer out, buffer values
+    ));
+    answer(number, values)
+}
+
 #[cfg(feature = "pending")]
 pub(crate) use pending::*;
 
@@ -315,42 +351,6 @@ mod pending {
 
     pub(crate) fn check_case(file: &[u8], line: &mut [u8]) -> usize {
         call!(basinpantry_check_case(bytes file, buffer line))
-    }
-
-    /// `figures` are local low, high, reserved, then remote low, high, reserved.
-    pub(crate) fn build_funding_cell(ours: &[u8], udt: &[u8], figures: [u64; 6]) -> Result<[u64; 4], Refusal> {
-        let mut values = [0; 4];
-        let number = call!(basinpantry_build_funding_cell(
-            bytes ours, bytes udt, number figures[0], number figures[1], number figures[2], number figures[3], number figures[4],
-            number figures[5], buffer values
-        ));
-        answer(number, values)
-    }
-
-    pub(crate) fn build_udt_inputs_outputs(
-        cells: &[u8],
-        udt: &[u8],
-        source: &[u8],
-        wanted: [u64; 2],
-        out: &mut [u8],
-    ) -> Result<[u64; 4], Refusal> {
-        let mut values = [0; 4];
-        let number = call!(basinpantry_build_udt_inputs_outputs(
-            bytes cells, bytes udt, bytes source, number wanted[0], number wanted[1], buffer out, buffer values
-        ));
-        answer(number, values)
-    }
-
-    /// `lent` are ours, lock, udt, source, cells, the token's deps, the lock's dep and extra deps; `figures` as for `build_funding_cell`.
-    pub(crate) fn build_base(lent: [&[u8]; 8], figures: [u64; 6], out: &mut [u8]) -> Result<[u64; 4], Refusal> {
-        let [ours, lock, udt, source, cells, udt_deps, lock_dep, extra_deps] = lent;
-        let mut values = [0; 4];
-        let number = call!(basinpantry_build_base(
-            bytes ours, bytes lock, bytes udt, bytes source, bytes cells, bytes udt_deps, bytes lock_dep, bytes extra_deps,
-            number figures[0], number figures[1], number figures[2], number figures[3], number figures[4], number figures[5],
-            buffer out, buffer values
-        ));
-        answer(number, values)
     }
 
     pub(crate) fn hold_funding(held: &mut [u8], holder: u64, cells: &[u8]) -> Result<(), Refusal> {

@@ -4,6 +4,7 @@
 //!
 //! - [`update_for_peer`] judges one update, [`Negotiation`] keeps the transaction in force.
 //! - [`CaseFile`] is an update in one file; the program `basinpantry` makes, judges and shows such files.
+//! - [`build_base`] writes the base transaction of our own side.
 //! - [`Transaction`], [`Script`] and the like are the lent bytes as Rust values.
 //!
 //! A call needs up to half a megabyte of stack.
@@ -21,15 +22,21 @@ mod case_file;
 mod cells;
 #[allow(unsafe_code)]
 mod ffi;
+mod funding;
 mod molecule;
 mod refusal;
+mod replay;
 mod sum;
 mod transaction;
 mod update;
 
-pub use case_file::{CaseError, CaseFile, CaseRecord, MAX_CASE_BYTES};
+pub use case_file::{CaseError, CaseFile, CaseRecord, MAX_CASE_BYTES, check_case};
 pub use cells::{CellDep, CellInput, CellOutput, OutPoint, ResolvedCell, Script, write_records};
+pub use funding::{
+    BaseRequest, FundingCell, FundingRequest, TokenCell, TokenPick, build_base, build_funding_cell, build_udt_inputs_outputs,
+};
 pub use refusal::Refusal;
+pub use replay::{Replay, replay};
 pub use sum::Sum;
 pub use transaction::{MAX_TRANSACTION_BYTES, Transaction, is_out_points, is_records, is_script, is_transaction};
 pub use update::{Accepted, Negotiation, Update, update_for_peer};

@@ -1,0 +1,38 @@
+//! Files in and out, and what goes wrong with them.
+use crate::json;
+use std::ffi::OsStr;
+use std::io::Read;
+
+/// Why a command can't be done: bad usage, or a bad file.
+pub struct Failure(pub String);
+
+impl From<json::Error> for Failure {
+    fn from(why: json::Error) -> Failure {
+        Failure(why.to_string())
+    }
+}
+
+/// A file that was read, with the name for people.
+pub struct Input {
+    pub name: String,
+    pub bytes: Vec<u8>,
+}
+
+impl Input {
+    /// Reads a file, or standard input for `-`.
+    pub fn read(path: &OsStr) -> Result<Input, Failure> {
+        let name = path.to_string_lossy().into_owned();
+        let mut bytes = Vec::new();
+        let read = if name == "-" { std::io::stdin().lock().read_to_end(&mut bytes).map(|_| bytes) } else { std::fs::read(path) };
+        match read {
+            Ok(bytes) => Ok(Input { name, bytes }),
+            Err(why) => Err(Failure(format!("{name}: {why}"))),
+        }
+    }
+
+    /// Whether it begins as JSON does. No transaction or script does: their first four bytes are their size.
+    pub fn looks_like_json(&self) -> bool {
+        let start = self.bytes.iter().find(|b| !b.is_ascii_whitespace());
+        matches!(start, Some(b'{' | b'[' | b'"' | b'n'))
+    }
+}

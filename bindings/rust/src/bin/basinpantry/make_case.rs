@@ -1,0 +1,79 @@
+//! `case`: a case file from what a node prints.
+use crate::files::{Failure, Input};
+use crate::json::Source;
+use crate::node::{self, Record};
+use crate::words::was;
+use basinpantry::{CaseFile, CaseRecord, MAX_CASE_BYTES, Transaction, is_script, is_transaction};
+
+/// The files that a case is made from.
+pub struct Parts {
+    pub ours: Option<Input>,
+    pub peer: Input,
+    pub lock: Input,
+    pub udt: Option<Input>,
+    pub source: Input,
+    pub rate: u64,
+    pub records: Option<Input>,
+}
+
+/// A part's bytes: as they are, or from JSON.
+fn part(
+    file: &Input,
+    what: &str,
+    is: fn(&[u8]) -> bool,
+    read: fn(&Source, &crate::json::Value) -> Result<Vec<u8>, crate::json::Error>,
+) -> Result<Vec<u8>, Failure> {
+    if is(&file.bytes) {
+        return Ok(file.bytes.clone());
+    }
+    if !file.looks_like_json() {
+        return Err(Failure(format!("{}: neither the bytes of {what} nor JSON", file.name)));
+    }
+    let source = Source::new(&file.name, &file.bytes)?;
+    Ok(read(&source, &source.read()?)?)
+}
+
+fn transaction(file: &Input) -> Result<Vec<u8>, Failure> {
+    part(file, "a transaction", is_transaction, node::transaction)
+}
+
+fn script(file: &Input) -> Result<Vec<u8>, Failure> {
+    part(file, "a script", is_script, node::script)
+}
+
+/// The case file's bytes, and notes for the caller.
+pub fn make(parts: &Parts) -> Result<(Vec<u8>, Vec<String>), Failure> {
+    let mut case = CaseFile {
+        ours: parts.ours.as_ref().map(transaction).transpose()?.unwrap_or_default(),
+        peer: transaction(&parts.peer)?,
+        lock: script(&parts.lock)?,
+        udt: parts.udt.as_ref().map(script).transpose()?.unwrap_or_default(),
+        source: script(&parts.source)?,
+        rate: parts.rate,
+        records: Vec::new(),
+    };
+    let mut notes = Vec::new();
+    let inputs = |bytes: &[u8]| Transaction::from_bytes(bytes).map(|tx| tx.inputs).unwrap_or_default();
+    let peer_inputs = inputs(&case.peer);
+    let shared = inputs(&case.ours).len();
+    let added = peer_inputs.get(shared..).unwrap_or_default();
+    if let Some(file) = &parts.records {
+        let source = Source::new(&file.name, &file.bytes)?;
+        for (i, Record { at, out_point, cell }) in node::records(&source, &source.read()?)?.into_iter().enumerate() {
+            if let (Some(point), Some(input)) = (out_point, added.get(i)) {
+                if point != input.previous_output {
+                    let message = format!("this record is of {point}, and added input {} spends {}", shared + i, input.previous_output);
+                    return Err(source.error(at, message).into());
+                }
+            }
+            case.records.push(cell.map(|cell| CaseRecord { output: cell.output.to_bytes(), data: cell.data }));
+        }
+    }
+    if case.records.len() != added.len() {
+        notes.push(format!("{} added, and {} given", was(added.len(), "inputs"), was(case.records.len(), "records")));
+    }
+    match case.to_bytes() {
+        Some(bytes) if bytes.len() <= MAX_CASE_BYTES => Ok((bytes, notes)),
+        _ => Err(Failure(format!("the case file would be longer than {MAX_CASE_BYTES} bytes, and such a file is not judged"))),
+    }
+}

@@ -1,0 +1,45 @@
+//! `replay`: a list of updates, each in a case file.
+use crate::files::{Failure, Input};
+use crate::words;
+use basinpantry::{CaseFile, replay};
+
+/// What is printed, and whether every update was accepted.
+pub fn replay_cases(files: &[Input]) -> Result<(String, bool), Failure> {
+    let mut cases: Vec<CaseFile> = Vec::new();
+    for file in files {
+        let case = CaseFile::from_bytes(&file.bytes).map_err(|why| Failure(format!("{}: no case file: {why}", file.name)))?;
+        if let Some(first) = cases.first() {
+            if case.lock != first.lock || case.udt != first.udt {
+                let what = if case.lock != first.lock { "funding lock" } else { "token type" };
+                return Err(Failure(format!("{}: its expected {what} is not that of {}", file.name, files[0].name)));
+            }
+        }
+        cases.push(case);
+    }
+    let Some(first) = cases.first() else { return Err(Failure("replay: no case file is named".to_string())) };
+    let records: Vec<Vec<u8>> = cases.iter().map(CaseFile::records_bytes).collect();
+    let updates: Vec<_> = cases.iter().zip(&records).map(|(case, records)| case.update(records)).collect();
+    let replayed = match replay(&first.ours, &first.lock, &first.udt, &updates) {
+        Ok(replayed) => replayed,
+        Err(why) => return Err(Failure(format!("the list of updates is refused ({}): {why}", why.number()))),
+    };
+    let mut out = String::new();
+    let mut in_force = first.ours.clone();
+    for ((file, case), answer) in files.iter().zip(&cases).zip(&replayed.answers) {
+        // judged against what was then in force, whatever the file has
+        let case = CaseFile { ours: in_force.clone(), ..case.clone() };
+        out += &format!("{}: {}\n", file.name, words::verdict(&case, answer));
+        if answer.is_ok() {
+            in_force = case.peer;
+        }
+    }
+    let accepted = replayed.answers.iter().filter(|answer| answer.is_ok()).count();
+    out += &format!("\naccepted: {accepted} of {}\n", replayed.answers.len());
+    out += &format!("sum of their surpluses: {}", words::surplus(replayed.capacity, replayed.token, !first.udt.is_empty()));
+    out += &match replayed.in_force.and_then(|k| files.get(k)) {
+        Some(file) => format!("\nin force: the peer's transaction of {}\n", file.name),
+        None if first.ours.is_empty() => "\nin force: none, as at the start\n".to_string(),
+        None => "\nin force: the transaction at the start\n".to_string(),
+    };
+    Ok((out, accepted == replayed.answers.len()))
+}

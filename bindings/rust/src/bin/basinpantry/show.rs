@@ -1,0 +1,314 @@
+//! `show`: a transaction or a case as a table.
+use crate::files::{Failure, Input};
+use crate::json::Source;
+use crate::reason::{added_outputs, cell_of, is_of, ours_of};
+use crate::{node, table, words};
+use basinpantry::{CaseFile, CellOutput, ResolvedCell, Script, Sum, Transaction};
+
+/// What `show` prints of a file: of a transaction in Molecule or JSON, or of a case.
+pub fn show(file: &Input, full: bool) -> Result<String, Failure> {
+    if let Some(tx) = Transaction::from_bytes(&file.bytes) {
+        return Ok(transaction(&tx, file.bytes.len(), full));
+    }
+    let not_a_case = match CaseFile::from_bytes(&file.bytes) {
+        Ok(case) => return Ok(show_case(&case, full)),
+        Err(why) => why,
+    };
+    if !file.looks_like_json() {
+        return Err(Failure(format!("{}: neither a transaction nor a case file; for a case file: {not_a_case}", file.name)));
+    }
+    let source = Source::new(&file.name, &file.bytes)?;
+    let bytes = node::transaction(&source, &source.read()?)?;
+    match Transaction::from_bytes(&bytes) {
+        Some(tx) => Ok(transaction(&tx, bytes.len(), full)),
+        None => Err(Failure(format!("{}: the transaction is too long to be written", file.name))),
+    }
+}
+
+fn none_if_empty(text: String) -> String {
+    if text.is_empty() { "-".to_string() } else { text }
+}
+
+/// The tokens of data, where the cell is of a type.
+fn tokens(output: &CellOutput, amount: Option<u128>) -> String {
+    match (&output.type_, amount) {
+        (None, _) => "-".to_string(),
+        (Some(_), Some(amount)) => amount.to_string(),
+        (Some(_), None) => "none".to_string(),
+    }
+}
+
+fn capacity(shannons: u64) -> String {
+    words::ckb(Sum::from(u128::from(shannons)))
+}
+
+fn transaction(tx: &Transaction, bytes: usize, full: bool) -> String {
+    let mut out = format!("a transaction of {bytes} bytes, version {}\n", tx.version);
+    out += &format!("\ninputs: {}\n", tx.inputs.len());
+    let rows = tx
+        .inputs
+        .iter()
+        .enumerate()
+        .map(|(i, input)| vec![i.to_string(), words::out_point(&input.previous_output, full), format!("{:#x}", input.since)]);
+    list(&mut out, &[">no", "out point", ">since"], rows.collect());
+    out += &format!("\noutputs: {}\n", tx.outputs.len());
+    let rows = tx.outputs.iter().enumerate().map(|(i, output)| {
+        vec![
+            i.to_string(),
+            capacity(output.capacity),
+            tokens(output, tx.amount(i)),
+            data_bytes(tx, i),
+            words::script(&output.lock, full),
+            none_if_empty(output.type_.as_ref().map(|type_| words::script(type_, full)).unwrap_or_default()),
+        ]
+    });
+    list(&mut out, &[">no", ">capacity (CKB)", ">tokens", ">data bytes", "lock", "type"], rows.collect());
+    out += &others(tx, full);
+    out
+}
+
+fn data_bytes(tx: &Transaction, i: usize) -> String {
+    tx.outputs_data.get(i).map_or("no entry".to_string(), |data| data.len().to_string())
+}
+
+/// A table, unless it would be empty.
+fn list(out: &mut String, head: &[&str], rows: Vec<Vec<String>>) {
+    if !rows.is_empty() {
+        table::write(out, head, &rows);
+    }
+}
+
+/// Cell deps, header deps and witnesses, and data entries beyond the outputs.
+fn others(tx: &Transaction, full: bool) -> String {
+    let mut out = format!("\ncell deps: {}\n", tx.cell_deps.len());
+    let rows = tx.cell_deps.iter().enumerate().map(|(i, dep)| {
+        let name = node::DEP_TYPES.iter().find(|(_, byte)| *byte == dep.dep_type).map(|(name, _)| name.to_string());
+        vec![i.to_string(), words::out_point(&dep.out_point, full), name.unwrap_or_else(|| format!("dep type {}", dep.dep_type))]
+    });
+    list(&mut out, &[">no", "out point", "dep type"], rows.collect());
+    out += &format!("\nheader deps: {}\n", tx.header_deps.len());
+    let rows = tx.header_deps.iter().enumerate().map(|(i, hash)| vec![i.to_string(), words::hex(hash, full)]);
+    list(&mut out, &[">no", "block hash"], rows.collect());
+    out += &format!("\nwitnesses: {}\n", tx.witnesses.len());
+    let rows =
+        tx.witnesses.iter().enumerate().map(|(i, witness)| vec![i.to_string(), witness.len().to_string(), words::hex(witness, full)]);
+    list(&mut out, &[">no", ">bytes", "witness"], rows.collect());
+    if tx.outputs_data.len() > tx.outputs.len() {
+        out += &format!("\ndata entries beyond the outputs: {}\n", tx.outputs_data.len() - tx.outputs.len());
+    }
+    out
+}
+
+/// A case: its parts, what it comes to, and the verdict.
+fn show_case(case: &CaseFile, full: bool) -> String {
+    let mut out = String::new();
+    let ours = ours_of(case);
+    out += &match (&ours, case.ours.is_empty()) {
+        (_, true) => "ours: none\n".to_string(),
+        (Some(ours), _) => format!("ours: {}\n", counts(case.ours.len(), ours)),
+        (None, _) => format!("ours: {} bytes, which are no transaction\n", case.ours.len()),
+    };
+    let peer = Transaction::from_bytes(&case.peer);
+    out += &match &peer {
+        Some(peer) => format!("the peer's: {}\n", counts(case.peer.len(), peer)),
+        None => format!("the peer's: {} bytes, which are no transaction\n", case.peer.len()),
+    };
+    out += &format!("funding lock: {}\n", script(&case.lock, full));
+    out += &format!("token type: {}\n", if case.udt.is_empty() { "none".to_string() } else { script(&case.udt, full) });
+    out += &format!("our source lock: {}\n", script(&case.source, full));
+    out += &format!("fee rate: {} shannons per 1000 bytes\n", case.rate);
+    if let (Some(ours), Some(peer)) = (&ours, &peer) {
+        let cells: Vec<Record> = case
+            .records
+            .iter()
+            .map(|record| match record {
+                None => Record::NotLive,
+                Some(record) => cell_of(record).map_or(Record::Unreadable, Record::Live),
+            })
+            .collect();
+        inputs(&mut out, case, ours, peer, &cells, full);
+        outputs(&mut out, case, ours, peer, full);
+        figures(&mut out, case, ours, peer, &cells);
+    }
+    out += &format!("\n{}\n", words::verdict(case, &case.judge()));
+    out
+}
+
+/// How long a transaction and its lists are.
+fn counts(bytes: usize, tx: &Transaction) -> String {
+    let lists = [
+        (bytes, "bytes"),
+        (tx.inputs.len(), "inputs"),
+        (tx.outputs.len(), "outputs"),
+        (tx.cell_deps.len(), "cell deps"),
+        (tx.header_deps.len(), "header deps"),
+        (tx.witnesses.len(), "witnesses"),
+    ];
+    let counts: Vec<String> = lists.iter().map(|(n, plural)| words::count(*n, plural)).collect();
+    format!("version {}, {}", tx.version, counts.join(", "))
+}
+
+enum Record {
+    Live(ResolvedCell),
+    NotLive,
+    Unreadable,
+}
+
+fn script(bytes: &[u8], full: bool) -> String {
+    Script::from_bytes(bytes).map_or(format!("{} bytes, which are no script", bytes.len()), |script| words::script(&script, full))
+}
+
+/// A lock by its role in the case, else by its parts.
+fn lock_name(case: &CaseFile, lock: &Script, full: bool) -> String {
+    let bytes = lock.to_bytes();
+    if bytes == case.lock {
+        "the funding lock".to_string()
+    } else if bytes == case.source {
+        "our source lock".to_string()
+    } else {
+        words::script(lock, full)
+    }
+}
+
+fn type_name(case: &CaseFile, output: &CellOutput, full: bool) -> String {
+    match &output.type_ {
+        None => "-".to_string(),
+        Some(type_) if type_.to_bytes() == case.udt => "the token".to_string(),
+        Some(type_) => words::script(type_, full),
+    }
+}
+
+fn inputs(out: &mut String, case: &CaseFile, ours: &Transaction, peer: &Transaction, cells: &[Record], full: bool) {
+    let shared = ours.inputs.len();
+    *out += &format!("\ninputs: {}, added {}\n", peer.inputs.len(), peer.inputs.len().saturating_sub(shared));
+    let mut rows = Vec::new();
+    for (i, input) in peer.inputs.iter().enumerate() {
+        let part = match ours.inputs.get(i) {
+            Some(same) if same == input => "shared",
+            Some(_) => "changed",
+            None => "added",
+        };
+        let mut row = vec![i.to_string(), part.to_string(), words::out_point(&input.previous_output, full), format!("{:#x}", input.since)];
+        row.extend(match i.checked_sub(shared).map(|k| cells.get(k)) {
+            // what a shared input spends is not in the case
+            None => ["", "", "", ""].map(str::to_string),
+            Some(None) => ["no record", "", "", ""].map(str::to_string),
+            Some(Some(Record::NotLive)) => ["not live", "", "", ""].map(str::to_string),
+            Some(Some(Record::Unreadable)) => ["unreadable", "", "", ""].map(str::to_string),
+            Some(Some(Record::Live(cell))) => [
+                capacity(cell.output.capacity),
+                tokens(&cell.output, cell.amount()),
+                lock_name(case, &cell.output.lock, full),
+                type_name(case, &cell.output, full),
+            ],
+        });
+        rows.push(row);
+    }
+    list(out, &[">no", "part", "out point", ">since", ">capacity (CKB)", ">tokens", "lock", "type"], rows);
+    let added = peer.inputs.len().saturating_sub(shared);
+    if cells.len() != added {
+        *out += &format!("  {} lent, and {} added\n", words::was(cells.len(), "records"), words::was(added, "inputs"));
+    }
+}
+
+fn outputs(out: &mut String, case: &CaseFile, ours: &Transaction, peer: &Transaction, full: bool) {
+    let added = added_outputs(ours, peer);
+    *out += &format!("\noutputs: {}, added {}\n", peer.outputs.len(), added.len());
+    let mut rows = Vec::new();
+    for (i, output) in peer.outputs.iter().enumerate() {
+        let part = match ours.outputs.get(i) {
+            _ if i == 0 => "funding",
+            Some(same) if same == output && ours.outputs_data.get(i).is_none_or(|data| Some(data) == peer.outputs_data.get(i)) => "shared",
+            Some(_) => "changed",
+            None => "added",
+        };
+        rows.push(vec![
+            i.to_string(),
+            part.to_string(),
+            capacity(output.capacity),
+            tokens(output, peer.amount(i)),
+            data_bytes(peer, i),
+            lock_name(case, &output.lock, full),
+            type_name(case, output, full),
+        ]);
+    }
+    list(out, &[">no", "part", ">capacity (CKB)", ">tokens", ">data bytes", "lock", "type"], rows);
+}
+
+/// A whole number by what is above and what is below zero.
+struct Difference {
+    plus: Sum,
+    minus: Sum,
+}
+
+impl Difference {
+    /// As written by `write`, with the sign in front.
+    fn signed(&self, write: impl Fn(Sum) -> String) -> String {
+        match self.plus.minus(self.minus) {
+            Some(left) => write(left),
+            None => format!("-{}", write(self.minus.minus(self.plus).unwrap_or_default())),
+        }
+    }
+}
+
+/// One account: what came in, output 0 before and after, and the added outputs.
+struct Account {
+    put_in: Sum,
+    before: u128,
+    after: u128,
+    back: Sum,
+}
+
+impl Account {
+    fn lines(&self) -> [Difference; 4] {
+        let (before, after) = (Sum::from(self.before), Sum::from(self.after));
+        [
+            Difference { plus: self.put_in, minus: Sum::ZERO },
+            Difference { plus: after, minus: before },
+            Difference { plus: self.back, minus: Sum::ZERO },
+            Difference { plus: self.put_in.plus(before), minus: after.plus(self.back) },
+        ]
+    }
+}
+
+fn figures(out: &mut String, case: &CaseFile, ours: &Transaction, peer: &Transaction, cells: &[Record]) {
+    let live = || {
+        cells.iter().filter_map(|record| match record {
+            Record::Live(cell) => Some(cell),
+            _ => None,
+        })
+    };
+    let added = added_outputs(ours, peer);
+    let first = |tx: &Transaction| tx.outputs.first().map_or(0, |output| u128::from(output.capacity));
+    let shannons = Account {
+        put_in: live().map(|cell| u128::from(cell.output.capacity)).sum(),
+        before: first(ours),
+        after: first(peer),
+        back: peer.outputs[added.clone()].iter().map(|output| u128::from(output.capacity)).sum(),
+    };
+    let amount = |tx: &Transaction| if tx.outputs.is_empty() { 0 } else { tx.amount(0).unwrap_or(0) };
+    // a missing or short amount counts 0
+    let token = Account {
+        put_in: live().filter(|cell| is_of(&cell.output, &case.udt)).map(|cell| cell.amount().unwrap_or(0)).sum(),
+        before: amount(ours),
+        after: amount(peer),
+        back: added.filter(|i| is_of(&peer.outputs[*i], &case.udt)).map(|i| peer.amount(i).unwrap_or(0)).sum(),
+    };
+    let typed = !case.udt.is_empty();
+    let names = ["put in by added inputs", "growth of output 0", "taken back by added outputs", "surplus"];
+    let mut rows = Vec::new();
+    for ((name, shannons), token) in names.iter().zip(shannons.lines()).zip(token.lines()) {
+        let mut row = vec![name.to_string(), shannons.signed(|x| x.to_string()), shannons.signed(words::ckb)];
+        if typed {
+            row.push(token.signed(|x| x.to_string()));
+        }
+        rows.push(row);
+    }
+    out.push('\n');
+    let head = ["what the peer brings", ">shannons", ">CKB", ">tokens"];
+    list(out, &head[..if typed { 4 } else { 3 }], rows);
+    if ours.inputs.is_empty() && ours.outputs.is_empty() {
+        let size = u64::try_from(case.peer.len() + 4).unwrap_or(u64::MAX);
+        *out += &format!("  an opening: the surplus pays the fee, and {} shannons are required\n", case.rate.saturating_mul(size) / 1000);
+    }
+}
