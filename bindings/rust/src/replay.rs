@@ -47,3 +47,30 @@ pub fn replay(start: &[u8], lock: &[u8], udt: &[u8], updates: &[Update]) -> Resu
     replay.token = negotiation.token();
     Ok(replay)
 }
+
+#[cfg(feature = "pending")]
+pub fn replay(start: &[u8], lock: &[u8], udt: &[u8], updates: &[Update]) -> Result<Replay, Refusal> {
+    let items: Vec<Vec<u8>> = updates
+        .iter()
+        .map(|update| {
+            let [peer, records, source] = [update.peer, update.records, update.source].map(molecule::bytes);
+            molecule::table(&[&peer[..], &records, &source, &update.rate.to_le_bytes()])
+        })
+        .collect();
+    let mut words = vec![0; 5 * updates.len()];
+    let [_, _, in_force, _] = ffi::replay(start, lock, udt, &molecule::table(&items), &mut words)?;
+    let answers: Vec<Result<Accepted, Refusal>> = words
+        .chunks_exact(5)
+        .map(|words| {
+            let number = u32::try_from(words[0]).unwrap_or(u32::MAX);
+            ffi::answer(number, [words[1], words[2], words[3], words[4]]).map(accepted)
+        })
+        .collect();
+    let accepted = || answers.iter().flatten();
+    Ok(Replay {
+        in_force: usize::try_from(in_force).ok().and_then(|k| k.checked_sub(1)),
+        capacity: accepted().map(|accepted| accepted.capacity).sum(),
+        token: accepted().map(|accepted| accepted.token).sum(),
+        answers,
+    })
+}

@@ -1,5 +1,7 @@
 //! The program `basinpantry`: judges, makes and shows case files.
 #![deny(unsafe_code)]
+#[cfg(test)]
+mod damage_tests;
 mod files;
 mod json;
 mod make_case;

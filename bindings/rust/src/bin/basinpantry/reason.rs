@@ -165,3 +165,7 @@ fn contribution(case: &CaseFile, ours: &Transaction, peer: &Transaction, cells: 
     }
     Ok(())
 }
+
+#[cfg(test)]
+#[path = "reason_tests.rs"]
+mod tests;

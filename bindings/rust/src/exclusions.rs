@@ -1,0 +1,162 @@
+//! Cells that transactions of ours spend, and that are not to be collected for others.
+use crate::cells::{OutPoint, read_out_points};
+use crate::ffi;
+use crate::refusal::Refusal;
+
+/// How many places the map has, for 64 transactions and 512 out points.
+const PLACES: usize = 576;
+
+/// How many bytes the map has: a count of 4, and places of 48.
+const EXCLUSIONS_BYTES: usize = 4 + 48 * PLACES;
+
+/// The cells that transactions of ours spend, by the hash of the transaction: at most 64 transactions and 512 out points. A transaction is pending until it
+/// is committed, and dropped 13 blocks after that.
+///
+/// A refused call leaves the map as it was.
+///
+/// ```
+/// use basinpantry::{CellInput, LiveCellsExclusionMap, OutPoint, Transaction};
+///
+/// let cell = OutPoint { tx_hash: [1; 32], index: 0 };
+/// let tx = Transaction { inputs: vec![CellInput { since: 0, previous_output: cell }], ..Transaction::default() };
+/// let mut map = LiveCellsExclusionMap::new();
+/// map.add(&[9; 32], Some(&tx.to_bytes())).unwrap();
+/// map.commit(&[9; 32], 100).unwrap();
+/// map.truncate(112).unwrap();
+/// assert_eq!(map.apply().unwrap(), [cell]);
+/// map.truncate(113).unwrap();
+/// assert!(map.apply().unwrap().is_empty());
+/// ```
+#[derive(Clone, PartialEq, Eq)]
+pub struct LiveCellsExclusionMap {
+    table: Box<[u8]>,
+}
+
+impl LiveCellsExclusionMap {
+    /// The empty map.
+    ///
+    /// ```
+    /// assert!(basinpantry::LiveCellsExclusionMap::new().apply().unwrap().is_empty());
+    /// ```
+    pub fn new() -> LiveCellsExclusionMap {
+        LiveCellsExclusionMap { table: vec![0; EXCLUSIONS_BYTES].into() }
+    }
+
+    /// The map of bytes that [`as_bytes`](LiveCellsExclusionMap::as_bytes) gave, for instance from a file. Any content is safe; another length is no map.
+    ///
+    /// ```
+    /// use basinpantry::LiveCellsExclusionMap;
+    ///
+    /// let map = LiveCellsExclusionMap::new();
+    /// assert!(LiveCellsExclusionMap::from_bytes(map.as_bytes()) == Some(map));
+    /// assert!(LiveCellsExclusionMap::from_bytes(&[]).is_none());
+    /// ```
+    pub fn from_bytes(table: &[u8]) -> Option<LiveCellsExclusionMap> {
+        (table.len() == EXCLUSIONS_BYTES).then(|| LiveCellsExclusionMap { table: table.into() })
+    }
+
+    /// The map's bytes, to be kept.
+    ///
+    /// ```
+    /// assert_eq!(basinpantry::LiveCellsExclusionMap::new().as_bytes().len(), 27652);
+    /// ```
+    pub fn as_bytes(&self) -> &[u8] {
+        &self.table
+    }
+
+    /// Enters the inputs of a transaction under its hash, in place of what was entered under it. No transaction enters nothing. Refused: 1, 15.
+    ///
+    /// ```
+    /// use basinpantry::{LiveCellsExclusionMap, Refusal};
+    ///
+    /// let mut map = LiveCellsExclusionMap::new();
+    /// assert_eq!(map.add(&[9; 32], Some(b"no transaction")), Err(Refusal::OurTransactionUnreadable));
+    /// assert_eq!(map.add(&[9; 32], None), Ok(()));
+    /// ```
+    pub fn add(&mut self, hash: &[u8; 32], tx: Option<&[u8]>) -> Result<(), Refusal> {
+        lent(tx).and_then(|tx| ffi::exclusions_add(&mut self.table, hash, tx))
+    }
+
+    /// The transaction of this hash was committed in this block. An unknown hash changes nothing.
+    ///
+    /// ```
+    /// assert_eq!(basinpantry::LiveCellsExclusionMap::new().commit(&[9; 32], 100), Ok(()));
+    /// ```
+    pub fn commit(&mut self, hash: &[u8; 32], block: u64) -> Result<(), Refusal> {
+        ffi::exclusions_commit(&mut self.table, hash, block)
+    }
+
+    /// Removes the transaction of this hash. An unknown hash changes nothing.
+    ///
+    /// ```
+    /// use basinpantry::{CellInput, LiveCellsExclusionMap, Transaction};
+    ///
+    /// let tx = Transaction { inputs: vec![CellInput::default()], ..Transaction::default() };
+    /// let mut map = LiveCellsExclusionMap::new();
+    /// map.add(&[9; 32], Some(&tx.to_bytes())).unwrap();
+    /// map.remove(&[9; 32]).unwrap();
+    /// assert!(map.apply().unwrap().is_empty());
+    /// ```
+    pub fn remove(&mut self, hash: &[u8; 32]) -> Result<(), Refusal> {
+        ffi::exclusions_remove(&mut self.table, hash)
+    }
+
+    /// Moves an entry to the transaction that replaces it (none: it is only removed). An unknown old hash changes nothing. Refused: 1, 15.
+    ///
+    /// ```
+    /// use basinpantry::{CellInput, LiveCellsExclusionMap, OutPoint, Transaction};
+    ///
+    /// let spends = |index| {
+    ///     let input = CellInput { since: 0, previous_output: OutPoint { tx_hash: [1; 32], index } };
+    ///     Transaction { inputs: vec![input], ..Transaction::default() }.to_bytes()
+    /// };
+    /// let mut map = LiveCellsExclusionMap::new();
+    /// map.add(&[8; 32], Some(&spends(0))).unwrap();
+    /// map.migrate_funding_tx(&[8; 32], &[9; 32], Some(&spends(1))).unwrap();
+    /// assert_eq!(map.apply().unwrap(), [OutPoint { tx_hash: [1; 32], index: 1 }]);
+    /// ```
+    pub fn migrate_funding_tx(&mut self, old_hash: &[u8; 32], new_hash: &[u8; 32], tx: Option<&[u8]>) -> Result<(), Refusal> {
+        lent(tx).and_then(|tx| ffi::exclusions_migrate_funding_tx(&mut self.table, old_hash, new_hash, tx))
+    }
+
+    /// Drops what was committed 13 blocks before the tip, or earlier.
+    ///
+    /// ```
+    /// assert_eq!(basinpantry::LiveCellsExclusionMap::new().truncate(113), Ok(()));
+    /// ```
+    pub fn truncate(&mut self, tip: u64) -> Result<(), Refusal> {
+        ffi::exclusions_truncate(&mut self.table, tip)
+    }
+
+    /// The out points of all entries, in their order.
+    ///
+    /// ```
+    /// assert!(basinpantry::LiveCellsExclusionMap::default().apply().unwrap().is_empty());
+    /// ```
+    pub fn apply(&self) -> Result<Vec<OutPoint>, Refusal> {
+        let mut out = vec![0; 4 + 36 * PLACES];
+        ffi::exclusions_apply(&self.table, &mut out)?;
+        Ok(read_out_points(&out))
+    }
+}
+
+/// No bytes stand for no transaction, so a transaction of no bytes, which is unreadable, may not be lent as such.
+fn lent(tx: Option<&[u8]>) -> Result<&[u8], Refusal> {
+    match tx {
+        Some([]) => Err(Refusal::OurTransactionUnreadable),
+        Some(tx) => Ok(tx),
+        None => Ok(&[]),
+    }
+}
+
+impl Default for LiveCellsExclusionMap {
+    fn default() -> LiveCellsExclusionMap {
+        LiveCellsExclusionMap::new()
+    }
+}
+
+impl std::fmt::Debug for LiveCellsExclusionMap {
+    fn fmt(&self, f: &mut std::fmt::Formatter<'_>) -> std::fmt::Result {
+        f.debug_struct("LiveCellsExclusionMap").field("bytes", &self.table.len()).finish_non_exhaustive()
+    }
+}

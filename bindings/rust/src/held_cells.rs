@@ -1,0 +1,201 @@
+//! Cells of ours that are held for a funding or for the watchtower.
+use crate::cells::{OutPoint, read_out_points, write_out_points};
+use crate::ffi;
+use crate::refusal::Refusal;
+
+/// How many bytes the table of holds has: a count of 4, and 256 places of 48.
+const HELD_BYTES: usize = 12_292;
+
+/// Room for a list of so many out points.
+fn room(points: usize) -> Vec<u8> {
+    vec![0; points.saturating_mul(36).saturating_add(4)]
+}
+
+/// Who takes cells.
+///
+/// ```
+/// assert_ne!(basinpantry::Taker::Watchtower, basinpantry::Taker::Funding(0));
+/// ```
+#[derive(Clone, Copy, Debug, PartialEq, Eq, Hash)]
+pub enum Taker {
+    /// The watchtower, for 60,000 ms.
+    Watchtower,
+    /// The funding of this holder, until it is released. Holders are the caller's numbers.
+    Funding(u64),
+}
+
+/// What a `take` gives: each pick, in pick order, is in one of the two.
+///
+/// ```
+/// assert!(basinpantry::Taken::default().taken.is_empty());
+/// ```
+#[derive(Clone, Debug, Default, PartialEq, Eq, Hash)]
+pub struct Taken {
+    /// The picks that were free and are now held.
+    pub taken: Vec<OutPoint>,
+    /// The picks that were held by anybody, spent, or taken earlier in the call.
+    pub refused: Vec<OutPoint>,
+}
+
+/// The node's own cells that a transaction of its own spends before it is committed: at most 256 hold records.
+///
+/// Times are in milliseconds, on any clock that the caller keeps to. A refused call leaves the table as it was.
+///
+/// ```
+/// use basinpantry::{HeldCells, OutPoint, Taken, Taker};
+///
+/// let a = OutPoint { tx_hash: [1; 32], index: 0 };
+/// let b = OutPoint { tx_hash: [1; 32], index: 1 };
+/// let mut held = HeldCells::new();
+/// let taken = held.take(&[a, a, b], &[], Taker::Funding(7), 0).unwrap();
+/// assert_eq!(taken, Taken { taken: vec![a, b], refused: vec![a] });
+/// assert_eq!(held.unavailable(&[a, b], &[], 1_000_000).unwrap(), [a, b]);
+/// ```
+#[derive(Clone, PartialEq, Eq)]
+pub struct HeldCells {
+    table: Box<[u8]>,
+}
+
+impl HeldCells {
+    /// The empty table.
+    ///
+    /// ```
+    /// assert!(basinpantry::HeldCells::new().lock_held(0).unwrap().is_empty());
+    /// ```
+    pub fn new() -> HeldCells {
+        HeldCells { table: vec![0; HELD_BYTES].into() }
+    }
+
+    /// The table of bytes that [`as_bytes`](HeldCells::as_bytes) gave, for instance from a file. Any content is safe; another length is no table.
+    ///
+    /// ```
+    /// use basinpantry::HeldCells;
+    ///
+    /// assert!(HeldCells::from_bytes(HeldCells::new().as_bytes()) == Some(HeldCells::new()));
+    /// assert!(HeldCells::from_bytes(&[]).is_none());
+    /// ```
+    pub fn from_bytes(table: &[u8]) -> Option<HeldCells> {
+        (table.len() == HELD_BYTES).then(|| HeldCells { table: table.into() })
+    }
+
+    /// The table's bytes, to be kept.
+    ///
+    /// ```
+    /// assert_eq!(basinpantry::HeldCells::new().as_bytes().len(), 12292);
+    /// ```
+    pub fn as_bytes(&self) -> &[u8] {
+        &self.table
+    }
+
+    /// The funding inputs that a holder holds now, in place of the ones that it held before. Refused: 14.
+    ///
+    /// ```
+    /// use basinpantry::{HeldCells, OutPoint, Refusal};
+    ///
+    /// let point = |index| OutPoint { tx_hash: [0; 32], index };
+    /// let mut held = HeldCells::new();
+    /// held.hold_funding(7, &[point(1), point(2)]).unwrap();
+    /// held.hold_funding(7, &[point(3)]).unwrap();
+    /// assert_eq!(held.lock_held(0).unwrap(), [point(3)]);
+    /// let many: Vec<OutPoint> = (0..256).map(point).collect();
+    /// assert_eq!(held.hold_funding(8, &many), Err(Refusal::TooManyHolds));
+    /// ```
+    pub fn hold_funding(&mut self, holder: u64, cells: &[OutPoint]) -> Result<(), Refusal> {
+        ffi::hold_funding(&mut self.table, holder, &write_out_points(cells))
+    }
+
+    /// The cells of a transaction that the watchtower sent at this time are held for 1,800,000 ms. Refused: 14.
+    ///
+    /// ```
+    /// use basinpantry::{HeldCells, OutPoint};
+    ///
+    /// let cell = OutPoint::default();
+    /// let mut held = HeldCells::new();
+    /// held.hold_for_watchtower(&[cell], 1_000).unwrap();
+    /// assert_eq!(held.unavailable(&[cell], &[], 1_800_999).unwrap(), [cell]);
+    /// assert!(held.unavailable(&[cell], &[], 1_801_000).unwrap().is_empty());
+    /// ```
+    pub fn hold_for_watchtower(&mut self, cells: &[OutPoint], time: u64) -> Result<(), Refusal> {
+        ffi::hold_for_watchtower(&mut self.table, &write_out_points(cells), time)
+    }
+
+    /// The cells of a transaction that the watchtower could not send are free again.
+    ///
+    /// ```
+    /// use basinpantry::{HeldCells, OutPoint};
+    ///
+    /// let cell = OutPoint::default();
+    /// let mut held = HeldCells::new();
+    /// held.hold_for_watchtower(&[cell], 1_000).unwrap();
+    /// held.release_for_watchtower(&[cell]).unwrap();
+    /// assert!(held.lock_held(1_000).unwrap().is_empty());
+    /// ```
+    pub fn release_for_watchtower(&mut self, cells: &[OutPoint]) -> Result<(), Refusal> {
+        ffi::release_for_watchtower(&mut self.table, &write_out_points(cells))
+    }
+
+    /// The out points of every cell that is held at this time, in the order of the records; watchtower records that have ended are dropped.
+    ///
+    /// ```
+    /// use basinpantry::{HeldCells, OutPoint};
+    ///
+    /// let mut held = HeldCells::new();
+    /// held.hold_for_watchtower(&[OutPoint::default()], 0).unwrap();
+    /// assert_eq!(held.lock_held(1_799_999).unwrap(), [OutPoint::default()]);
+    /// assert!(held.lock_held(1_800_000).unwrap().is_empty());
+    /// ```
+    pub fn lock_held(&mut self, time: u64) -> Result<Vec<OutPoint>, Refusal> {
+        let mut out = room(256);
+        ffi::lock_held(&mut self.table, time, &mut out)?;
+        Ok(read_out_points(&out))
+    }
+
+    /// The picks that are held at this time or spent, once each and in pick order. Nothing changes.
+    ///
+    /// ```
+    /// use basinpantry::{HeldCells, OutPoint};
+    ///
+    /// let cell = OutPoint::default();
+    /// assert_eq!(HeldCells::new().unavailable(&[cell, cell], &[cell], 0).unwrap(), [cell]);
+    /// ```
+    pub fn unavailable(&self, picked: &[OutPoint], spent: &[OutPoint], time: u64) -> Result<Vec<OutPoint>, Refusal> {
+        let mut out = room(picked.len());
+        ffi::unavailable(&self.table, &write_out_points(picked), &write_out_points(spent), time, &mut out)?;
+        Ok(read_out_points(&out))
+    }
+
+    /// Takes the picks that are free: not held by anybody at this time, not spent, and not taken earlier in the call. Ended watchtower records are dropped
+    /// first. Refused: 14.
+    ///
+    /// ```
+    /// use basinpantry::{HeldCells, OutPoint, Taker};
+    ///
+    /// let cell = OutPoint::default();
+    /// let mut held = HeldCells::new();
+    /// assert_eq!(held.take(&[cell], &[], Taker::Watchtower, 1_000).unwrap().taken, [cell]);
+    /// assert_eq!(held.take(&[cell], &[], Taker::Funding(1), 60_999).unwrap().refused, [cell]);
+    /// assert_eq!(held.take(&[cell], &[], Taker::Funding(1), 61_000).unwrap().taken, [cell]);
+    /// ```
+    pub fn take(&mut self, picked: &[OutPoint], spent: &[OutPoint], taker: Taker, time: u64) -> Result<Taken, Refusal> {
+        let holder = match taker {
+            Taker::Watchtower => None,
+            Taker::Funding(holder) => Some(holder),
+        };
+        let (mut taken, mut refused) = (room(picked.len()), room(picked.len()));
+        let (picked, spent) = (write_out_points(picked), write_out_points(spent));
+        ffi::take(&mut self.table, &picked, &spent, holder, time, &mut taken, &mut refused)?;
+        Ok(Taken { taken: read_out_points(&taken), refused: read_out_points(&refused) })
+    }
+}
+
+impl Default for HeldCells {
+    fn default() -> HeldCells {
+        HeldCells::new()
+    }
+}
+
+impl std::fmt::Debug for HeldCells {
+    fn fmt(&self, f: &mut std::fmt::Formatter<'_>) -> std::fmt::Result {
+        f.debug_struct("HeldCells").field("bytes", &self.table.len()).finish_non_exhaustive()
+    }
+}
