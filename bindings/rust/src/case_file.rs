@@ -1,5 +1,7 @@
 //! Case files: an update with everything that decides it.
 use crate::cells::record;
+#[cfg(feature = "pending")]
+use crate::ffi;
 use crate::molecule;
 use crate::refusal::Refusal;
 use crate::update::{Accepted, Update, update_for_peer};
@@ -7,6 +9,10 @@ use std::fmt;
 
 /// The longest case file that is judged.
 pub const MAX_CASE_BYTES: usize = 65_536;
+
+/// Room for the longest verdict line.
+#[cfg(feature = "pending")]
+const LINE_BYTES: usize = 105;
 
 /// The cell that an added input spends, as a case file has it: the bytes of its output, which may be anything, and its data.
 ///
@@ -288,4 +294,11 @@ pub fn check_case(file: &[u8]) -> String {
             format!("{}{values}\n", why.number())
         }
     }
+}
+
+#[cfg(feature = "pending")]
+pub fn check_case(file: &[u8]) -> String {
+    let mut line = [0; LINE_BYTES];
+    let length = ffi::check_case(file, &mut line);
+    line.iter().take(length).copied().map(char::from).collect()
 }

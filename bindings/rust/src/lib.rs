@@ -20,9 +20,13 @@
 
 mod case_file;
 mod cells;
+#[cfg(feature = "pending")]
+mod exclusions;
 #[allow(unsafe_code)]
 mod ffi;
 mod funding;
+#[cfg(feature = "pending")]
+mod held_cells;
 mod molecule;
 mod refusal;
 mod replay;
@@ -32,9 +36,13 @@ mod update;
 
 pub use case_file::{CaseError, CaseFile, CaseRecord, MAX_CASE_BYTES, check_case};
 pub use cells::{CellDep, CellInput, CellOutput, OutPoint, ResolvedCell, Script, write_records};
+#[cfg(feature = "pending")]
+pub use exclusions::LiveCellsExclusionMap;
 pub use funding::{
     BaseRequest, FundingCell, FundingRequest, TokenCell, TokenPick, build_base, build_funding_cell, build_udt_inputs_outputs,
 };
+#[cfg(feature = "pending")]
+pub use held_cells::{HeldCells, Taken, Taker};
 pub use refusal::Refusal;
 pub use replay::{Replay, replay};
 pub use sum::Sum;

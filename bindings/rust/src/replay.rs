@@ -1,7 +1,11 @@
 //! A list of updates.
 use crate::refusal::Refusal;
 use crate::sum::Sum;
+#[cfg(feature = "pending")]
+use crate::update::accepted;
 use crate::update::{Accepted, Update};
+#[cfg(feature = "pending")]
+use crate::{ffi, molecule};
 
 /// What a list of updates comes to.
 ///

@@ -24,7 +24,7 @@ impl std::fmt::Display for Accepted {
 }
 
 /// The figures of four words: each low half first.
-fn accepted(values: [u64; 4]) -> Accepted {
+pub(crate) fn accepted(values: [u64; 4]) -> Accepted {
     let [capacity_low, capacity_high, token_low, token_high] = values;
     Accepted { capacity: whole(capacity_low, capacity_high), token: whole(token_low, token_high) }
 }

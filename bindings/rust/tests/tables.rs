@@ -1,0 +1,165 @@
+//! The tables of cells: the known outcomes, limits, and that any content is safe.
+#![cfg(feature = "pending")]
+use basinpantry::{CellInput, HeldCells, LiveCellsExclusionMap, OutPoint, Refusal, Taken, Taker, Transaction};
+
+fn point(index: u32) -> OutPoint {
+    OutPoint { tx_hash: [7; 32], index }
+}
+
+fn points(from: u32, to: u32) -> Vec<OutPoint> {
+    (from..to).map(point).collect()
+}
+
+/// A transaction that spends these.
+fn spends(cells: &[OutPoint]) -> Vec<u8> {
+    let inputs = cells.iter().map(|cell| CellInput { since: 0, previous_output: *cell }).collect();
+    Transaction { inputs, ..Transaction::default() }.to_bytes()
+}
+
+#[test]
+fn held_by_the_watchtower() {
+    let mut held = HeldCells::new();
+    held.hold_for_watchtower(&[point(0)], 1_000).unwrap();
+    // busy at 1,800,999, free at 1,801,000
+    assert_eq!(held.unavailable(&[point(0)], &[], 1_800_999).unwrap(), [point(0)]);
+    assert_eq!(held.unavailable(&[point(0)], &[], 1_801_000).unwrap(), []);
+    let busy = held.clone().take(&[point(0)], &[], Taker::Funding(1), 1_800_999).unwrap();
+    assert_eq!(busy, Taken { taken: vec![], refused: vec![point(0)] });
+    let free = held.clone().take(&[point(0)], &[], Taker::Funding(1), 1_801_000).unwrap();
+    assert_eq!(free, Taken { taken: vec![point(0)], refused: vec![] });
+    assert_eq!(held.clone().lock_held(1_800_999).unwrap(), [point(0)]);
+    assert_eq!(held.lock_held(1_801_000).unwrap(), []);
+    // the ended record is gone, not only passed over
+    assert_eq!(held.lock_held(0).unwrap(), []);
+}
+
+#[test]
+fn pick_a_a_b() {
+    let (a, b) = (point(0), point(1));
+    for taker in [Taker::Funding(3), Taker::Watchtower] {
+        let mut held = HeldCells::new();
+        assert_eq!(held.take(&[a, a, b], &[], taker, 50).unwrap(), Taken { taken: vec![a, b], refused: vec![a] });
+        assert_eq!(held.lock_held(50).unwrap(), [a, b]);
+        // and again: both are held now, by whomever they are asked for
+        assert_eq!(held.take(&[b, a], &[], Taker::Funding(3), 50).unwrap(), Taken { taken: vec![], refused: vec![b, a] });
+    }
+    let mut held = HeldCells::new();
+    assert_eq!(held.take(&[a, b], &[b], Taker::Funding(3), 50).unwrap(), Taken { taken: vec![a], refused: vec![b] });
+    assert_eq!(held.take(&[], &[], Taker::Funding(3), 50).unwrap(), Taken::default());
+}
+
+#[test]
+fn a_holder_holds_its_last_list() {
+    let mut held = HeldCells::new();
+    held.hold_funding(1, &points(0, 2)).unwrap();
+    held.hold_funding(2, &points(2, 3)).unwrap();
+    held.hold_funding(1, &points(3, 4)).unwrap();
+    assert_eq!(held.lock_held(0).unwrap(), points(2, 4));
+    held.hold_funding(2, &[]).unwrap();
+    assert_eq!(held.lock_held(0).unwrap(), points(3, 4));
+    // a funding is not the watchtower's to release, and has no end
+    held.release_for_watchtower(&points(3, 4)).unwrap();
+    assert_eq!(held.lock_held(u64::MAX).unwrap(), points(3, 4));
+}
+
+#[test]
+fn at_most_256_holds() {
+    let mut held = HeldCells::new();
+    held.hold_funding(1, &points(0, 255)).unwrap();
+    held.hold_for_watchtower(&points(255, 256), 0).unwrap();
+    let full = held.clone();
+    assert_eq!(held.hold_for_watchtower(&points(256, 257), 5), Err(Refusal::TooManyHolds));
+    assert_eq!(held.hold_funding(2, &points(256, 257)), Err(Refusal::TooManyHolds));
+    assert_eq!(held.take(&points(256, 257), &[], Taker::Funding(2), 5), Err(Refusal::TooManyHolds));
+    // two picks where the ended record leaves room for one: refused, and the ended one stays
+    assert_eq!(held.take(&points(256, 258), &[], Taker::Funding(2), 1_800_000), Err(Refusal::TooManyHolds));
+    assert!(held == full);
+    assert_eq!(held.take(&points(256, 257), &[], Taker::Funding(2), 1_800_000).unwrap().taken, points(256, 257));
+    assert_eq!(held.lock_held(1_800_000).unwrap().len(), 256);
+}
+
+#[test]
+fn committed_and_dropped() {
+    let mut map = LiveCellsExclusionMap::new();
+    map.add(&[1; 32], Some(&spends(&points(0, 2)))).unwrap();
+    map.add(&[2; 32], Some(&spends(&points(2, 3)))).unwrap();
+    map.commit(&[1; 32], 100).unwrap();
+    for tip in [99, 112] {
+        map.truncate(tip).unwrap();
+        assert_eq!(map.apply().unwrap(), points(0, 3), "{tip}");
+    }
+    map.truncate(113).unwrap();
+    // the pending one stays
+    assert_eq!(map.apply().unwrap(), points(2, 3));
+    // entered again it is pending again
+    map.commit(&[2; 32], 200).unwrap();
+    map.add(&[2; 32], Some(&spends(&points(5, 6)))).unwrap();
+    map.truncate(u64::MAX).unwrap();
+    assert_eq!(map.apply().unwrap(), points(5, 6));
+    map.commit(&[2; 32], u64::MAX).unwrap();
+    map.truncate(u64::MAX).unwrap();
+    assert_eq!(map.apply().unwrap(), points(5, 6));
+}
+
+#[test]
+fn migrated() {
+    let mut map = LiveCellsExclusionMap::new();
+    map.add(&[1; 32], Some(&spends(&points(0, 1)))).unwrap();
+    map.add(&[2; 32], Some(&spends(&points(1, 2)))).unwrap();
+    map.migrate_funding_tx(&[1; 32], &[3; 32], Some(&spends(&points(2, 3)))).unwrap();
+    assert_eq!(map.apply().unwrap(), points(1, 3));
+    // an unknown hash changes nothing, but its transaction is read
+    let before = map.clone();
+    map.migrate_funding_tx(&[1; 32], &[4; 32], Some(&spends(&points(9, 10)))).unwrap();
+    assert_eq!(map.migrate_funding_tx(&[1; 32], &[4; 32], Some(&[1])), Err(Refusal::OurTransactionUnreadable));
+    assert_eq!(map.migrate_funding_tx(&[1; 32], &[4; 32], Some(&[])), Err(Refusal::OurTransactionUnreadable));
+    assert!(map == before);
+    map.migrate_funding_tx(&[2; 32], &[4; 32], None).unwrap();
+    assert_eq!(map.apply().unwrap(), points(2, 3));
+    map.remove(&[3; 32]).unwrap();
+    assert_eq!(map.apply().unwrap(), []);
+}
+
+#[test]
+fn at_most_64_transactions_and_512_out_points() {
+    let mut map = LiveCellsExclusionMap::new();
+    for i in 0..64u8 {
+        map.add(&[i; 32], Some(&spends(&points(8 * u32::from(i), 8 * u32::from(i) + 8)))).unwrap();
+    }
+    assert_eq!(map.apply().unwrap(), points(0, 512));
+    let full = map.clone();
+    assert_eq!(map.add(&[64; 32], Some(&spends(&[]))), Err(Refusal::TooManyExclusions));
+    assert_eq!(map.add(&[63; 32], Some(&spends(&points(504, 513)))), Err(Refusal::TooManyExclusions));
+    assert!(map == full);
+    map.add(&[63; 32], Some(&spends(&points(504, 511)))).unwrap();
+    assert_eq!(map.apply().unwrap(), points(0, 511));
+}
+
+#[test]
+fn any_bytes_are_a_table() {
+    let mut bytes = vec![0xff; 12_292];
+    let mut held = HeldCells::from_bytes(&bytes).unwrap();
+    assert!(held.lock_held(5).unwrap().len() <= 256);
+    assert!(held.unavailable(&points(0, 3), &[], 5).is_ok());
+    assert!(held.take(&points(0, 3), &[], Taker::Watchtower, u64::MAX).is_ok());
+    bytes.push(0);
+    assert!(HeldCells::from_bytes(&bytes).is_none());
+    let mut map = LiveCellsExclusionMap::from_bytes(&vec![0xff; 27_652]).unwrap();
+    assert!(map.apply().unwrap().len() <= 576);
+    let _ = map.add(&[1; 32], Some(&spends(&points(0, 3))));
+    map.truncate(u64::MAX).unwrap();
+    assert!(map.remove(&[0xff; 32]).is_ok());
+    assert!(map.apply().is_ok());
+}
+
+#[test]
+fn kept_and_taken_up_again() {
+    let mut held = HeldCells::new();
+    held.hold_funding(9, &points(0, 3)).unwrap();
+    let mut again = HeldCells::from_bytes(held.as_bytes()).unwrap();
+    assert_eq!(again.lock_held(0).unwrap(), points(0, 3));
+    let mut map = LiveCellsExclusionMap::new();
+    map.add(&[1; 32], Some(&spends(&points(0, 3)))).unwrap();
+    let again = LiveCellsExclusionMap::from_bytes(map.as_bytes()).unwrap();
+    assert_eq!(again.apply().unwrap(), points(0, 3));
+}
