@@ -8,6 +8,8 @@
 //!   return, and read and write nothing outside the lent slices;
 //! - the types are those of the header: `size_t` is `usize`, `bool` is `bool`, and a call answers 0 or 1 for one.
 //!
+//! No length has to be any particular one for that: a table of another length is refused (3), and so is a buffer that is too short (13).
+//!
 //! What is read is copied into Rust values by the modules above; nothing of the archive's is handed out.
 use crate::refusal::Refusal;
 

@@ -95,6 +95,9 @@ one that is in force by then.
 Exit status: 0 all accepted, 1 one was refused, 2 bad usage or a bad file.
 ";
 
+/// A command of the program, by the words after its name.
+type Command = fn(&[OsString]) -> Result<Done, Failure>;
+
 /// What a command prints, and its exit status.
 struct Done {
     out: Vec<u8>,
@@ -252,12 +255,13 @@ fn replay(words: &[OsString]) -> Result<Done, Failure> {
 fn run(words: &[OsString]) -> Result<Done, Failure> {
     let Some((command, rest)) = words.split_first() else { return Err(Failure(HELP.trim_end().to_string())) };
     let asks_for_help = rest.iter().any(|word| word == "--help" || word == "-h");
-    let (help, command_of): (&str, fn(&[OsString]) -> Result<Done, Failure>) = match &*command.to_string_lossy() {
+    let (help, command_of): (&str, Command) = match &*command.to_string_lossy() {
         "check" => (CHECK_HELP, check),
         "case" => (CASE_HELP, make),
         "show" => (SHOW_HELP, show),
         "replay" => (REPLAY_HELP, replay),
         "--help" | "-h" | "help" => return Ok(printed(HELP, 0)),
+        "--version" => return Ok(printed(concat!("basinpantry ", env!("CARGO_PKG_VERSION"), "\n"), 0)),
         other => return Err(Failure(format!("there is no command {other}; try: basinpantry --help"))),
     };
     if asks_for_help { Ok(printed(help, 0)) } else { command_of(rest) }
