@@ -163,3 +163,201 @@ fn kept_and_taken_up_again() {
     let again = LiveCellsExclusionMap::from_bytes(map.as_bytes()).unwrap();
     assert_eq!(again.apply().unwrap(), points(0, 3));
 }
+
+/// Numbers that look random and are the same in each run.
+struct Numbers(u64);
+
+impl Numbers {
+    fn below(&mut self, n: u64) -> u64 {
+        self.0 ^= self.0 << 13;
+        self.0 ^= self.0 >> 7;
+        self.0 ^= self.0 << 17;
+        self.0 % n
+    }
+
+    /// Out points, repeats among them.
+    fn points(&mut self) -> Vec<OutPoint> {
+        let most = [3, 12, 90][self.below(3) as usize];
+        (0..self.below(most)).map(|_| point(self.below(300) as u32)).collect()
+    }
+}
+
+/// A hold record in a plain list: a holder's, or the watchtower's until an end.
+#[derive(Clone, Copy, PartialEq)]
+enum Hold {
+    Funding(u64, OutPoint),
+    Watchtower(OutPoint, u64),
+}
+
+impl Hold {
+    fn point(&self) -> OutPoint {
+        match self {
+            Hold::Funding(_, point) | Hold::Watchtower(point, _) => *point,
+        }
+    }
+
+    fn unended(&self, time: u64) -> bool {
+        match self {
+            Hold::Funding(..) => true,
+            Hold::Watchtower(_, end) => *end > time,
+        }
+    }
+}
+
+/// The list after a change, unless it would be over 256.
+fn limited(list: &mut Vec<Hold>, changed: Vec<Hold>) -> Result<(), Refusal> {
+    if changed.len() > 256 {
+        return Err(Refusal::TooManyHolds);
+    }
+    *list = changed;
+    Ok(())
+}
+
+#[test]
+fn holds_beside_a_plain_list() {
+    let mut numbers = Numbers(3);
+    let (mut held, mut list): (HeldCells, Vec<Hold>) = (HeldCells::new(), Vec::new());
+    let mut refused = 0;
+    for _ in 0..3000 {
+        let cells = numbers.points();
+        let spent: Vec<OutPoint> = numbers.points().into_iter().take(5).collect();
+        let time = numbers.below(4_000_000);
+        let holder = numbers.below(5);
+        let answer = match numbers.below(6) {
+            0 => {
+                let mut changed = list.clone();
+                changed.retain(|hold| !matches!(hold, Hold::Funding(other, _) if *other == holder));
+                changed.extend(cells.iter().map(|cell| Hold::Funding(holder, *cell)));
+                let answer = limited(&mut list, changed);
+                assert_eq!(held.hold_funding(holder, &cells), answer);
+                answer
+            }
+            1 => {
+                let mut changed = list.clone();
+                for cell in &cells {
+                    let renewed = Hold::Watchtower(*cell, time + 1_800_000);
+                    match changed.iter_mut().find(|hold| matches!(hold, Hold::Watchtower(other, _) if other == cell)) {
+                        Some(hold) => *hold = renewed,
+                        None => changed.push(renewed),
+                    }
+                }
+                let answer = limited(&mut list, changed);
+                assert_eq!(held.hold_for_watchtower(&cells, time), answer);
+                answer
+            }
+            2 => {
+                list.retain(|hold| !matches!(hold, Hold::Watchtower(cell, _) if cells.contains(cell)));
+                assert_eq!(held.release_for_watchtower(&cells), Ok(()));
+                Ok(())
+            }
+            3 => {
+                list.retain(|hold| hold.unended(time));
+                let points: Vec<OutPoint> = list.iter().map(Hold::point).collect();
+                assert_eq!(held.lock_held(time), Ok(points));
+                Ok(())
+            }
+            4 => {
+                let mut expected = Vec::new();
+                for cell in &cells {
+                    let busy = spent.contains(cell) || list.iter().any(|hold| hold.unended(time) && hold.point() == *cell);
+                    if busy && !expected.contains(cell) {
+                        expected.push(*cell);
+                    }
+                }
+                assert_eq!(held.unavailable(&cells, &spent, time), Ok(expected));
+                Ok(())
+            }
+            _ => {
+                let taker = if holder == 0 { Taker::Watchtower } else { Taker::Funding(holder) };
+                let mut changed = list.clone();
+                changed.retain(|hold| hold.unended(time));
+                let mut expected = Taken::default();
+                for cell in &cells {
+                    if spent.contains(cell) || changed.iter().any(|hold| hold.point() == *cell) {
+                        expected.refused.push(*cell);
+                    } else {
+                        expected.taken.push(*cell);
+                        changed.push(match taker {
+                            Taker::Watchtower => Hold::Watchtower(*cell, time + 60_000),
+                            Taker::Funding(holder) => Hold::Funding(holder, *cell),
+                        });
+                    }
+                }
+                let answer = limited(&mut list, changed);
+                assert_eq!(held.take(&cells, &spent, taker, time), answer.map(|()| expected));
+                answer
+            }
+        };
+        refused += usize::from(answer.is_err());
+        // every record is there, the ended ones too
+        let all: Vec<OutPoint> = list.iter().map(Hold::point).collect();
+        assert_eq!(held.clone().lock_held(0).unwrap(), all);
+    }
+    assert!(refused > 20, "{refused}");
+}
+
+/// An entry of the exclusion map in a plain list: hash, block if committed, out points.
+type Entry = ([u8; 32], Option<u64>, Vec<OutPoint>);
+
+/// The entries with this one in the place of that of its hash, else last, unless they would be too many.
+fn entered(mut entries: Vec<Entry>, hash: [u8; 32], cells: &[OutPoint]) -> Result<Vec<Entry>, Refusal> {
+    let entry = (hash, None, cells.to_vec());
+    match entries.iter_mut().find(|(other, ..)| *other == hash) {
+        Some(old) => *old = entry,
+        None => entries.push(entry),
+    }
+    let points: usize = entries.iter().map(|(.., points)| points.len()).sum();
+    if entries.len() > 64 || points > 512 { Err(Refusal::TooManyExclusions) } else { Ok(entries) }
+}
+
+#[test]
+fn exclusions_beside_a_plain_list() {
+    let mut numbers = Numbers(4);
+    let (mut map, mut list): (LiveCellsExclusionMap, Vec<Entry>) = (LiveCellsExclusionMap::new(), Vec::new());
+    let mut refused = 0;
+    for _ in 0..4000 {
+        let hash = [numbers.below(80) as u8; 32];
+        let cells: Vec<OutPoint> = numbers.points().into_iter().take(20).collect();
+        let tx = (numbers.below(10) > 0).then(|| spends(&cells));
+        let block = numbers.below(300);
+        match numbers.below(12) {
+            0 => {
+                list.retain(|(.., block_of, _)| block_of.is_none_or(|committed| block < committed + 13));
+                assert_eq!(map.truncate(block), Ok(()));
+            }
+            1 => {
+                list.retain(|(other, ..)| *other != hash);
+                assert_eq!(map.remove(&hash), Ok(()));
+            }
+            2 | 3 => {
+                for entry in list.iter_mut().filter(|(other, ..)| *other == hash) {
+                    entry.1 = Some(block);
+                }
+                assert_eq!(map.commit(&hash, block), Ok(()));
+            }
+            4 | 5 => {
+                let new_hash = [numbers.below(80) as u8; 32];
+                let mut answer = Ok(());
+                if list.iter().any(|(other, ..)| *other == hash) {
+                    let mut changed = list.clone();
+                    changed.retain(|(other, ..)| *other != hash);
+                    let changed = if tx.is_some() { entered(changed, new_hash, &cells) } else { Ok(changed) };
+                    answer = changed.map(|changed| list = changed);
+                }
+                assert_eq!(map.migrate_funding_tx(&hash, &new_hash, tx.as_deref()), answer);
+                refused += usize::from(answer.is_err());
+            }
+            _ => {
+                let answer = match tx {
+                    Some(_) => entered(list.clone(), hash, &cells).map(|changed| list = changed),
+                    None => Ok(()),
+                };
+                assert_eq!(map.add(&hash, tx.as_deref()), answer);
+                refused += usize::from(answer.is_err());
+            }
+        }
+        let points: Vec<OutPoint> = list.iter().flat_map(|(.., points)| points.clone()).collect();
+        assert_eq!(map.apply().unwrap(), points);
+    }
+    assert!(refused > 20, "{refused}");
+}
