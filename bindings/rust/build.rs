@@ -6,7 +6,7 @@ const ARCHIVE: &str = "libcapi.a";
 
 fn main() {
     println!("cargo:rerun-if-env-changed=BASINPANTRY_LIB_DIR");
-    match archive_folder() {
+    match archive_folder().and_then(|folder| folder.canonicalize().map_err(|why| format!("{}: {why}", folder.display()))) {
         Ok(folder) => {
             println!("cargo:rerun-if-changed={}", folder.join(ARCHIVE).display());
             println!("cargo:rustc-link-search=native={}", folder.display());

@@ -1,6 +1,5 @@
 //! Case files: an update with everything that decides it.
 use crate::cells::record;
-#[cfg(feature = "pending")]
 use crate::ffi;
 use crate::molecule;
 use crate::refusal::Refusal;
@@ -11,7 +10,6 @@ use std::fmt;
 pub const MAX_CASE_BYTES: usize = 65_536;
 
 /// Room for the longest verdict line.
-#[cfg(feature = "pending")]
 const LINE_BYTES: usize = 105;
 
 /// The cell that an added input spends, as a case file has it: the bytes of its output, which may be anything, and its data.
@@ -281,22 +279,6 @@ impl CaseFile {
 /// ```
 /// assert_eq!(basinpantry::check_case(b"no case"), "3\n");
 /// ```
-#[cfg(not(feature = "pending"))]
-pub fn check_case(file: &[u8]) -> String {
-    let answer = match CaseFile::from_bytes(file) {
-        Ok(case) if file.len() <= MAX_CASE_BYTES => case.judge(),
-        _ => Err(Refusal::LentBytesUnreadable),
-    };
-    match answer {
-        Ok(accepted) => format!("0 {:032x}\n", accepted.capacity),
-        Err(why) => {
-            let values: String = why.values().iter().map(|value| format!(" {value}")).collect();
-            format!("{}{values}\n", why.number())
-        }
-    }
-}
-
-#[cfg(feature = "pending")]
 pub fn check_case(file: &[u8]) -> String {
     let mut line = [0; LINE_BYTES];
     let length = ffi::check_case(file, &mut line);

@@ -275,13 +275,11 @@ pub(crate) fn record(output: &[u8], data: &[u8]) -> Vec<u8> {
 }
 
 /// A list of out points, as the tables' calls read and write it.
-#[cfg_attr(not(feature = "pending"), allow(dead_code))]
 pub(crate) fn write_out_points(points: &[OutPoint]) -> Vec<u8> {
     molecule::fixvec(points.iter().map(OutPoint::to_bytes))
 }
 
 /// The out points of a list at the start of a buffer.
-#[cfg_attr(not(feature = "pending"), allow(dead_code))]
 pub(crate) fn read_out_points(buffer: &[u8]) -> Vec<OutPoint> {
     let Some((count, rest)) = buffer.split_first_chunk::<4>() else { return Vec::new() };
     let count = usize::try_from(u32::from_le_bytes(*count)).unwrap_or(usize::MAX);

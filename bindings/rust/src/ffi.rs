@@ -92,9 +92,6 @@ mod c {
             values: *mut u64,
             values_len: usize,
         ) -> u32;
-    }
-    #[cfg(feature = "pending")]
-    unsafe extern "C" {
         pub fn basinpantry_version(tx: *const u8, tx_len: usize) -> u32;
         pub fn basinpantry_item_count(tx: *const u8, tx_len: usize, list: u32) -> u32;
         pub fn basinpantry_item(
@@ -232,7 +229,6 @@ pub(crate) fn answer(number: u32, values: [u64; 4]) -> Result<[u64; 4], Refusal>
 }
 
 /// The same for a call without values.
-#[cfg(feature = "pending")]
 fn done(number: u32) -> Result<(), Refusal> {
     answer(number, [0; 4]).map(|_| ())
 }
@@ -305,114 +301,105 @@ pub(crate) fn build_base(lent: [&[u8]; 8], figures: [u64; 6], out: &mut [u8]) ->
     answer(number, values)
 }
 
-#[cfg(feature = "pending")]
-pub(crate) use pending::*;
+pub(crate) fn version(tx: &[u8]) -> u32 {
+    call!(basinpantry_version(bytes tx))
+}
 
-#[cfg(feature = "pending")]
-mod pending {
-    use super::{answer, c, done};
-    use crate::refusal::Refusal;
+pub(crate) fn item_count(tx: &[u8], list: u32) -> u32 {
+    call!(basinpantry_item_count(bytes tx, number list))
+}
 
-    pub(crate) fn version(tx: &[u8]) -> u32 {
-        call!(basinpantry_version(bytes tx))
-    }
+/// How many bytes item i has, which are written to the start of `out`.
+pub(crate) fn item(tx: &[u8], list: u32, i: usize, out: &mut [u8]) -> Result<[u64; 4], Refusal> {
+    let mut values = [0; 4];
+    let number = call!(basinpantry_item(bytes tx, number list, number i, buffer out, buffer values));
+    answer(number, values)
+}
 
-    pub(crate) fn item_count(tx: &[u8], list: u32) -> u32 {
-        call!(basinpantry_item_count(bytes tx, number list))
-    }
+/// `lists` are the cell deps, header deps, inputs, outputs, outputs data and witnesses.
+pub(crate) fn write_transaction(version: u32, lists: [&[u8]; 6], out: &mut [u8]) -> Result<[u64; 4], Refusal> {
+    let [cell_deps, header_deps, inputs, outputs, outputs_data, witnesses] = lists;
+    let mut values = [0; 4];
+    let number = call!(basinpantry_write_transaction(
+        number version, bytes cell_deps, bytes header_deps, bytes inputs, bytes outputs, bytes outputs_data, bytes witnesses,
+        buffer out, buffer values
+    ));
+    answer(number, values)
+}
 
-    /// How many bytes item i has, which are written to the start of `out`.
-    pub(crate) fn item(tx: &[u8], list: u32, i: usize, out: &mut [u8]) -> Result<[u64; 4], Refusal> {
-        let mut values = [0; 4];
-        let number = call!(basinpantry_item(bytes tx, number list, number i, buffer out, buffer values));
-        answer(number, values)
-    }
+pub(crate) fn rewrite(tx: &[u8], out: &mut [u8]) -> Result<[u64; 4], Refusal> {
+    let mut values = [0; 4];
+    let number = call!(basinpantry_rewrite(bytes tx, buffer out, buffer values));
+    answer(number, values)
+}
 
-    /// `lists` are the cell deps, header deps, inputs, outputs, outputs data and witnesses.
-    pub(crate) fn write_transaction(version: u32, lists: [&[u8]; 6], out: &mut [u8]) -> Result<[u64; 4], Refusal> {
-        let [cell_deps, header_deps, inputs, outputs, outputs_data, witnesses] = lists;
-        let mut values = [0; 4];
-        let number = call!(basinpantry_write_transaction(
-            number version, bytes cell_deps, bytes header_deps, bytes inputs, bytes outputs, bytes outputs_data, bytes witnesses,
-            buffer out, buffer values
-        ));
-        answer(number, values)
-    }
+pub(crate) fn replay(start: &[u8], lock: &[u8], udt: &[u8], updates: &[u8], answers: &mut [u64]) -> Result<[u64; 4], Refusal> {
+    let mut values = [0; 4];
+    let number = call!(basinpantry_replay(bytes start, bytes lock, bytes udt, bytes updates, buffer answers, buffer values));
+    answer(number, values)
+}
 
-    pub(crate) fn rewrite(tx: &[u8], out: &mut [u8]) -> Result<[u64; 4], Refusal> {
-        let mut values = [0; 4];
-        let number = call!(basinpantry_rewrite(bytes tx, buffer out, buffer values));
-        answer(number, values)
-    }
+pub(crate) fn check_case(file: &[u8], line: &mut [u8]) -> usize {
+    call!(basinpantry_check_case(bytes file, buffer line))
+}
 
-    pub(crate) fn replay(start: &[u8], lock: &[u8], udt: &[u8], updates: &[u8], answers: &mut [u64]) -> Result<[u64; 4], Refusal> {
-        let mut values = [0; 4];
-        let number = call!(basinpantry_replay(bytes start, bytes lock, bytes udt, bytes updates, buffer answers, buffer values));
-        answer(number, values)
-    }
+pub(crate) fn hold_funding(held: &mut [u8], holder: u64, cells: &[u8]) -> Result<(), Refusal> {
+    done(call!(basinpantry_hold_funding(buffer held, number holder, bytes cells)))
+}
 
-    pub(crate) fn check_case(file: &[u8], line: &mut [u8]) -> usize {
-        call!(basinpantry_check_case(bytes file, buffer line))
-    }
+pub(crate) fn hold_for_watchtower(held: &mut [u8], cells: &[u8], time: u64) -> Result<(), Refusal> {
+    done(call!(basinpantry_hold_for_watchtower(buffer held, bytes cells, number time)))
+}
 
-    pub(crate) fn hold_funding(held: &mut [u8], holder: u64, cells: &[u8]) -> Result<(), Refusal> {
-        done(call!(basinpantry_hold_funding(buffer held, number holder, bytes cells)))
-    }
+pub(crate) fn release_for_watchtower(held: &mut [u8], cells: &[u8]) -> Result<(), Refusal> {
+    done(call!(basinpantry_release_for_watchtower(buffer held, bytes cells)))
+}
 
-    pub(crate) fn hold_for_watchtower(held: &mut [u8], cells: &[u8], time: u64) -> Result<(), Refusal> {
-        done(call!(basinpantry_hold_for_watchtower(buffer held, bytes cells, number time)))
-    }
+pub(crate) fn lock_held(held: &mut [u8], time: u64, out: &mut [u8]) -> Result<(), Refusal> {
+    done(call!(basinpantry_lock_held(buffer held, number time, buffer out)))
+}
 
-    pub(crate) fn release_for_watchtower(held: &mut [u8], cells: &[u8]) -> Result<(), Refusal> {
-        done(call!(basinpantry_release_for_watchtower(buffer held, bytes cells)))
-    }
+pub(crate) fn unavailable(held: &[u8], picked: &[u8], spent: &[u8], time: u64, out: &mut [u8]) -> Result<(), Refusal> {
+    done(call!(basinpantry_unavailable(bytes held, bytes picked, bytes spent, number time, buffer out)))
+}
 
-    pub(crate) fn lock_held(held: &mut [u8], time: u64, out: &mut [u8]) -> Result<(), Refusal> {
-        done(call!(basinpantry_lock_held(buffer held, number time, buffer out)))
-    }
+/// For the watchtower where `holder` is none.
+pub(crate) fn take(
+    held: &mut [u8],
+    picked: &[u8],
+    spent: &[u8],
+    holder: Option<u64>,
+    time: u64,
+    taken: &mut [u8],
+    refused: &mut [u8],
+) -> Result<(), Refusal> {
+    let watchtower = holder.is_none();
+    let holder = holder.unwrap_or(0);
+    done(call!(basinpantry_take(
+        buffer held, bytes picked, bytes spent, number watchtower, number holder, number time, buffer taken, buffer refused
+    )))
+}
 
-    pub(crate) fn unavailable(held: &[u8], picked: &[u8], spent: &[u8], time: u64, out: &mut [u8]) -> Result<(), Refusal> {
-        done(call!(basinpantry_unavailable(bytes held, bytes picked, bytes spent, number time, buffer out)))
-    }
+pub(crate) fn exclusions_add(map: &mut [u8], hash: &[u8], tx: &[u8]) -> Result<(), Refusal> {
+    done(call!(basinpantry_exclusions_add(buffer map, bytes hash, bytes tx)))
+}
 
-    /// For the watchtower where `holder` is none.
-    pub(crate) fn take(
-        held: &mut [u8],
-        picked: &[u8],
-        spent: &[u8],
-        holder: Option<u64>,
-        time: u64,
-        taken: &mut [u8],
-        refused: &mut [u8],
-    ) -> Result<(), Refusal> {
-        let watchtower = holder.is_none();
-        let holder = holder.unwrap_or(0);
-        done(call!(basinpantry_take(
-            buffer held, bytes picked, bytes spent, number watchtower, number holder, number time, buffer taken, buffer refused
-        )))
-    }
+pub(crate) fn exclusions_commit(map: &mut [u8], hash: &[u8], block: u64) -> Result<(), Refusal> {
+    done(call!(basinpantry_exclusions_commit(buffer map, bytes hash, number block)))
+}
 
-    pub(crate) fn exclusions_add(map: &mut [u8], hash: &[u8], tx: &[u8]) -> Result<(), Refusal> {
-        done(call!(basinpantry_exclusions_add(buffer map, bytes hash, bytes tx)))
-    }
+pub(crate) fn exclusions_remove(map: &mut [u8], hash: &[u8]) -> Result<(), Refusal> {
+    done(call!(basinpantry_exclusions_remove(buffer map, bytes hash)))
+}
 
-    pub(crate) fn exclusions_commit(map: &mut [u8], hash: &[u8], block: u64) -> Result<(), Refusal> {
-        done(call!(basinpantry_exclusions_commit(buffer map, bytes hash, number block)))
-    }
+pub(crate) fn exclusions_migrate_funding_tx(map: &mut [u8], old_hash: &[u8], new_hash: &[u8], tx: &[u8]) -> Result<(), Refusal> {
+    done(call!(basinpantry_exclusions_migrate_funding_tx(buffer map, bytes old_hash, bytes new_hash, bytes tx)))
+}
 
-    pub(crate) fn exclusions_remove(map: &mut [u8], hash: &[u8]) -> Result<(), Refusal> {
-        done(call!(basinpantry_exclusions_remove(buffer map, bytes hash)))
-    }
+pub(crate) fn exclusions_truncate(map: &mut [u8], tip: u64) -> Result<(), Refusal> {
+    done(call!(basinpantry_exclusions_truncate(buffer map, number tip)))
+}
 
-    pub(crate) fn exclusions_migrate_funding_tx(map: &mut [u8], old_hash: &[u8], new_hash: &[u8], tx: &[u8]) -> Result<(), Refusal> {
-        done(call!(basinpantry_exclusions_migrate_funding_tx(buffer map, bytes old_hash, bytes new_hash, bytes tx)))
-    }
-
-    pub(crate) fn exclusions_truncate(map: &mut [u8], tip: u64) -> Result<(), Refusal> {
-        done(call!(basinpantry_exclusions_truncate(buffer map, number tip)))
-    }
-
-    pub(crate) fn exclusions_apply(map: &[u8], out: &mut [u8]) -> Result<(), Refusal> {
-        done(call!(basinpantry_exclusions_apply(bytes map, buffer out)))
-    }
+pub(crate) fn exclusions_apply(map: &[u8], out: &mut [u8]) -> Result<(), Refusal> {
+    done(call!(basinpantry_exclusions_apply(bytes map, buffer out)))
 }

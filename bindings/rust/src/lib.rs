@@ -4,6 +4,8 @@
 //!
 //! - [`update_for_peer`] judges one update, [`Negotiation`] keeps the transaction in force.
 //! - [`CaseFile`] is an update in one file; the program `basinpantry` makes, judges and shows such files.
+//! - [`replay`] judges a list of updates in one call.
+//! - [`HeldCells`] and [`LiveCellsExclusionMap`] keep which cells of ours are in use.
 //! - [`build_base`] writes the base transaction of our own side.
 //! - [`Transaction`], [`Script`] and the like are the lent bytes as Rust values.
 //!
@@ -20,12 +22,10 @@
 
 mod case_file;
 mod cells;
-#[cfg(feature = "pending")]
 mod exclusions;
 #[allow(unsafe_code)]
 mod ffi;
 mod funding;
-#[cfg(feature = "pending")]
 mod held_cells;
 mod molecule;
 mod refusal;
@@ -36,15 +36,15 @@ mod update;
 
 pub use case_file::{CaseError, CaseFile, CaseRecord, MAX_CASE_BYTES, check_case};
 pub use cells::{CellDep, CellInput, CellOutput, OutPoint, ResolvedCell, Script, write_records};
-#[cfg(feature = "pending")]
 pub use exclusions::LiveCellsExclusionMap;
 pub use funding::{
     BaseRequest, FundingCell, FundingRequest, TokenCell, TokenPick, build_base, build_funding_cell, build_udt_inputs_outputs,
 };
-#[cfg(feature = "pending")]
 pub use held_cells::{HeldCells, Taken, Taker};
 pub use refusal::Refusal;
 pub use replay::{Replay, replay};
 pub use sum::Sum;
-pub use transaction::{MAX_TRANSACTION_BYTES, Transaction, is_out_points, is_records, is_script, is_transaction};
+pub use transaction::{
+    MAX_TRANSACTION_BYTES, Transaction, is_out_points, is_records, is_script, is_transaction, rewrite, write_transaction,
+};
 pub use update::{Accepted, Negotiation, Update, update_for_peer};

@@ -1,10 +1,8 @@
 //! A list of updates.
 use crate::refusal::Refusal;
 use crate::sum::Sum;
-#[cfg(feature = "pending")]
 use crate::update::accepted;
 use crate::update::{Accepted, Update};
-#[cfg(feature = "pending")]
 use crate::{ffi, molecule};
 
 /// What a list of updates comes to.
@@ -36,23 +34,6 @@ pub struct Replay {
 /// assert_eq!(replayed.answers, [Err(Refusal::PeerTransactionUnreadable)]);
 /// assert_eq!(replayed.in_force, None);
 /// ```
-#[cfg(not(feature = "pending"))]
-pub fn replay(start: &[u8], lock: &[u8], udt: &[u8], updates: &[Update]) -> Result<Replay, Refusal> {
-    let mut negotiation = crate::update::Negotiation::new(start, lock, udt);
-    let mut replay = Replay::default();
-    for (k, update) in updates.iter().enumerate() {
-        let answer = negotiation.update(update);
-        if answer.is_ok() {
-            replay.in_force = Some(k);
-        }
-        replay.answers.push(answer);
-    }
-    replay.capacity = negotiation.capacity();
-    replay.token = negotiation.token();
-    Ok(replay)
-}
-
-#[cfg(feature = "pending")]
 pub fn replay(start: &[u8], lock: &[u8], udt: &[u8], updates: &[Update]) -> Result<Replay, Refusal> {
     let items: Vec<Vec<u8>> = updates
         .iter()

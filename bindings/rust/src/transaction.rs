@@ -1,5 +1,6 @@
 //! Transactions as Rust values.
 use crate::cells::{CellDep, CellInput, CellOutput, amount_of};
+use crate::refusal::Refusal;
 use crate::{ffi, molecule};
 
 /// The longest transaction that is judged or written.
@@ -117,16 +118,16 @@ impl Transaction {
         if !is_transaction(s) {
             return None;
         }
-        let [raw, witnesses] = molecule::parts(s)?.try_into().ok()?;
-        let [version, cell_deps, header_deps, inputs, outputs, outputs_data] = molecule::parts(raw)?.try_into().ok()?;
+        // an item is no longer than the transaction
+        let mut room = vec![0; s.len()];
         Some(Transaction {
-            version: u32::from_le_bytes(version.try_into().ok()?),
-            cell_deps: molecule::items(cell_deps, 37)?.into_iter().map(CellDep::from_bytes).collect::<Option<_>>()?,
-            header_deps: molecule::items(header_deps, 32)?.into_iter().map(|hash| hash.try_into().ok()).collect::<Option<_>>()?,
-            inputs: molecule::items(inputs, 44)?.into_iter().map(CellInput::from_bytes).collect::<Option<_>>()?,
-            outputs: molecule::parts(outputs)?.into_iter().map(CellOutput::from_bytes).collect::<Option<_>>()?,
-            outputs_data: contents(outputs_data)?,
-            witnesses: contents(witnesses)?,
+            version: ffi::version(s),
+            cell_deps: list(s, 0, &mut room, CellDep::from_bytes)?,
+            header_deps: list(s, 1, &mut room, |hash| hash.try_into().ok())?,
+            inputs: list(s, 2, &mut room, CellInput::from_bytes)?,
+            outputs: list(s, 3, &mut room, CellOutput::from_bytes)?,
+            outputs_data: list(s, 4, &mut room, |data| Some(data.to_vec()))?,
+            witnesses: list(s, 5, &mut room, |witness| Some(witness.to_vec()))?,
         })
     }
 
@@ -149,6 +150,47 @@ fn bytes_vec(entries: &[Vec<u8>]) -> Vec<u8> {
     molecule::table(&items)
 }
 
-fn contents(list: &[u8]) -> Option<Vec<Vec<u8>>> {
-    molecule::parts(list)?.into_iter().map(|entry| molecule::content(entry).map(<[u8]>::to_vec)).collect()
+/// The items of a list of a transaction, by the number of the list.
+fn list<T>(tx: &[u8], number: u32, room: &mut [u8], read: impl Fn(&[u8]) -> Option<T>) -> Option<Vec<T>> {
+    let count = usize::try_from(ffi::item_count(tx, number)).ok()?;
+    (0..count)
+        .map(|i| {
+            let [size, ..] = ffi::item(tx, number, i, room).ok()?;
+            read(room.get(..usize::try_from(size).ok()?)?)
+        })
+        .collect()
+}
+
+/// Writes a transaction by the proved writer. Refused: 13, where it would have more than 133,116 bytes.
+///
+/// ```
+/// use basinpantry::{Refusal, Transaction, write_transaction};
+///
+/// let tx = Transaction { witnesses: vec![vec![7; 9]], ..Transaction::default() };
+/// assert_eq!(write_transaction(&tx), Ok(tx.to_bytes()));
+/// let long = Transaction { witnesses: vec![vec![0; 140_000]], ..Transaction::default() };
+/// assert_eq!(write_transaction(&long), Err(Refusal::BufferTooShort));
+/// ```
+pub fn write_transaction(tx: &Transaction) -> Result<Vec<u8>, Refusal> {
+    let lists = tx.lists();
+    let mut out = vec![0; MAX_TRANSACTION_BYTES];
+    let [size, ..] = ffi::write_transaction(tx.version, lists.each_ref().map(|list| &list[..]), &mut out)?;
+    out.truncate(usize::try_from(size).unwrap_or(usize::MAX));
+    Ok(out)
+}
+
+/// Reads the fields of a transaction and writes them again, which is proved to give the same bytes. Refused: 1, 13.
+///
+/// ```
+/// use basinpantry::{Refusal, Transaction, rewrite};
+///
+/// let bytes = Transaction::default().to_bytes();
+/// assert_eq!(rewrite(&bytes), Ok(bytes));
+/// assert_eq!(rewrite(b"no transaction"), Err(Refusal::OurTransactionUnreadable));
+/// ```
+pub fn rewrite(tx: &[u8]) -> Result<Vec<u8>, Refusal> {
+    let mut out = vec![0; MAX_TRANSACTION_BYTES];
+    let [size, ..] = ffi::rewrite(tx, &mut out)?;
+    out.truncate(usize::try_from(size).unwrap_or(usize::MAX));
+    Ok(out)
 }

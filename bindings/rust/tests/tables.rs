@@ -1,5 +1,4 @@
 //! The tables of cells: the known outcomes, limits, and that any content is safe.
-#![cfg(feature = "pending")]
 use basinpantry::{CellInput, HeldCells, LiveCellsExclusionMap, OutPoint, Refusal, Taken, Taker, Transaction};
 
 fn point(index: u32) -> OutPoint {
