@@ -194,19 +194,19 @@ mod c {
     }
 }
 
-/// Calls a function of the archive with each slice as its pointer and its length.
+/// Calls a function of the archive, with a variable that is a slice of bytes, or one that is a buffer to write to, as its pointer and its length.
 macro_rules! call {
-    ($name:ident ( $($kind:ident $argument:expr),* )) => {
-        call!(@spread $name () $($kind $argument,)*)
+    ($name:ident ( $($arguments:tt)* )) => {
+        call!(@spread $name () $($arguments)*,)
     };
-    (@spread $name:ident ($($done:expr,)*) bytes $argument:expr, $($rest:tt)*) => {
-        call!(@spread $name ($($done,)* $argument.as_ptr(), $argument.len(),) $($rest)*)
+    (@spread $name:ident ($($done:expr,)*) bytes $slice:ident, $($rest:tt)*) => {
+        call!(@spread $name ($($done,)* $slice.as_ptr(), $slice.len(),) $($rest)*)
     };
-    (@spread $name:ident ($($done:expr,)*) buffer $argument:expr, $($rest:tt)*) => {
-        call!(@spread $name ($($done,)* $argument.as_mut_ptr(), $argument.len(),) $($rest)*)
+    (@spread $name:ident ($($done:expr,)*) buffer $slice:ident, $($rest:tt)*) => {
+        call!(@spread $name ($($done,)* $slice.as_mut_ptr(), $slice.len(),) $($rest)*)
     };
-    (@spread $name:ident ($($done:expr,)*) number $argument:expr, $($rest:tt)*) => {
-        call!(@spread $name ($($done,)* $argument,) $($rest)*)
+    (@spread $name:ident ($($done:expr,)*) number $number:expr, $($rest:tt)*) => {
+        call!(@spread $name ($($done,)* $number,) $($rest)*)
     };
     // SAFETY: as the head of this module says: pointers with lengths of lent slices, and only `&mut` slices are written to.
     (@spread $name:ident ($($done:expr,)*)) => {
