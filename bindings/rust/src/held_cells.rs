@@ -39,7 +39,8 @@ pub struct Taken {
 
 /// The node's own cells that a transaction of its own spends before it is committed: at most 256 hold records.
 ///
-/// Times are in milliseconds, on any clock that the caller keeps to. A refused call leaves the table as it was.
+/// Times are in milliseconds, on any clock that the caller keeps to. A refused call leaves the table as it was. Threads that share a table put it behind a
+/// `Mutex`, and a look and the taking that follows it under one lock.
 ///
 /// ```
 /// use basinpantry::{HeldCells, OutPoint, Taken, Taker};
