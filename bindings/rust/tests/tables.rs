@@ -319,7 +319,7 @@ fn exclusions_beside_a_plain_list() {
         let cells: Vec<OutPoint> = numbers.points().into_iter().take(20).collect();
         let tx = (numbers.below(10) > 0).then(|| spends(&cells));
         let block = numbers.below(300);
-        match numbers.below(12) {
+        match numbers.below(40) {
             0 => {
                 list.retain(|(.., block_of, _)| block_of.is_none_or(|committed| block < committed + 13));
                 assert_eq!(map.truncate(block), Ok(()));
