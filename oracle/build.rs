@@ -4,7 +4,7 @@
 //! between `pub mod NAME {` and `}`, with one line behind it that brings the stand-ins into scope, and our probe as a child module (a child sees its
 //! parent's private items, so nothing in the file has to be made public).
 //!
-//! The library, as the static library that BASINPANTRY_LIB names (else ../target/staticlib/libcapi.a): it is linked to `compare` alone. Functions of the
+//! The library, as the static library that BASINPANTRY_LIB names (else ../target/staticlib/libcapi.a): it is linked to `compare` and `bench_update` alone. Functions of the
 //! header that it does not have yet are listed in OUT_DIR/missing.rs, so that their kinds of calls are passed over.
 use std::path::{Path, PathBuf};
 use std::{env, fs};
@@ -95,6 +95,7 @@ fn main() {
     println!("cargo:rerun-if-changed={}", library.display());
     if library.is_file() {
         println!("cargo:rustc-link-arg-bin=compare={}", library.display());
+        println!("cargo:rustc-link-arg-bin=bench_update={}", library.display());
     }
     let to = PathBuf::from(env::var("OUT_DIR").unwrap());
     fs::write(to.join("reference.rs"), reference()).unwrap();
