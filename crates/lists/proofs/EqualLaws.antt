@@ -12,7 +12,7 @@ use lib.ListN.{length, drop, getD, drop-of-length-le}
 use lib.Seq.{drop-cons}
 use Rattle.lists.specs.Lists.{eqBytes}
 
-not-so : (b : Bool) → (b ≡ true → ⊥) → b ≡ false
+pub not-so : (b : Bool) → (b ≡ true → ⊥) → b ≡ false
 not-so true h = absurd (h refl)
 not-so false h = refl
 

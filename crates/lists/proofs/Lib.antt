@@ -1,4 +1,5 @@
 pub mod AgreeLaws
+pub mod BlockLaws
 pub mod EqualLaws
 pub mod LoopLaws
 pub mod RunLaws

@@ -1,6 +1,7 @@
 // Lists compared item by item: the peer's list goes on from ours, or holds all of ours.
 ghost use mathlib.Core.Path.{_≡_};
-ghost use lib.ListN.{drop};
+ghost use Prim.Native.Nat.{_+_, _≤_};
+ghost use lib.ListN.{length, take, drop};
 ghost use Rattle.molecule.specs.Layout.{fixItem, fixItems, itemOf, itemsOf, entryOf, entriesOf};
 ghost use Rattle.lists.specs.Lists.{eqBytes, extends, contains, containsAll};
 
@@ -10,13 +11,16 @@ const FIRST_OUTPUT: usize = 1;
 // So may its data.
 const FIRST_ENTRY: usize = 1;
 
-// Whether a and b hold the same bytes. The loop has no early exit, so that it is compiled to wide comparisons.
-pub fn same(a: &[u8], b: &[u8]) -> bool
+// How many bytes are compared at a time: a script has one such block or two, a long run is compared at the speed of memory.
+const BLOCK: usize = 64;
+
+const LONG_BLOCK: usize = 256;
+
+// Whether two strings of one length hold the same bytes. This loop and those over a block have no early exit, so that they are compiled to wide comparisons.
+fn same_run(a: &[u8], b: &[u8]) -> bool
+    requires { ⌜ length (now a) ≡ length (now b) ⌝ }
     ensures { λ r. ⌜ r ≡ eqBytes (now (a .entry)) (now (b .entry)) ⌝ }
 {
-    if a.len() != b.len() {
-        return false;
-    }
     let mut ok = true;
     let mut i = 0;
     while i < a.len() {
@@ -26,6 +30,90 @@ pub fn same(a: &[u8], b: &[u8]) -> bool
         i += 1;
     }
     ok
+}
+
+// A block from `at` on. The loop's length is known, so it is unrolled.
+fn same_block(a: &[u8], b: &[u8], at: usize) -> bool
+    requires { ⌜ at + 64 ≤ length (now a) ⌝ }
+    requires { ⌜ at + 64 ≤ length (now b) ⌝ }
+    ensures { λ r. ⌜ r ≡ eqBytes (take 64 (drop at (now (a .entry)))) (take 64 (drop at (now (b .entry)))) ⌝ }
+{
+    let mut ok = true;
+    let mut i = 0;
+    while i < BLOCK {
+        if a[at + i] != b[at + i] {
+            ok = false;
+        }
+        i += 1;
+    }
+    ok
+}
+
+// A long block.
+fn same_long_block(a: &[u8], b: &[u8], at: usize) -> bool
+    requires { ⌜ at + 256 ≤ length (now a) ⌝ }
+    requires { ⌜ at + 256 ≤ length (now b) ⌝ }
+    ensures { λ r. ⌜ r ≡ eqBytes (take 256 (drop at (now (a .entry)))) (take 256 (drop at (now (b .entry)))) ⌝ }
+{
+    let mut ok = true;
+    let mut i = 0;
+    while i < LONG_BLOCK {
+        if a[at + i] != b[at + i] {
+            ok = false;
+        }
+        i += 1;
+    }
+    ok
+}
+
+// Block by block; the last block ends with the bytes, and may look at some of them again.
+fn same_by_blocks(a: &[u8], b: &[u8]) -> bool
+    requires { ⌜ length (now a) ≡ length (now b) ⌝ }
+    requires { ⌜ 64 ≤ length (now a) ⌝ }
+    ensures { λ r. ⌜ r ≡ eqBytes (now (a .entry)) (now (b .entry)) ⌝ }
+{
+    let last = a.len() - BLOCK;
+    let mut i = 0;
+    while i < last {
+        if !same_block(a, b, i) {
+            return false;
+        }
+        i += BLOCK;
+    }
+    same_block(a, b, last)
+}
+
+// The same by long blocks.
+fn same_by_long_blocks(a: &[u8], b: &[u8]) -> bool
+    requires { ⌜ length (now a) ≡ length (now b) ⌝ }
+    requires { ⌜ 256 ≤ length (now a) ⌝ }
+    ensures { λ r. ⌜ r ≡ eqBytes (now (a .entry)) (now (b .entry)) ⌝ }
+{
+    let last = a.len() - LONG_BLOCK;
+    let mut i = 0;
+    while i < last {
+        if !same_long_block(a, b, i) {
+            return false;
+        }
+        i += LONG_BLOCK;
+    }
+    same_long_block(a, b, last)
+}
+
+// Whether a and b hold the same bytes.
+pub fn same(a: &[u8], b: &[u8]) -> bool
+    ensures { λ r. ⌜ r ≡ eqBytes (now (a .entry)) (now (b .entry)) ⌝ }
+{
+    if a.len() != b.len() {
+        return false;
+    }
+    if a.len() < BLOCK {
+        return same_run(a, b);
+    }
+    if a.len() < LONG_BLOCK {
+        return same_by_blocks(a, b);
+    }
+    same_by_long_blocks(a, b)
 }
 
 // Fixvecs of items of k bytes: each item of a stands in b at its place. The items lie next to each other, so their bytes are compared as one run.
