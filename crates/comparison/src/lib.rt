@@ -2,14 +2,13 @@
 // reordered, output 0 and its data may change, and witnesses are not compared.
 use transaction::fields;
 ghost use mathlib.Core.Path.{_≡_};
-ghost use lib.ListN.{length, drop};
-ghost use lib.Dec.{leb, eqb};
-ghost use Rattle.lists.specs.Lists.{containsAll, extends};
+ghost use lib.Dec.{eqb};
+ghost use Rattle.lists.specs.Lists.{extends};
 ghost use Rattle.transaction.specs.Tx.{txAt};
 ghost use Rattle.rules.specs.Outcome.{check};
 ghost use Rattle.rules.specs.Cells.{cells};
-ghost use Rattle.rules.specs.Surplus.{isOf};
-ghost use Rattle.rules.specs.Judge.{atFirst, hasLock, noDataUntyped, comparison};
+ghost use Rattle.rules.specs.Judge.{comparison};
+ghost use Rattle.comparison.specs.Together.{noneMissing, keptAfterFirst, fundingCellFirst};
 
 fn same_version(ours: &[u8], peer: &[u8]) -> bool
     ensures { λ r. ⌜ r ≡ eqb (txAt (now (ours .entry)) .version) (txAt (now (peer .entry)) .version) ⌝ }
@@ -19,20 +18,15 @@ fn same_version(ours: &[u8], peer: &[u8]) -> bool
     a == b
 }
 
-fn no_fewer_cell_deps(ours: &[u8], peer: &[u8]) -> bool
-    ensures { λ r. ⌜ r ≡ leb (length (txAt (now (ours .entry)) .cellDeps)) (length (txAt (now (peer .entry)) .cellDeps)) ⌝ }
-{
-    let a = fields::cell_dep_count(ours);
-    let b = fields::cell_dep_count(peer);
-    a <= b
-}
-
-// None of our cell deps is missing.
-fn has_cell_deps(ours: &[u8], peer: &[u8]) -> bool
-    ensures { λ r. ⌜ r ≡ containsAll (txAt (now (ours .entry)) .cellDeps) (txAt (now (peer .entry)) .cellDeps) ⌝ }
+// No fewer cell deps, and none of ours is missing.
+fn keeps_cell_deps(ours: &[u8], peer: &[u8]) -> bool
+    ensures { λ r. ⌜ r ≡ noneMissing (txAt (now (ours .entry)) .cellDeps) (txAt (now (peer .entry)) .cellDeps) ⌝ }
 {
     let a = fields::cell_deps(ours);
     let b = fields::cell_deps(peer);
+    if molecule::fix_count(b) < molecule::fix_count(a) {
+        return false;
+    }
     lists::fix_has_all(a, b, 37)
 }
 
@@ -54,89 +48,63 @@ fn extends_inputs(ours: &[u8], peer: &[u8]) -> bool
     lists::fix_extends(a, b, 44)
 }
 
-fn no_fewer_outputs(ours: &[u8], peer: &[u8]) -> bool
-    ensures { λ r. ⌜ r ≡ leb (length (txAt (now (ours .entry)) .outputs)) (length (txAt (now (peer .entry)) .outputs)) ⌝ }
+// No fewer outputs, and ours after 0 at their places.
+fn keeps_outputs(ours: &[u8], peer: &[u8]) -> bool
+    ensures { λ r. ⌜ r ≡ keptAfterFirst (txAt (now (ours .entry)) .outputs) (txAt (now (peer .entry)) .outputs) ⌝ }
 {
-    let a = fields::output_count(ours);
-    let b = fields::output_count(peer);
-    a <= b
+    let a = fields::outputs(ours);
+    let b = fields::outputs(peer);
+    if molecule::item_count(b) < molecule::item_count(a) {
+        return false;
+    }
+    lists::items_extend(a, b)
 }
 
-// Output 0, if present, has the expected lock.
-fn has_lock(lock: &[u8], peer: &[u8]) -> bool
-    ensures { λ r. ⌜ r ≡ atFirst (hasLock (now (lock .entry))) (cells (txAt (now (peer .entry)))) ⌝ }
+// Output 0, if present, has the expected lock and type, and no data where it is untyped.
+fn is_funding_cell(lock: &[u8], udt: &[u8], peer: &[u8]) -> bool
+    ensures { λ r. ⌜ r ≡ fundingCellFirst (now (lock .entry)) (now (udt .entry)) (cells (txAt (now (peer .entry)))) ⌝ }
 {
-    if fields::output_count(peer) == 0 {
+    let outputs = fields::outputs(peer);
+    if molecule::item_count(outputs) == 0 {
         return true;
     }
-    let o = fields::output(peer, 0);
+    let o = molecule::item(outputs, 0);
     let l = fields::lock(o);
-    lists::same(lock, l)
-}
-
-// Output 0, if present, has the expected type.
-fn has_type(udt: &[u8], peer: &[u8]) -> bool
-    ensures { λ r. ⌜ r ≡ atFirst (isOf (now (udt .entry))) (cells (txAt (now (peer .entry)))) ⌝ }
-{
-    if fields::output_count(peer) == 0 {
-        return true;
+    if !lists::same(lock, l) {
+        return false;
     }
-    let o = fields::output(peer, 0);
     let t = fields::type_script(o);
-    lists::same(udt, t)
-}
-
-// Output 0, if present and untyped, has no data.
-fn no_data_untyped(udt: &[u8], peer: &[u8]) -> bool
-    ensures { λ r. ⌜ r ≡ atFirst (noDataUntyped (now (udt .entry))) (cells (txAt (now (peer .entry)))) ⌝ }
-{
-    if udt.len() != 0 {
-        return true;
+    if !lists::same(udt, t) {
+        return false;
     }
-    if fields::output_count(peer) == 0 {
+    if udt.len() != 0 {
         return true;
     }
     let d = fields::output_data(peer, 0);
     d.len() == 0
 }
 
-// Our outputs after 0 at their places, with none fewer.
-fn extends_outputs(ours: &[u8], peer: &[u8]) -> bool
-    ensures { λ r. ⌜ r ≡ extends (drop 1 (txAt (now (ours .entry)) .outputs)) (drop 1 (txAt (now (peer .entry)) .outputs)) ⌝ }
-{
-    let a = fields::outputs(ours);
-    let b = fields::outputs(peer);
-    lists::items_extend(a, b)
-}
-
-fn no_fewer_data(ours: &[u8], peer: &[u8]) -> bool
-    ensures { λ r. ⌜ r ≡ leb (length (txAt (now (ours .entry)) .outputsData)) (length (txAt (now (peer .entry)) .outputsData)) ⌝ }
-{
-    let a = fields::output_data_count(ours);
-    let b = fields::output_data_count(peer);
-    a <= b
-}
-
-// Our data entries after 0 at their places, with none fewer.
-fn extends_data(ours: &[u8], peer: &[u8]) -> bool
-    ensures { λ r. ⌜ r ≡ extends (drop 1 (txAt (now (ours .entry)) .outputsData)) (drop 1 (txAt (now (peer .entry)) .outputsData)) ⌝ }
+// No fewer data entries, and ours after 0 at their places.
+fn keeps_data(ours: &[u8], peer: &[u8]) -> bool
+    ensures { λ r. ⌜ r ≡ keptAfterFirst (txAt (now (ours .entry)) .outputsData) (txAt (now (peer .entry)) .outputsData) ⌝ }
 {
     let a = fields::outputs_data(ours);
     let b = fields::outputs_data(peer);
+    if molecule::item_count(b) < molecule::item_count(a) {
+        return false;
+    }
     lists::entries_extend(a, b)
 }
 
-// Whether the peer keeps what is ours and has the expected funding cell as output 0; the refusal is 5.
+// Whether the peer keeps what is ours and has the expected funding cell as output 0; the refusal is 5. Tests that read one list stand together: all of
+// them have the one refusal, so their order can't be told.
 pub fn keeps_ours(ours: &[u8], peer: &[u8], lock: &[u8], udt: &[u8]) -> bool
     ensures { λ r. ⌜ check 5 r ≡ comparison (now (lock .entry)) (now (udt .entry)) (txAt (now (ours .entry))) (txAt (now (peer .entry))) ⌝ }
 {
     if !same_version(ours, peer) {
         return false;
     }
-    if !no_fewer_cell_deps(ours, peer) {
-        return false;
-    }
-    if !has_cell_deps(ours, peer) {
+    if !keeps_cell_deps(ours, peer) {
         return false;
     }
     if !extends_header_deps(ours, peer) {
@@ -145,23 +113,11 @@ pub fn keeps_ours(ours: &[u8], peer: &[u8], lock: &[u8], udt: &[u8]) -> bool
     if !extends_inputs(ours, peer) {
         return false;
     }
-    if !no_fewer_outputs(ours, peer) {
+    if !keeps_outputs(ours, peer) {
         return false;
     }
-    if !has_lock(lock, peer) {
+    if !is_funding_cell(lock, udt, peer) {
         return false;
     }
-    if !has_type(udt, peer) {
-        return false;
-    }
-    if !no_data_untyped(udt, peer) {
-        return false;
-    }
-    if !extends_outputs(ours, peer) {
-        return false;
-    }
-    if !no_fewer_data(ours, peer) {
-        return false;
-    }
-    extends_data(ours, peer)
+    keeps_data(ours, peer)
 }

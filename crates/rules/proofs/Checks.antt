@@ -33,3 +33,13 @@ module _ (n : ℕ) where
 
   pub pass-two : (a b : Bool) {x r : Outcome (Unit {0})} → (a && b) ≡ true → x ≡ r → x ≡ (check n a >> (check n b >> r))
   pass-two a b {x} {r} e h = pass e h ∙ two a b r
+
+  -- the second of them further on
+  pub fail-apart : (a b : Bool) {r : Outcome (Unit {0})} → (b ≡ false → check n false ≡ r) → (a && b) ≡ false → check n false ≡ (check n a >> r)
+  fail-apart true b h e = skip true (h e)
+  fail-apart false b {r} h e = fail r refl
+
+  pub last-two : (a b : Bool) → check n (a && b) ≡ (check n a >> check n b)
+  unfolding check checkWith _>>_
+  last-two true b = refl
+  last-two false b = refl

@@ -8,25 +8,15 @@ keeps-ours-spec =
     (tie.spec
     (λ c κs. search ways)  -- same-version-requires
     (λ c. search ways)  -- returns
-    (λ c κs. search ways)  -- no-fewer-cell-deps-requires
+    (λ c κs. search ways)  -- keeps-cell-deps-requires
     (λ c. search ways)  -- returns-2
-    (λ c κs. search ways)  -- has-cell-deps-requires
-    (λ c. search ways)  -- returns-3
     (λ c κs. search ways)  -- extends-header-deps-requires
-    (λ c. search ways)  -- returns-4
+    (λ c. search ways)  -- returns-3
     (λ c κs. search ways)  -- extends-inputs-requires
+    (λ c. search ways)  -- returns-4
+    (λ c κs. search ways)  -- keeps-outputs-requires
     (λ c. search ways)  -- returns-5
-    (λ c κs. search ways)  -- no-fewer-outputs-requires
+    (λ c κs. search ways)  -- is-funding-cell-requires
     (λ c. search ways)  -- returns-6
-    (λ c κs. search ways)  -- has-lock-requires
-    (λ c. search ways)  -- returns-7
-    (λ c κs. search ways)  -- has-type-requires
-    (λ c. search ways)  -- returns-8
-    (λ c κs. search ways)  -- no-data-untyped-requires
-    (λ c. search ways)  -- returns-9
-    (λ c κs. search ways)  -- extends-outputs-requires
-    (λ c. search ways)  -- returns-10
-    (λ c κs. search ways)  -- no-fewer-data-requires
-    (λ c. search ways)  -- returns-11
-    (λ c κs. search ways)  -- extends-data-requires
-    (λ c. search ways))  -- returns-12
+    (λ c κs. search ways)  -- keeps-data-requires
+    (λ c. search ways))  -- returns-7
