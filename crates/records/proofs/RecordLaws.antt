@@ -28,13 +28,9 @@ use Rattle.rules.specs.Told.{refusal}
 use Rattle.records.specs.declared.Resolved.{Resolved}
 use Rattle.records.specs.Resolved.{resolved}
 
-pub live-is : (s : List ℕ) (i : ℕ) {x : List ℕ} → x ≡ itemOf s i → not (eqb (length x) 0) ≡ not (eqb (length (itemOf s i)) 0)
-live-is s i e = ap (λ (l : List ℕ). not (eqb (length l) 0)) e
-
-pub our-lock : (source s : List ℕ) (i : ℕ) {x o l : List ℕ} {r : Bool} → x ≡ itemOf s i → o ≡ firstOf x → l ≡ lockOf o → r ≡ eqBytes source l
-    → r ≡ hasLock source (recordCellAt s i)
-unfolding hasLock recordCellAt
-our-lock source s i ex eo el er = er ∙ ap (eqBytes source) (el ∙ ap lockOf (eo ∙ ap firstOf ex))
+pub our-lock : (source x : List ℕ) {o l : List ℕ} {r : Bool} → o ≡ firstOf x → l ≡ lockOf o → r ≡ eqBytes source l → r ≡ hasLock source (recordCell x)
+unfolding hasLock
+our-lock source x eo el er = er ∙ ap (eqBytes source) (el ∙ ap lockOf eo)
 
 pub index-fits : (b i n : ℕ) → Fits w32 b → Fits w32 n → i < n → Fits w64 (b + i)
 index-fits b i n p q h = omega arith
@@ -48,41 +44,30 @@ alive-start source s first {n} e =
     let z : first ≡ first + 0 = omega arith in
     record { rest = rw (← e) (ap₂ (live source) z (span-whole (recordAt s) n)) }
 
-record-is : (s : List ℕ) (i : ℕ) (b : Bool) → eqb (length (itemOf s i)) 0 ≡ b → recordAt s i ≡ cond b none (some (recordCellAt s i))
-unfolding recordAt recordCellAt
-record-is s i b e = rw e
+record-is : (s : List ℕ) (i : ℕ) {x : List ℕ} (b : Bool) → x ≡ itemOf s i → eqb (length x) 0 ≡ b → recordAt s i ≡ cond b none (some (recordCell x))
+unfolding recordAt
+record-is s i b ex e = rw (← ex, e)
 
 module _ {source s : List ℕ} {first n i : ℕ} {R : Outcome (Unit {0})} (h : Alive source s first n i R) where
   pub alive-end : n ≤ i → resolved Resolved.Live tt ≡ R
   unfolding live
   alive-end l = sym (h .rest ∙ rw (span-end (recordAt s) i n l))
 
-  module _ {r : Bool} (l : i < n) (e : r ≡ not (eqb (length (itemOf s i)) 0)) where
-    pub alive-dead : not r ≡ true → resolved (Resolved.Refused Refusal.InvalidPeerFundingTx) tt ≡ R
+  module _ {x : List ℕ} (l : i < n) (ex : x ≡ itemOf s i) where
+    pub alive-dead : length x ≡ 0 → resolved (Resolved.Refused Refusal.InvalidPeerFundingTx) tt ≡ R
     unfolding live number values
-    alive-dead t = sym (h .rest ∙ rw (span-on (recordAt s) i n l, record-is s i true (by (eqb (length (itemOf s i)) 0) (sym e ∙ not-true r t))))
-      where
-        by : (b : Bool) → not b ≡ false → b ≡ true
-        by true q = refl
-        by false q = sym q
+    alive-dead z = sym (h .rest ∙ rw (span-on (recordAt s) i n l, record-is s i true ex (eq-eqb (length x) 0 z)))
 
-    module _ {q : Bool} (t : not r ≡ false) (eq : q ≡ hasLock source (recordCellAt s i)) where
-      is-live : eqb (length (itemOf s i)) 0 ≡ false
-      is-live = by (eqb (length (itemOf s i)) 0) (sym e ∙ not-false r t)
-        where
-          by : (b : Bool) → not b ≡ true → b ≡ false
-          by true q = sym q
-          by false q = refl
-
+    module _ {q : Bool} (z : length x ≡ 0 → ⊥) (eq : q ≡ hasLock source (recordCell x)) where
       pub alive-ours : q ≡ true → resolved (Resolved.Refused (Refusal.PeerInputUsesOurFundingLock (first + i))) tt ≡ R
       unfolding live checkWith _>>_ number values
-      alive-ours u = sym (h .rest ∙ rw (span-on (recordAt s) i n l, record-is s i false is-live, ← eq, u))
+      alive-ours u = sym (h .rest ∙ rw (span-on (recordAt s) i n l, record-is s i false ex (ne-eqb (length x) 0 z), ← eq, u))
 
       pub alive-more : q ≡ false → Alive source s first n (i + 1) R
       unfolding live checkWith _>>_
       alive-more u =
-          let z : suc (first + i) ≡ first + (i + 1) = omega arith in
-          record { rest = h .rest ∙ rw (span-on (recordAt s) i n l, record-is s i false is-live, ← eq, u, z) }
+          let k : suc (first + i) ≡ first + (i + 1) = omega arith in
+          record { rest = h .rest ∙ rw (span-on (recordAt s) i n l, record-is s i false ex (ne-eqb (length x) 0 z), ← eq, u, k) }
 
 -- where all are live, the cells are those of the items
 live-span : (source s : List ℕ) (j i k : ℕ) → live source j (span (recordAt s) i k) ≡ fine tt → liveCells (span (recordAt s) i k) ≡ span (recordCellAt s) i k

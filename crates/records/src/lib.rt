@@ -3,12 +3,9 @@ use error::Refusal;
 use transaction::fields;
 ghost use mathlib.Core.Path.{_≡_};
 ghost use Prim.Native.Nat.{_+_};
-ghost use mathlib.Core.Bool.{not};
-ghost use lib.ListN.{length};
-ghost use lib.Dec.{eqb};
-ghost use Rattle.molecule.specs.Layout.{span, itemCount, itemOf};
+ghost use Rattle.molecule.specs.Layout.{span, itemCount};
 ghost use Rattle.transaction.specs.Tx.{txAt};
-ghost use Rattle.rules.specs.Cells.{recordAt, readRecords, recordCellAt, recordCells};
+ghost use Rattle.rules.specs.Cells.{recordAt, readRecords, recordCell, recordCells};
 ghost use Rattle.rules.specs.Judge.{hasLock, live, spent};
 ghost use Rattle.records.specs.Resolved.{resolved};
 
@@ -18,20 +15,11 @@ pub enum Resolved {
     Refused(Refusal),
 }
 
-// Record i is a cell, and not the empty item of one that is not live.
-fn is_live(records: &[u8], i: usize) -> bool
-    ensures { λ r. ⌜ r ≡ not (eqb (length (itemOf (now (records .entry)) i)) 0) ⌝ }
+// The cell of a record has our source lock.
+fn has_our_lock(source: &[u8], resolved: &[u8]) -> bool
+    ensures { λ r. ⌜ r ≡ hasLock (now (source .entry)) (recordCell (now (resolved .entry))) ⌝ }
 {
-    let x = molecule::item(records, i);
-    x.len() != 0
-}
-
-// The cell of record i has our source lock.
-fn has_our_lock(source: &[u8], records: &[u8], i: usize) -> bool
-    ensures { λ r. ⌜ r ≡ hasLock (now (source .entry)) (recordCellAt (now (records .entry)) i) ⌝ }
-{
-    let x = molecule::item(records, i);
-    let o = fields::record_output(x);
+    let o = fields::record_output(resolved);
     let l = fields::lock(o);
     lists::same(source, l)
 }
@@ -44,10 +32,11 @@ fn all_live(source: &[u8], first: u32, records: &[u8]) -> Resolved
     let base = first as usize;
     let mut i = 0;
     while i < n {
-        if !is_live(records, i) {
+        let x = molecule::item(records, i);
+        if x.len() == 0 {
             return Resolved::Refused(Refusal::InvalidPeerFundingTx);
         }
-        if has_our_lock(source, records, i) {
+        if has_our_lock(source, x) {
             return Resolved::Refused(Refusal::PeerInputUsesOurFundingLock {
                 input_index: base + i,
             });

@@ -22,10 +22,10 @@ all-live-spec =
     (λ c κs. search ways)  -- item-count-requires
     (λ c. search ways)  -- cast-n
     (λ c. search ways)  -- loop-holds
-    (λ c κs. search ways)  -- is-live-requires
+    (λ c κs. search ways)  -- item-requires
     (λ c. search ways)  -- returns
     (λ c κs. search ways)  -- has-our-lock-requires
-    (λ c. search ways)  -- add-t12
+    (λ c. search ways)  -- add-t13
     (λ c. search ways)  -- returns-2
     (λ c. search ways)  -- add-i
     (λ c. search ways)  -- loop-less

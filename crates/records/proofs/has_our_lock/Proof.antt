@@ -6,7 +6,6 @@ pub has-our-lock-spec : {M : Type 1} → statement M
 has-our-lock-spec =
     tie.close
     (tie.spec
-    (λ c κs. search ways)  -- item-requires
     (λ c κs. search ways)  -- record-output-requires
     (λ c κs. search ways)  -- lock-requires
     (λ c κs. search ways)  -- same-requires
