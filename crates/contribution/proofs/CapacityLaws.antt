@@ -38,10 +38,10 @@ pub record-capacity : (s : List ℕ) (i : ℕ) {x o : List ℕ} {r : Shannons} �
 unfolding recordCellAt capacityOf
 record-capacity s i {x} {o} ex eo er = ap shannonCount er ∙ shannons-of (tx.capacityOf o) ∙ ap tx.capacityOf (eo ∙ ap firstOf ex)
 
-pub output-capacity : (s : List ℕ) (i : ℕ) {o : List ℕ} {r : Shannons} → o ≡ itemOf (rawField s 4) i → r ≡ inShannons (amount.amountOf (tx.capacityOf o))
+pub output-capacity : (s : List ℕ) (i : ℕ) {f o : List ℕ} {r : Shannons} → f ≡ rawField s 4 → o ≡ itemOf f i → r ≡ inShannons (amount.amountOf (tx.capacityOf o))
     → shannonCount r ≡ capacityOf (cellAt s i)
 unfolding cellAt capacityOf
-output-capacity s i {o} eo er = ap shannonCount er ∙ shannons-of (tx.capacityOf o) ∙ ap tx.capacityOf eo
+output-capacity s i {f} {o} ef eo er = ap shannonCount er ∙ shannons-of (tx.capacityOf o) ∙ ap tx.capacityOf (eo ∙ ap (λ (l : List ℕ). itemOf l i) ef)
 
 -- ---- sums over cells
 
@@ -54,10 +54,10 @@ pub sums-records : (s : List ℕ) {n : ℕ} → n ≡ itemCount s → Sums (reco
 unfolding shannonCount
 sums-records s {n} e = record { rest = rw (← e) (zero-add _ ∙ ap (total capacityOf) (sym (span-whole (recordCellAt s) n))); far = omega arith }
 
-pub sums-added : (o p : List ℕ) {n k : ℕ} → n ≡ itemCount (rawField p 4) → k ≡ max 1 (length (txAt o .outputs))
+pub sums-added : (o p : List ℕ) {f : List ℕ} {n k : ℕ} → f ≡ rawField p 4 → n ≡ itemCount f → k ≡ max 1 (length (txAt o .outputs))
     → Sums (cellAt p) n k (inShannons (halves 0 0)) (total capacityOf (added (txAt o) (txAt p)))
 unfolding shannonCount
-sums-added o p {n} {k} e g = record {
+sums-added o p {f} {n} {k} ef en g = let e : n ≡ itemCount (rawField p 4) = en ∙ ap itemCount ef in record {
   rest = zero-add _ ∙ sym (ap (total capacityOf) (added-is o p g) ∙ ap (λ (m : ℕ). total capacityOf (span (cellAt p) k (m - k))) (sym e));
   far = omega arith;
 }

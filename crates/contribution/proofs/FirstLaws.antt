@@ -23,9 +23,11 @@ use Rattle.rules.specs.Cells.{Cell, cells, cellAt}
 use Rattle.rules.specs.Surplus.{isEmpty, first, capacityOf, hasAmount, amountOf}
 use Rattle.rules.specs.Judge.{Figures, atFirst, growth, tokenDelta, fundingOutputDelta}
 use Rattle.rules.proofs.CellLaws.{empty-is, cells-none, cells-some}
+use Rattle.rules.proofs.Tests.{never, fine-inj}
 use Rattle.contribution.specs.declared.OutputDelta.{OutputDelta}
 use Rattle.contribution.specs.declared.TokenDelta.{TokenDelta}
-use Rattle.contribution.specs.Answers.{rise, delta}
+use Rattle.contribution.specs.Answers.{firstAmount, rise, delta}
+use Rattle.contribution.specs.Answers as answers
 
 -- ---- figures
 
@@ -39,39 +41,35 @@ amount-short : (o d : List ℕ) {r : TokensRead} → r ≡ tokensRead (amountAt 
 unfolding amountOf hasAmount
 amount-short o d e f = rw (lt-leb 16 (length d) (tokens-under d e f))
 
-module _ (s : List ℕ) {n : ℕ} (e : n ≡ itemCount (rawField s 4)) where
+module _ (s : List ℕ) {f : List ℕ} {n : ℕ} (ef : f ≡ rawField s 4) (en : n ≡ itemCount f) where
+  counted : n ≡ itemCount (rawField s 4)
+  counted = en ∙ ap itemCount ef
+
   pub first-capacity-none : n ≡ 0 → shannonCount (inShannons (halves 0 0)) ≡ first capacityOf (cells (txAt s))
   unfolding first shannonCount
-  first-capacity-none h = sym (ap (first capacityOf) (cells-none s e h))
+  first-capacity-none h = sym (ap (first capacityOf) (cells-none s counted h))
 
-  pub first-capacity-some : {o : List ℕ} {r : Shannons} → (n ≡ 0 → ⊥) → o ≡ itemOf (rawField s 4) 0 → r ≡ inShannons (amount.amountOf (tx.capacityOf o))
+  pub first-capacity-some : {o : List ℕ} {r : Shannons} → (n ≡ 0 → ⊥) → o ≡ itemOf f 0 → r ≡ inShannons (amount.amountOf (tx.capacityOf o))
       → shannonCount r ≡ first capacityOf (cells (txAt s))
   unfolding first capacityOf cellAt
-  first-capacity-some {o} h eo er = ap shannonCount er ∙ shannons-of (tx.capacityOf o) ∙ ap tx.capacityOf eo ∙ sym (ap (first capacityOf) (cells-some s e h))
+  first-capacity-some {o} h eo er =
+      ap shannonCount er ∙ shannons-of (tx.capacityOf o) ∙ ap tx.capacityOf (eo ∙ ap (λ (l : List ℕ). itemOf l 0) ef)
+      ∙ sym (ap (first capacityOf) (cells-some s counted h))
 
-  pub first-has-none : n ≡ 0 → true ≡ atFirst hasAmount (cells (txAt s))
-  unfolding atFirst
-  first-has-none h = sym (ap (atFirst hasAmount) (cells-none s e h))
+module _ (s : List ℕ) {n : ℕ} (e : n ≡ itemCount (rawField s 4)) where
+  pub first-amount-none : n ≡ 0 → answers.amount (TokensRead.Tokens (units.inTokens (halves 0 0))) ≡ firstAmount (txAt s)
+  unfolding firstAmount atFirst first tokenCount check checkWith _>>_
+  first-amount-none h = sym (rw (cells-none s e h))
 
-  pub first-has-some : {d : List ℕ} → (n ≡ 0 → ⊥) → d ≡ entryOf (rawField s 5) 0 → leb 16 (length d) ≡ atFirst hasAmount (cells (txAt s))
-  unfolding atFirst hasAmount cellAt
-  first-has-some h g = ap (λ (l : List ℕ). leb 16 (length l)) g ∙ sym (ap (atFirst hasAmount) (cells-some s e h))
+  module _ {d : List ℕ} (r : TokensRead) (h : n ≡ 0 → ⊥) (ed : d ≡ entryOf (rawField s 5) 0) (er : r ≡ tokensRead (amountAt d)) where
+    read-is : (t : TokensRead) → r ≡ t → answers.amount t ≡ (check 5 (leb 16 (length d)) >> fine (amountOf (record { output = itemOf (rawField s 4) 0; cellData = d })))
+    unfolding check checkWith _>>_
+    read-is (TokensRead.Tokens t) f = ap fine (amount-there (itemOf (rawField s 4) 0) d er f) ∙ rw (le-leb 16 (length d) (tokens-long d er f))
+    read-is TokensRead.Short f = rw (lt-leb 16 (length d) (tokens-under d er f))
 
-  pub first-amount-none : n ≡ 0 → tokenCount (units.inTokens (halves 0 0)) ≡ first amountOf (cells (txAt s))
-  unfolding first tokenCount
-  first-amount-none h = sym (ap (first amountOf) (cells-none s e h))
-
-  module _ {d : List ℕ} {r : TokensRead} (h : n ≡ 0 → ⊥) (ed : d ≡ entryOf (rawField s 5) 0) (er : r ≡ tokensRead (amountAt d)) where
-    first-amount : amountOf (record { output = itemOf (rawField s 4) 0; cellData = d }) ≡ first amountOf (cells (txAt s))
-    unfolding first cellAt
-    first-amount = ap (λ (l : List ℕ). amountOf (record { output = itemOf (rawField s 4) 0; cellData = l })) ed ∙ sym (ap (first amountOf) (cells-some s e h))
-
-    pub first-amount-some : {t : Tokens} → r ≡ TokensRead.Tokens t → tokenCount t ≡ first amountOf (cells (txAt s))
-    first-amount-some f = amount-there (itemOf (rawField s 4) 0) d er f ∙ first-amount
-
-    pub first-amount-short : r ≡ TokensRead.Short → tokenCount (units.inTokens (halves 0 0)) ≡ first amountOf (cells (txAt s))
-    unfolding tokenCount
-    first-amount-short f = amount-short (itemOf (rawField s 4) 0) d er f ∙ first-amount
+    pub first-amount-some : answers.amount r ≡ firstAmount (txAt s)
+    unfolding firstAmount atFirst first hasAmount cellAt
+    first-amount-some = read-is r refl ∙ sym (rw (cells-some s e h, ← ed))
 
 -- ---- the first added output
 
@@ -84,27 +82,51 @@ module _ (o : List ℕ) {n : ℕ} (e : n ≡ itemCount (rawField o 4)) where
 
 -- ---- the growth in tokens
 
-module _ (o p : List ℕ) {q : Bool} (eq : q ≡ atFirst hasAmount (cells (txAt o))) where
-  pub rise-ours-short : not q ≡ true → rise TokenDelta.Invalid ≡ tokenDelta (txAt o) (txAt p)
+-- an amount that was read at output 0, or not
+no-amount : (o : List ℕ) → answers.amount TokensRead.Short ≡ firstAmount (txAt o) → atFirst hasAmount (cells (txAt o)) ≡ false
+unfolding firstAmount check checkWith _>>_
+no-amount o e = by (atFirst hasAmount (cells (txAt o))) e
+  where
+    by : (b : Bool) → refused 5 [] ≡ (check 5 b >> fine (first amountOf (cells (txAt o)))) → b ≡ false
+    by true e = absurd (never 5 [] _ e)
+    by false e = refl
+
+an-amount : (o : List ℕ) (x : Tokens) → answers.amount (TokensRead.Tokens x) ≡ firstAmount (txAt o)
+    → (atFirst hasAmount (cells (txAt o)) ≡ true) × (tokenCount x ≡ first amountOf (cells (txAt o)))
+unfolding firstAmount check checkWith _>>_
+an-amount o x e = by (atFirst hasAmount (cells (txAt o))) e
+  where
+    by : (b : Bool) → fine (tokenCount x) ≡ (check 5 b >> fine (first amountOf (cells (txAt o)))) → (b ≡ true) × (tokenCount x ≡ first amountOf (cells (txAt o)))
+    by true e = (refl, fine-inj e)
+    by false e = absurd (never 5 [] _ (sym e))
+
+module _ (o p : List ℕ) (q : TokensRead) (eq : answers.amount q ≡ firstAmount (txAt o)) where
+  pub rise-ours-short : q ≡ TokensRead.Short → rise TokenDelta.Invalid ≡ tokenDelta (txAt o) (txAt p)
   unfolding tokenDelta check checkWith _>>_
-  rise-ours-short t = rw (← eq, not-true q t)
+  rise-ours-short t = rw (no-amount o (rw t at eq))
 
-  module _ (t : not q ≡ false) {w : Bool} (ew : w ≡ atFirst hasAmount (cells (txAt p))) where
-    pub rise-peer-short : not w ≡ true → rise TokenDelta.Invalid ≡ tokenDelta (txAt o) (txAt p)
+  module _ {x : Tokens} (t : q ≡ TokensRead.Tokens x) (w : TokensRead) (ew : answers.amount w ≡ firstAmount (txAt p)) where
+    ours-there : (atFirst hasAmount (cells (txAt o)) ≡ true) × (tokenCount x ≡ first amountOf (cells (txAt o)))
+    ours-there = an-amount o x (rw t at eq)
+
+    pub rise-peer-short : w ≡ TokensRead.Short → rise TokenDelta.Invalid ≡ tokenDelta (txAt o) (txAt p)
     unfolding tokenDelta check checkWith _>>_
-    rise-peer-short u = rw (← eq, not-false q t, ← ew, not-true w u)
+    rise-peer-short u = rw (ours-there .0, no-amount p (rw u at ew))
 
-    module _ (u : not w ≡ false) (x y : Tokens) {v : CheckedTokens} (ex : tokenCount x ≡ first amountOf (cells (txAt o)))
-        (ey : tokenCount y ≡ first amountOf (cells (txAt p))) (ev : v ≡ checkedTokens (difference (y .0) (x .0))) where
+    module _ {y : Tokens} (u : w ≡ TokensRead.Tokens y) {v : CheckedTokens} (ev : v ≡ checkedTokens (difference (y .0) (x .0))) where
+      peers-there : (atFirst hasAmount (cells (txAt p)) ≡ true) × (tokenCount y ≡ first amountOf (cells (txAt p)))
+      peers-there = an-amount p y (rw u at ew)
+
       pub rise-is : {d : Tokens} → v ≡ CheckedTokens.Fits d → rise (TokenDelta.Grows d) ≡ tokenDelta (txAt o) (txAt p)
       unfolding tokenDelta check checkWith _>>_
       rise-is f =
-          ap fine (tokens-left y x ev f ∙ ap₂ _-_ ey ex)
-          ∙ rw (← eq, not-false q t, ← ew, not-false w u, ← ex, ← ey, le-leb (tokenCount x) (tokenCount y) (tokens-enough y x ev f))
+          ap fine (tokens-left y x ev f ∙ ap₂ _-_ (peers-there .1) (ours-there .1))
+          ∙ rw (ours-there .0, peers-there .0, ← ours-there .1, ← peers-there .1, le-leb (tokenCount x) (tokenCount y) (tokens-enough y x ev f))
 
       pub rise-falls : v ≡ CheckedTokens.Overflow → rise TokenDelta.Invalid ≡ tokenDelta (txAt o) (txAt p)
       unfolding tokenDelta check checkWith _>>_
-      rise-falls f = rw (← eq, not-false q t, ← ew, not-false w u, ← ex, ← ey, lt-leb (tokenCount x) (tokenCount y) (tokens-lacking y x ev f))
+      rise-falls f =
+          rw (ours-there .0, peers-there .0, ← ours-there .1, ← peers-there .1, lt-leb (tokenCount x) (tokenCount y) (tokens-lacking y x ev f))
 
 -- ---- the growth: the lines of fundingOutputDelta, one for each way out
 

@@ -65,10 +65,15 @@ unfolding recordCellAt
 token-record type s i n q {x} {o} {d} ex eo ed h =
     h ∙ ap₂ (λ (a b : List ℕ). counted type (tokenCount n) (cell a b)) eo ed ∙ ap (λ (y : List ℕ). counted type (tokenCount n) (recordCell y)) ex
 
-pub token-output : (type s : List ℕ) (i : ℕ) (n : Tokens) (q : TokenSum) {o d : List ℕ} → o ≡ itemOf (rawField s 4) i → d ≡ entryOf (rawField s 5) i
-    → inTokens q ≡ counted type (tokenCount n) (record { output = o; cellData = d }) → inTokens q ≡ counted type (tokenCount n) (cellAt s i)
+pub token-item : (type f g : List ℕ) (i : ℕ) (n : Tokens) (q : TokenSum) {o d : List ℕ} → o ≡ itemOf f i → d ≡ entryOf g i
+    → inTokens q ≡ counted type (tokenCount n) (record { output = o; cellData = d })
+    → inTokens q ≡ counted type (tokenCount n) (record { output = itemOf f i; cellData = entryOf g i })
+token-item type f g i n q eo ed h = h ∙ ap₂ (λ (a b : List ℕ). counted type (tokenCount n) (cell a b)) eo ed
+
+pub token-output : (type s : List ℕ) (i : ℕ) (n : Tokens) (q : TokenSum) {f g : List ℕ} → f ≡ rawField s 4 → g ≡ rawField s 5
+    → inTokens q ≡ counted type (tokenCount n) (record { output = itemOf f i; cellData = entryOf g i }) → inTokens q ≡ counted type (tokenCount n) (cellAt s i)
 unfolding cellAt
-token-output type s i n q eo ed h = h ∙ ap₂ (λ (a b : List ℕ). counted type (tokenCount n) (cell a b)) eo ed
+token-output type s i n q ef eg h = h ∙ ap₂ (λ (a b : List ℕ). counted type (tokenCount n) (cell (itemOf a i) (entryOf b i))) ef eg
 
 -- ---- the tally: R is the answer, the cells from i on decide
 
@@ -79,10 +84,10 @@ pub tally-records : (type s : List ℕ) {n : ℕ} → n ≡ itemCount s → Tall
 unfolding tokenCount
 tally-records type s {n} e = record { rest = rw (← e) (ap (tally type 0) (span-whole (recordCellAt s) n)) }
 
-pub tally-added : (type o p : List ℕ) {n k : ℕ} → n ≡ itemCount (rawField p 4) → k ≡ max 1 (length (txAt o .outputs))
+pub tally-added : (type o p : List ℕ) {f : List ℕ} {n k : ℕ} → f ≡ rawField p 4 → n ≡ itemCount f → k ≡ max 1 (length (txAt o .outputs))
     → Tally type (cellAt p) n k (units.inTokens (halves 0 0)) (tally type 0 (added (txAt o) (txAt p)))
 unfolding tokenCount
-tally-added type o p {n} {k} e g = record { rest = ap (tally type 0) (added-is o p g ∙ ap (λ (m : ℕ). span (cellAt p) k (m - k)) (sym e)) }
+tally-added type o p {f} {n} {k} ef en g = let e : n ≡ itemCount (rawField p 4) = en ∙ ap itemCount ef in record { rest = ap (tally type 0) (added-is o p g ∙ ap (λ (m : ℕ). span (cellAt p) k (m - k)) (sym e)) }
 
 module _ {type : List ℕ} {f : ℕ → Cell} {n i : ℕ} {sum : Tokens} {R : Outcome ℕ} (h : Tally type f n i sum R) where
   pub tally-end : n ≤ i → inTokens (TokenSum.Is sum) ≡ R

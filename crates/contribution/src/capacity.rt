@@ -7,7 +7,7 @@ ghost use mathlib.Core.Path.{_≡_};
 ghost use Prim.Native.Nat.{_+_, _^_, _<_};
 ghost use Rattle.units.specs.Units.{shannonCount};
 ghost use Rattle.transaction.specs.Tx.{txAt};
-ghost use Rattle.rules.specs.Cells.{cellAt, recordCellAt, recordCells};
+ghost use Rattle.rules.specs.Cells.{recordCellAt, recordCells};
 ghost use Rattle.rules.specs.Surplus.{total, added, capacityOf};
 ghost use Rattle.rules.specs.Judge.{unfunded, covered};
 ghost use Rattle.contribution.specs.Answers.{inCapacity};
@@ -42,22 +42,16 @@ fn records_capacity(records: &[u8]) -> Shannons
     sum
 }
 
-fn output_capacity(tx: &[u8], i: usize) -> Shannons
-    ensures { λ r. ⌜ shannonCount r ≡ capacityOf (cellAt (now (tx .entry)) i) ⌝ }
-    ensures { λ r. ⌜ shannonCount r < 2 ^ 64 ⌝ }
-{
-    let o = fields::output(tx, i);
-    fields::capacity(o)
-}
-
 fn added_capacity(ours: &[u8], peer: &[u8]) -> Shannons
     ensures { λ r. ⌜ shannonCount r ≡ total capacityOf (added (txAt (now (ours .entry))) (txAt (now (peer .entry)))) ⌝ }
 {
-    let n = fields::output_count(peer) as usize;
+    let outputs = fields::outputs(peer);
+    let n = molecule::item_count(outputs) as usize;
     let mut sum = Shannons::ZERO;
     let mut i = crate::added_peer_outputs(ours);
     while i < n {
-        let x = output_capacity(peer, i);
+        let o = molecule::item(outputs, i);
+        let x = fields::capacity(o);
         sum = sum.saturating_add(x);
         i += 1;
     }

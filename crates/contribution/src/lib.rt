@@ -23,7 +23,7 @@ ghost use Rattle.rules.specs.Cells.{cells, cellAt, recordCells};
 ghost use Rattle.rules.specs.Surplus.{first, capacityOf, amountOf, hasAmount};
 ghost use Rattle.rules.specs.Judge.{atFirst, tokenDelta, fundingOutputDelta, accounts, contribution};
 ghost use Rattle.rules.specs.Told.{told};
-ghost use Rattle.contribution.specs.Answers.{rise, delta};
+ghost use Rattle.contribution.specs.Answers.{amount, firstAmount, rise, delta};
 
 // By how much output 0 grows, in tokens only where a type is expected. `Invalid` is the refusal 5.
 pub enum OutputDelta {
@@ -50,50 +50,37 @@ pub fn read_udt_amount(d: &[u8]) -> TokensRead
 fn first_capacity(tx: &[u8]) -> Shannons
     ensures { λ r. ⌜ shannonCount r ≡ first capacityOf (cells (txAt (now (tx .entry)))) ⌝ }
 {
-    if fields::output_count(tx) == 0 {
+    let outputs = fields::outputs(tx);
+    if molecule::item_count(outputs) == 0 {
         return Shannons::ZERO;
     }
-    let o = fields::output(tx, 0);
+    let o = molecule::item(outputs, 0);
     fields::capacity(o)
 }
 
-// It is absent, or its amount can be read.
-fn has_first_amount(tx: &[u8]) -> bool
-    ensures { λ r. ⌜ r ≡ atFirst hasAmount (cells (txAt (now (tx .entry)))) ⌝ }
+// Its amount, if that can be read; absent counts 0.
+fn first_amount(tx: &[u8]) -> TokensRead
+    ensures { λ r. ⌜ amount r ≡ firstAmount (txAt (now (tx .entry))) ⌝ }
 {
     if fields::output_count(tx) == 0 {
-        return true;
+        return TokensRead::Tokens(Tokens::ZERO);
     }
     let d = fields::output_data(tx, 0);
-    16 <= d.len()
-}
-
-// Its amount; absent or short counts 0.
-fn first_amount(tx: &[u8]) -> Tokens
-    ensures { λ r. ⌜ tokenCount r ≡ first amountOf (cells (txAt (now (tx .entry)))) ⌝ }
-{
-    if fields::output_count(tx) == 0 {
-        return Tokens::ZERO;
-    }
-    let d = fields::output_data(tx, 0);
-    match read_udt_amount(d) {
-        TokensRead::Tokens(amount) => amount,
-        TokensRead::Short => Tokens::ZERO,
-    }
+    read_udt_amount(d)
 }
 
 // By how many tokens output 0 grows.
 fn token_delta(ours: &[u8], peer: &[u8]) -> TokenDelta
     ensures { λ r. ⌜ rise r ≡ tokenDelta (txAt (now (ours .entry))) (txAt (now (peer .entry))) ⌝ }
 {
-    if !has_first_amount(ours) {
-        return TokenDelta::Invalid;
-    }
-    if !has_first_amount(peer) {
-        return TokenDelta::Invalid;
-    }
-    let before = first_amount(ours);
-    let after = first_amount(peer);
+    let before = match first_amount(ours) {
+        TokensRead::Tokens(before) => before,
+        TokensRead::Short => return TokenDelta::Invalid,
+    };
+    let after = match first_amount(peer) {
+        TokensRead::Tokens(after) => after,
+        TokensRead::Short => return TokenDelta::Invalid,
+    };
     match after.checked_sub(before) {
         CheckedTokens::Fits(token) => TokenDelta::Grows(token),
         CheckedTokens::Overflow => TokenDelta::Invalid,

@@ -5,8 +5,9 @@ use units::Tokens;
 use units::TokensRead;
 ghost use mathlib.Core.Path.{_≡_};
 ghost use Rattle.units.specs.Units.{tokenCount};
+ghost use Rattle.molecule.specs.Layout.{itemOf, entryOf};
 ghost use Rattle.transaction.specs.Tx.{txAt};
-ghost use Rattle.rules.specs.Cells.{cellAt, recordCellAt, recordCells};
+ghost use Rattle.rules.specs.Cells.{recordCellAt, recordCells};
 ghost use Rattle.rules.specs.Surplus.{added};
 ghost use Rattle.rules.specs.Judge.{counted, tally, settled, tokenAccount};
 ghost use Rattle.contribution.specs.Answers.{inTokens};
@@ -45,11 +46,12 @@ fn add_record(udt: &[u8], records: &[u8], i: usize, sum: Tokens) -> TokenSum
     add_cell(udt, o, d, sum)
 }
 
-fn add_output(udt: &[u8], tx: &[u8], i: usize, sum: Tokens) -> TokenSum
-    ensures { λ r. ⌜ inTokens r ≡ counted (now (udt .entry)) (tokenCount sum) (cellAt (now (tx .entry)) i) ⌝ }
+// The same for output i of a list of outputs, with its entry in a list of data.
+fn add_output(udt: &[u8], outputs: &[u8], entries: &[u8], i: usize, sum: Tokens) -> TokenSum
+    ensures { λ r. ⌜ inTokens r ≡ counted (now (udt .entry)) (tokenCount sum) (record { output = itemOf (now (outputs .entry)) i; cellData = entryOf (now (entries .entry)) i }) ⌝ }
 {
-    let o = fields::output(tx, i);
-    let d = fields::output_data(tx, i);
+    let o = molecule::item(outputs, i);
+    let d = molecule::entry(entries, i);
     add_cell(udt, o, d, sum)
 }
 
@@ -79,11 +81,13 @@ fn records_tokens(udt: &[u8], records: &[u8]) -> TokenSum
 fn added_tokens(udt: &[u8], ours: &[u8], peer: &[u8]) -> TokenSum
     ensures { λ r. ⌜ inTokens r ≡ tally (now (udt .entry)) 0 (added (txAt (now (ours .entry))) (txAt (now (peer .entry)))) ⌝ }
 {
-    let n = fields::output_count(peer) as usize;
+    let outputs = fields::outputs(peer);
+    let entries = fields::outputs_data(peer);
+    let n = molecule::item_count(outputs) as usize;
     let mut sum = Tokens::ZERO;
     let mut i = crate::added_peer_outputs(ours);
     while i < n {
-        match add_output(udt, peer, i, sum) {
+        match add_output(udt, outputs, entries, i, sum) {
             TokenSum::Is(total) => {
                 sum = total;
             }

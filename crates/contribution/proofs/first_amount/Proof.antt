@@ -10,7 +10,4 @@ first-amount-spec =
     (λ c. search ways)  -- returns
     (λ c κs. search ways)  -- output-data-requires
     (λ c κs. search ways)  -- read-udt-amount-requires
-    (λ c. search ways)  -- enum-known-amount
-    (λ c. search ways)  -- enum-told
-    (λ c. search ways)  -- returns-2
-    (λ c. search ways))  -- returns-3
+    (λ c. search ways))  -- returns-2

@@ -6,8 +6,9 @@ pub first-capacity-spec : {M : Type 1} → statement M
 first-capacity-spec =
     tie.close
     (tie.spec
-    (λ c κs. search ways)  -- output-count-requires
+    (λ c κs. search ways)  -- outputs-requires
+    (λ c κs. search ways)  -- item-count-requires
     (λ c. search ways)  -- returns
-    (λ c κs. search ways)  -- output-requires
+    (λ c κs. search ways)  -- item-requires
     (λ c κs. search ways)  -- capacity-requires
     (λ c. search ways))  -- returns-2

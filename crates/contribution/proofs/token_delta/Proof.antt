@@ -6,14 +6,16 @@ pub token-delta-spec : {M : Type 1} → statement M
 token-delta-spec =
     tie.close
     (tie.spec
-    (λ c κs. search ways)  -- has-first-amount-requires
-    (λ c. search ways)  -- returns
-    (λ c κs. search ways)  -- has-first-amount-requires-2
-    (λ c. search ways)  -- returns-2
     (λ c κs. search ways)  -- first-amount-requires
+    (λ c. search ways)  -- enum-known-before
+    (λ c. search ways)  -- enum-told
+    (λ c. search ways)  -- returns
     (λ c κs. search ways)  -- first-amount-requires-2
+    (λ c. search ways)  -- enum-known-after
+    (λ c. search ways)  -- enum-told-2
+    (λ c. search ways)  -- returns-2
     (λ c κs. search ways)  -- checked-sub-requires
     (λ c. search ways)  -- enum-known-token
-    (λ c. search ways)  -- enum-told
+    (λ c. search ways)  -- enum-told-3
     (λ c. search ways)  -- returns-3
     (λ c. search ways))  -- returns-4

@@ -8,10 +8,10 @@ use Rattle.contribution.proofs.capacity.added_capacity.Statement.{state
 use Rattle.contribution.proofs.capacity.added_capacity.Tie as tie
 
 abbrev Inv-loop : tie.InvT-loop
-Inv-loop ours peer n sum₀ i₀ sum i = Sums (cellAt peer) n i sum (total capacityOf (added (txAt ours) (txAt peer)))
+Inv-loop ours peer outputs n sum₀ i₀ sum i = Sums (cellAt peer) n i sum (total capacityOf (added (txAt ours) (txAt peer)))
 
 abbrev μ-loop : tie.MeasureT-loop
-μ-loop ours peer n sum₀ i₀ sum i = n - i
+μ-loop ours peer outputs n sum₀ i₀ sum i = n - i
 
 pub added-capacity-spec : {M : Type 1} → statement M
 added-capacity-spec =
@@ -19,11 +19,13 @@ added-capacity-spec =
     (tie.spec
     Inv-loop
     μ-loop
-    (λ c κs. search ways)  -- output-count-requires
+    (λ c κs. search ways)  -- outputs-requires
+    (λ c κs. search ways)  -- item-count-requires
     (λ c. search ways)  -- cast-n
     (λ c κs. search ways)  -- added-peer-outputs-requires
     (λ c. search ways)  -- loop-holds
-    (λ c κs. search ways)  -- output-capacity-requires
+    (λ c κs. search ways)  -- item-requires
+    (λ c κs. search ways)  -- capacity-requires
     (λ c κs. search ways)  -- saturating-add-requires
     (λ c. search ways)  -- add-i
     (λ c. search ways)  -- loop-less

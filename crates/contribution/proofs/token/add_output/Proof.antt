@@ -6,7 +6,7 @@ pub add-output-spec : {M : Type 1} → statement M
 add-output-spec =
     tie.close
     (tie.spec
-    (λ c κs. search ways)  -- output-requires
-    (λ c κs. search ways)  -- output-data-requires
+    (λ c κs. search ways)  -- item-requires
+    (λ c κs. search ways)  -- entry-requires
     (λ c κs. search ways)  -- add-cell-requires
     (λ c. search ways))  -- returns

@@ -9,10 +9,10 @@ use Rattle.contribution.proofs.token.added_tokens.Statement.{statement}
 use Rattle.contribution.proofs.token.added_tokens.Tie as tie
 
 abbrev Inv-loop : tie.InvT-loop
-Inv-loop udt ours peer n sum₀ i₀ sum i = Tally udt (cellAt peer) n i sum (tally udt 0 (added (txAt ours) (txAt peer)))
+Inv-loop udt ours peer outputs entries n sum₀ i₀ sum i = Tally udt (cellAt peer) n i sum (tally udt 0 (added (txAt ours) (txAt peer)))
 
 abbrev μ-loop : tie.MeasureT-loop
-μ-loop udt ours peer n sum₀ i₀ sum i = n - i
+μ-loop udt ours peer outputs entries n sum₀ i₀ sum i = n - i
 
 pub added-tokens-spec : {M : Type 1} → statement M
 added-tokens-spec =
@@ -20,7 +20,9 @@ added-tokens-spec =
     (tie.spec
     Inv-loop
     μ-loop
-    (λ c κs. search ways)  -- output-count-requires
+    (λ c κs. search ways)  -- outputs-requires
+    (λ c κs. search ways)  -- outputs-data-requires
+    (λ c κs. search ways)  -- item-count-requires
     (λ c. search ways)  -- cast-n
     (λ c κs. search ways)  -- added-peer-outputs-requires
     (λ c. search ways)  -- loop-holds
