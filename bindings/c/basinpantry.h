@@ -1,8 +1,9 @@
 /* Basinpantry: judges the funding transactions that a peer proposes when a CKB payment channel is opened. Every function here is a thin one over the
    proved library; link target/staticlib/libcapi.a (`rt staticlib capi`).
 
-   Lent bytes are a pointer and a length. A pointer is never null, also where the length is 0, and a buffer that is written to overlaps nothing else
-   that is lent to the same call. Numbers in bytes are little-endian; transactions, scripts and lists have the Molecule forms of RFC 0008 and 0019.
+   Lent bytes are a pointer and a length, and the caller answers for both: nothing can be proved of them here. Where the length is 0 nothing is read or
+   written through the pointer, and null will do (example.c lends such). A buffer that is written to overlaps nothing else that is lent to the same call.
+   Numbers in bytes are little-endian; transactions, scripts and lists have the Molecule forms of RFC 0008 and 0019.
 
    A call returns 0, or the number of its refusal (1 to 15, BASINPANTRY_...), and then nothing that was lent has changed, but for `values` where a
    refusal carries values. Where a function has `values`, it is an array of at least four words, which it then sets, the unused ones to 0; with fewer the
@@ -52,7 +53,8 @@ bool basinpantry_is_records(const uint8_t *s, size_t s_len);
 /* Whether the bytes are a list of out points: a count of four bytes and 36 bytes for each. */
 bool basinpantry_is_out_points(const uint8_t *s, size_t s_len);
 
-/* The version of a transaction; 0 for bytes that have none. */
+/* The version of a transaction, and 0 of bytes that are none. This and the next two look first whether the bytes are a transaction, in time that goes by
+   their length. */
 uint32_t basinpantry_version(const uint8_t *tx, size_t tx_len);
 
 /* The lists of a transaction, by number. */
@@ -67,7 +69,7 @@ uint32_t basinpantry_version(const uint8_t *tx, size_t tx_len);
 uint32_t basinpantry_item_count(const uint8_t *tx, size_t tx_len, uint32_t list);
 
 /* Writes item i of a list of a transaction to the start of out: a cell dep (37 bytes), header dep (32), input (44), output (a table), or the bytes of a
-   data entry or a witness. values[0]: how many bytes. No item is no bytes. Refused: 13. */
+   data entry or a witness. values[0]: how many bytes, and 0 where there is no such item. Refused: 13. */
 uint32_t basinpantry_item(const uint8_t *tx, size_t tx_len, uint32_t list, size_t i, uint8_t *out, size_t out_len, uint64_t *values, size_t values_len);
 
 /* Writes a transaction from its version and six lists. values[0]: how many bytes. Refused: 3, 13. */
@@ -97,12 +99,12 @@ uint32_t basinpantry_replay(const uint8_t *start, size_t start_len, const uint8_
                             const uint8_t *updates, size_t updates_len, uint64_t *answers, size_t answers_len, uint64_t *values, size_t values_len);
 
 /* Writes the verdict line of a case file to the start of `line`, which has room for at least 105 bytes; the answer is how many bytes the line has, 0 where
-   there is no such room. */
+   there is no such room. It takes about 165 KB of the stack. */
 size_t basinpantry_check_case(const uint8_t *file, size_t file_len, uint8_t *line, size_t line_len);
 
 /* ---- our own side */
 
-/* The figures of a funding request: amounts in two halves, reserves in shannons. */
+/* The figures of a funding request are amounts, each in two halves (of shannons where the channel is untyped, else of the token), and reserves in shannons. */
 
 /* The funding cell beside our present transaction (no bytes: none), of this token type (no bytes: untyped).
    values of 0: the capacity, and the token amount (low half, high half). Refused: 1, 3, 7. */

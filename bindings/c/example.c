@@ -27,7 +27,8 @@ static size_t put_u32(uint8_t *out, size_t at, size_t x)
 
 static size_t put(uint8_t *out, size_t at, struct bytes b)
 {
-    memcpy(out + at, b.at, b.len);
+    for (size_t i = 0; i < b.len; i++)
+        out[at + i] = b.at[i];
     return at + b.len;
 }
 
@@ -59,7 +60,7 @@ int main(int argc, char **argv)
     fclose(f);
     struct bytes item[16];
     for (int kind = 0; kind < 16; kind++)
-        item[kind] = (struct bytes){file, 0}; /* a missing item: no bytes */
+        item[kind] = (struct bytes){NULL, 0}; /* a missing item: no bytes */
     for (size_t at = 0; at < n;) {
         uint32_t word = u32_at(file + at);
         size_t len = word & 0xfffffff;
@@ -127,11 +128,11 @@ int main(int argc, char **argv)
     assert(why == 0 && values[0] == 36);
     printf("funding cell: %" PRIu64 " shannons\n", values[0]);
     const uint8_t no_cells[] = {4, 0, 0, 0}, no_deps[] = {0, 0, 0, 0};
-    why = basinpantry_build_base(file, 0, lock.at, lock.len, file, 0, source.at, source.len, no_cells, 4, file, 0, file, 0, no_deps, 4, 5, 0, 7, 11, 0, 13, out,
+    why = basinpantry_build_base(NULL, 0, lock.at, lock.len, NULL, 0, source.at, source.len, no_cells, 4, NULL, 0, NULL, 0, no_deps, 4, 5, 0, 7, 11, 0, 13, out,
                                  sizeof out, values, 4);
     assert(why == 0 && basinpantry_is_transaction(out, values[0]));
     printf("base transaction: %" PRIu64 " bytes\n", values[0]);
-    why = basinpantry_build_base(file, 0, lock.at, lock.len, file, 0, source.at, source.len, no_cells, 4, file, 0, file, 0, no_deps, 4, 5, 0, 7, 11, 0, 13, out,
+    why = basinpantry_build_base(NULL, 0, lock.at, lock.len, NULL, 0, source.at, source.len, no_cells, 4, NULL, 0, NULL, 0, no_deps, 4, 5, 0, 7, 11, 0, 13, out,
                                  100, values, 4);
     assert(why == BASINPANTRY_BUFFER_TOO_SHORT);
     printf("base transaction in 100 bytes: refused with %" PRIu32 "\n", why);
