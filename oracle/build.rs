@@ -4,9 +4,9 @@
 //! between `pub mod NAME {` and `}`, with one line behind it that brings the stand-ins into scope, and our probe as a child module (a child sees its
 //! parent's private items, so nothing in the file has to be made public).
 //!
-//! The library, as the static library that BASINPANTRY_LIB names (else ../target/staticlib/libcapi.a): it is linked to `compare` and `bench_update` alone. Functions of the
-//! header that it does not have yet are listed in OUT_DIR/missing.rs, so that their kinds of calls are passed over.
-use std::path::{Path, PathBuf};
+//! The library, as the static library that BASINPANTRY_LIB names (else ../target/staticlib/libcapi.a): it is linked to `compare` and `bench_update` alone,
+//! so that `oracle` can be built without it.
+use std::path::PathBuf;
 use std::{env, fs};
 
 #[path = "src/standins/blake2b.rs"]
@@ -54,43 +54,10 @@ fn reference() -> String {
     out + &list + "];\n"
 }
 
-/// The names of the functions that the header declares.
-fn declared(header: &str) -> Vec<&str> {
-    let is_name = |c: char| c.is_ascii_alphanumeric() || c == '_';
-    let mut names: Vec<&str> = header
-        .match_indices("basinpantry_")
-        .map(|(i, _)| &header[i..])
-        .map(|rest| (rest, rest.find(|c| !is_name(c)).unwrap_or(rest.len())))
-        .filter(|(rest, n)| rest[*n..].starts_with('('))
-        .map(|(rest, n)| &rest[..n])
-        .collect();
-    names.sort();
-    names.dedup();
-    names
-}
-
-/// Whether a static library names a symbol.
-fn has(library: &[u8], name: &str) -> bool {
-    let ended = [name.as_bytes(), b"\0"].concat();
-    library.windows(ended.len()).any(|w| w == ended)
-}
-
-fn missing(library: &Path) -> String {
-    let header = fs::read_to_string(folder().join("../bindings/c/basinpantry.h")).expect("bindings/c/basinpantry.h");
-    let bytes = fs::read(library).unwrap_or_default();
-    let names: Vec<&str> = declared(&header).into_iter().filter(|n| !has(&bytes, n)).collect();
-    let mut out = format!("pub const MISSING: &[&str] = &{names:?};\n");
-    for n in names {
-        out += &format!("#[no_mangle] pub extern \"C\" fn {n}() {{ unreachable!() }}\n");
-    }
-    out
-}
-
 fn main() {
     println!("cargo:rerun-if-env-changed=FIBER_SRC");
     println!("cargo:rerun-if-env-changed=BASINPANTRY_LIB");
     println!("cargo:rerun-if-changed=build.rs");
-    println!("cargo:rerun-if-changed=../bindings/c/basinpantry.h");
     let library = env::var("BASINPANTRY_LIB").map(PathBuf::from).unwrap_or_else(|_| folder().join("../target/staticlib/libcapi.a"));
     println!("cargo:rerun-if-changed={}", library.display());
     if library.is_file() {
@@ -99,5 +66,4 @@ fn main() {
     }
     let to = PathBuf::from(env::var("OUT_DIR").unwrap());
     fs::write(to.join("reference.rs"), reference()).unwrap();
-    fs::write(to.join("missing.rs"), missing(&library)).unwrap();
 }

@@ -233,7 +233,7 @@ pub struct OfExclusions;
 impl Kind for OfExclusions {
     type Input = Input;
     const NAME: &'static str = "exclusions";
-    const NEEDS: &'static [&'static str] = &[
+    const FUNCTIONS: &'static [&'static str] = &[
         "basinpantry_exclusions_add",
         "basinpantry_exclusions_commit",
         "basinpantry_exclusions_remove",

@@ -221,7 +221,7 @@ pub struct OfHolds;
 impl Kind for OfHolds {
     type Input = Input;
     const NAME: &'static str = "holds";
-    const NEEDS: &'static [&'static str] = &[
+    const FUNCTIONS: &'static [&'static str] = &[
         "basinpantry_hold_funding",
         "basinpantry_hold_for_watchtower",
         "basinpantry_release_for_watchtower",

@@ -1,5 +1,5 @@
 //! A kind of calls, and how a run over one goes.
-use crate::library::MISSING;
+use crate::faults;
 use crate::random::Rng;
 use crate::report::{Outcome, Tally};
 use std::panic::{catch_unwind, AssertUnwindSafe};
@@ -8,7 +8,7 @@ pub trait Kind {
     type Input: Clone;
     const NAME: &'static str;
     /// The functions of the library that it calls.
-    const NEEDS: &'static [&'static str];
+    const FUNCTIONS: &'static [&'static str];
     /// Of a thousand calls of a run, how many.
     const SHARE: u64;
     /// How many inputs there are, where all of them are made.
@@ -28,7 +28,7 @@ macro_rules! all_of {
         impl Kind for $name {
             type Input = <$of as Kind>::Input;
             const NAME: &'static str = $text;
-            const NEEDS: &'static [&'static str] = <$of as Kind>::NEEDS;
+            const FUNCTIONS: &'static [&'static str] = <$of as Kind>::FUNCTIONS;
             const SHARE: u64 = $share;
             const ALL: Option<u64> = Some($all);
             fn make(_: &mut Rng, n: u64) -> Self::Input {
@@ -94,14 +94,25 @@ fn shrunk<K: Kind>(mut input: K::Input) -> K::Input {
     }
 }
 
+/// Puts in each fault of each function that a kind calls: how many there are, and those that are not noticed in so many calls.
+pub fn unnoticed<K: Kind>(calls: u64, seed: u64) -> (usize, Vec<faults::Fault>) {
+    let all: Vec<_> = K::FUNCTIONS.iter().flat_map(|f| faults::of(f)).collect();
+    let noticed = |fault: &faults::Fault| {
+        faults::put_in(Some(*fault));
+        let mut rng = Rng::new(seed);
+        let mut left = calls;
+        while left > 0 && wrong::<K>(&K::make(&mut rng, calls - left)).is_none() {
+            left -= 1;
+        }
+        faults::put_in(None);
+        left > 0
+    };
+    (all.len(), all.iter().filter(|f| !noticed(f)).copied().collect())
+}
+
 /// So many calls of a kind, from a seed.
 pub fn run<K: Kind>(calls: u64, seed: u64) -> Tally {
     let mut tally = Tally::default();
-    let missing: Vec<_> = K::NEEDS.iter().filter(|f| MISSING.contains(f)).collect();
-    if !missing.is_empty() {
-        println!("{}: passed over, the library does not have {missing:?}", K::NAME);
-        return tally;
-    }
     let mut rng = Rng::new(seed);
     let all = K::ALL.filter(|all| *all <= calls);
     let mut n = 0;

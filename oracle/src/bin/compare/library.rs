@@ -1,23 +1,24 @@
 //! The library through its C interface (bindings/c/basinpantry.h), with slices for pointers and lengths.
 #![allow(clippy::too_many_arguments)]
+use crate::faults;
 use crate::report::{Outcome, Source};
-
-/// Functions of the header that the static library does not have yet.
-#[allow(clashing_extern_declarations)]
-mod stubs {
-    include!(concat!(env!("OUT_DIR"), "/missing.rs"));
-}
-pub use stubs::MISSING;
 
 /// Declares each function as C has it, a slice as a pointer and a length, and beside it the same with slices.
 macro_rules! interface {
-    ($(fn $name:ident = $symbol:ident($($arg:ident: $kind:tt),*) -> $out:ty;)*) => {$(
-        pub fn $name($($arg: interface!(@slice $kind)),*) -> $out {
+    ($(fn $name:ident = $symbol:ident($($arg:ident: $kind:tt),*) -> $out:ty;)*) => {
+        /// Each function with its arguments and their kinds.
+        pub const FUNCTIONS: &[(&str, &[(&str, &str)])] = &[$((stringify!($symbol), &[$((stringify!($arg), stringify!($kind))),*])),*];
+        $(pub fn $name($($arg: interface!(@slice $kind)),*) -> $out {
             interface!(@declare $symbol [] [$($arg: $kind,)*] $out);
             // The function reads and writes only what it is lent.
-            interface!(@call $symbol [] [$($arg: $kind,)*])
-        }
-    )*};
+            let told = interface!(@call $symbol [] [$($arg: $kind,)*]);
+            $(interface!(@fault $symbol $arg $kind);)*
+            faults::answer(stringify!($symbol), told)
+        })*
+    };
+    (@fault $s:ident $a:ident buffer) => { faults::buffer(stringify!($s), stringify!($a), $a) };
+    (@fault $s:ident $a:ident words) => { faults::words(stringify!($s), stringify!($a), $a) };
+    (@fault $s:ident $a:ident $k:ident) => {};
     (@slice bytes) => { &[u8] };
     (@slice buffer) => { &mut [u8] };
     (@slice words) => { &mut [u64] };

@@ -1,5 +1,6 @@
 //! The library and the original in one process: random, small and damaged inputs, call by call.
 mod exclusions;
+mod faults;
 mod holds;
 mod kind;
 mod library;
@@ -13,19 +14,25 @@ mod tables;
 mod update;
 mod updates;
 
-use kind::{run, Kind};
+use kind::{run, unnoticed, Kind};
 use report::Tally;
 
 struct Options {
+    /// Whether faults are put in, to see that they are noticed.
+    faults: bool,
     calls: u64,
     seed: u64,
     kind: Option<String>,
 }
 
 fn options() -> Option<Options> {
-    let mut o = Options { calls: 1_000_000, seed: 1, kind: None };
+    let mut o = Options { faults: false, calls: 1_000_000, seed: 1, kind: None };
     let mut args = std::env::args().skip(1);
     while let Some(a) = args.next() {
+        if a == "--faults" {
+            o.faults = true;
+            continue;
+        }
         let value = args.next()?;
         match a.as_str() {
             "--calls" => o.calls = value.parse().ok()?,
@@ -50,6 +57,15 @@ macro_rules! kinds {
             })*
             out
         }
+        fn all_unnoticed(o: &Options) -> (usize, Vec<faults::Fault>) {
+            let mut all = (0, vec![]);
+            $(if o.kind.is_none() && <$kind>::ALL.is_none() || o.kind.as_deref() == Some(<$kind>::NAME) {
+                let (n, left) = unnoticed::<$kind>(2_000, o.seed);
+                all.0 += n;
+                all.1.extend(left);
+            })*
+            all
+        }
     };
 }
 kinds!(
@@ -72,7 +88,7 @@ kinds!(
 fn main() {
     let known = |o: &Options| o.kind.as_ref().is_none_or(|k| NAMES.contains(&k.as_str()));
     let Some(o) = options().filter(known) else {
-        eprintln!("compare [--calls N] [--seed S] [--kind {}]", NAMES.join("|"));
+        eprintln!("compare [--faults] [--calls N] [--seed S] [--kind {}]", NAMES.join("|"));
         std::process::exit(2);
     };
     // Panics of the original are answers; our own are not.
@@ -81,6 +97,12 @@ fn main() {
             eprintln!("{p}");
         }
     }));
+    if o.faults {
+        let (n, left) = all_unnoticed(&o);
+        left.iter().for_each(|f| println!("not noticed: {f:?}"));
+        println!("{n} faults put into the answers, {} not noticed", left.len());
+        std::process::exit(!left.is_empty() as i32);
+    }
     let started = std::time::Instant::now();
     let tallies = tallies(&o);
     let mut all = Tally::default();

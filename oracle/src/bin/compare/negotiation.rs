@@ -1,6 +1,6 @@
 //! A list of updates, each judged against the transaction that the one before it left in force: call by call, and as one call of `replay`.
 use crate::kind::Kind;
-use crate::library::{self, MISSING};
+use crate::library;
 use crate::parts::{bytes, damaged, list, one_less, parts, smaller_bytes, Output, Tx};
 use crate::random::Rng;
 use crate::report::{Outcome, Source};
@@ -144,7 +144,7 @@ impl Input {
         if let (Some(wrong), Some(last)) = (self.wrong_sums(here, &accepted), out.last_mut()) {
             last.wrong = Some(wrong);
         }
-        if !MISSING.contains(&"basinpantry_replay") && out.iter().all(|o| o.wrong.is_none()) {
+        if out.iter().all(|o| o.wrong.is_none()) {
             out.push(self.replay());
         }
         out
@@ -154,7 +154,7 @@ impl Input {
 impl Kind for Negotiation {
     type Input = Input;
     const NAME: &'static str = "negotiation";
-    const NEEDS: &'static [&'static str] = &["basinpantry_update_for_peer"];
+    const FUNCTIONS: &'static [&'static str] = &["basinpantry_update_for_peer", "basinpantry_replay"];
     const SHARE: u64 = 80;
     fn make(rng: &mut Rng, _: u64) -> Input {
         let c = channel(rng);

@@ -1,6 +1,6 @@
 //! Which strings can be read, what stands in them, and what is written: the library beside the stand-ins' reader and writer, since the original has none.
 use crate::kind::Kind;
-use crate::library::{self, BYTE, MISSING};
+use crate::library::{self, BYTE};
 use crate::parts::{damaged, smaller_bytes, Tx};
 use crate::random::Rng;
 use crate::report::{Outcome, Source};
@@ -111,8 +111,17 @@ fn written(what: &str, room: usize, expected: &[u8], answer: (u32, u64), call: i
 impl Kind for Reading {
     type Input = Input;
     const NAME: &'static str = "reading";
-    const NEEDS: &'static [&'static str] =
-        &["basinpantry_is_transaction", "basinpantry_is_script", "basinpantry_is_records", "basinpantry_is_out_points"];
+    const FUNCTIONS: &'static [&'static str] = &[
+        "basinpantry_is_transaction",
+        "basinpantry_is_script",
+        "basinpantry_is_records",
+        "basinpantry_is_out_points",
+        "basinpantry_version",
+        "basinpantry_item_count",
+        "basinpantry_item",
+        "basinpantry_rewrite",
+        "basinpantry_write_transaction",
+    ];
     const SHARE: u64 = 40;
     fn make(rng: &mut Rng, _: u64) -> Input {
         let u = any_update(rng).write();
@@ -129,15 +138,9 @@ impl Kind for Reading {
     }
     fn compare(input: &Input) -> Vec<Outcome> {
         let mut out = Self::tests(&input.bytes);
-        if !MISSING.contains(&"basinpantry_item") {
-            out.extend(Self::fields(input));
-        }
-        if !MISSING.contains(&"basinpantry_rewrite") {
-            out.push(Self::rewrite(input));
-        }
-        if !MISSING.contains(&"basinpantry_write_transaction") {
-            out.extend(Self::write(input));
-        }
+        out.extend(Self::fields(input));
+        out.push(Self::rewrite(input));
+        out.extend(Self::write(input));
         out
     }
     fn smaller(input: &Input) -> Vec<Input> {
@@ -156,7 +159,7 @@ pub struct CaseFile;
 impl Kind for CaseFile {
     type Input = Vec<u8>;
     const NAME: &'static str = "case_file";
-    const NEEDS: &'static [&'static str] = &["basinpantry_check_case"];
+    const FUNCTIONS: &'static [&'static str] = &["basinpantry_check_case"];
     const SHARE: u64 = 20;
     fn make(rng: &mut Rng, _: u64) -> Vec<u8> {
         let plan = any_update(rng);

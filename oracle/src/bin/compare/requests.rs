@@ -408,7 +408,7 @@ macro_rules! requests {
         impl Kind for $name {
             type Input = Input;
             const NAME: &'static str = $text;
-            const NEEDS: &'static [&'static str] = &[$function];
+            const FUNCTIONS: &'static [&'static str] = &[$function];
             const SHARE: u64 = $share;
             fn make(rng: &mut Rng, _: u64) -> Input {
                 $make(rng)

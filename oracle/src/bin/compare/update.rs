@@ -105,7 +105,7 @@ macro_rules! updates {
         impl Kind for $name {
             type Input = Update;
             const NAME: &'static str = $text;
-            const NEEDS: &'static [&'static str] = &["basinpantry_update_for_peer"];
+            const FUNCTIONS: &'static [&'static str] = &["basinpantry_update_for_peer"];
             const SHARE: u64 = $share;
             fn make(rng: &mut Rng, _: u64) -> Update {
                 $make(rng)
