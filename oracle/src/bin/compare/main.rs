@@ -1,4 +1,5 @@
 //! The library and the original in one process: random, small and damaged inputs, call by call.
+mod changes;
 mod exclusions;
 mod faults;
 mod holds;
@@ -9,6 +10,7 @@ mod parts;
 mod random;
 mod reading;
 mod report;
+mod request;
 mod requests;
 mod tables;
 mod update;

@@ -1,11 +1,12 @@
 //! A list of updates, each judged against the transaction that the one before it left in force: call by call, and as one call of `replay`.
+use crate::changes::change;
 use crate::kind::Kind;
 use crate::library;
 use crate::parts::{bytes, damaged, list, one_less, parts, smaller_bytes, Output, Tx};
 use crate::random::Rng;
 use crate::report::{Outcome, Source};
 use crate::update::expected;
-use crate::updates::{change, channel, good, in_force, read_amount, Update};
+use crate::updates::{channel, good, in_force, read_amount, Update};
 use oracle::calls::hex;
 use oracle::original::update::{InForce, Verdict};
 use oracle::standins::molecule::{readable, UPDATES};
