@@ -1,16 +1,14 @@
 //! The functions of the archive (bindings/c/basinpantry.h), each under a safe function of the same name. All `unsafe` of this crate is here.
 //!
-//! Every call is sound for the same four reasons:
-//! - pointer and length come from one Rust slice, so the pointer is not null (also where the length is 0), the bytes are initialised, and they stay
-//!   lent while the call runs;
+//! The proofs begin at slices; pointers and lengths are the host's word. Every call keeps it for the same four reasons:
+//! - pointer and length are of one Rust slice, so the bytes are there, initialised and lent while the call runs (where the length is 0 the pointer is not
+//!   used);
 //! - what a call writes to is a `&mut` slice, which overlaps nothing else that is lent to the call, and any bytes or words written are valid;
 //! - the functions keep no pointer, have no state of their own, call nothing back and don't unwind; it is proved of them that on any content they
 //!   return, and read and write nothing outside the lent slices;
-//! - the types are those of the header: `size_t` is `usize`, `bool` is `bool`, and a call answers 0 or 1 for one.
+//! - the types are those of the header (tests/header.rs compares them): `size_t` is `usize`, `bool` is `bool`, and a call answers 0 or 1 for one.
 //!
 //! No length has to be any particular one for that: a table of another length is refused (3), and so is a buffer that is too short (13).
-//!
-//! What is read is copied into Rust values by the modules above; nothing of the archive's is handed out.
 use crate::refusal::Refusal;
 
 mod c {

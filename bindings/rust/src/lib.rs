@@ -45,6 +45,7 @@ pub use refusal::Refusal;
 pub use replay::{Replay, replay};
 pub use sum::Sum;
 pub use transaction::{
-    MAX_TRANSACTION_BYTES, Transaction, is_out_points, is_records, is_script, is_transaction, rewrite, write_transaction,
+    List, MAX_TRANSACTION_BYTES, Transaction, is_out_points, is_records, is_script, is_transaction, item, item_count, rewrite, version,
+    write_transaction,
 };
 pub use update::{Accepted, Negotiation, Update, update_for_peer};

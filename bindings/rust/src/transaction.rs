@@ -109,7 +109,7 @@ impl Transaction {
         ]
     }
 
-    /// The transaction of these bytes, if they are one.
+    /// The transaction of these bytes, if they are one ([`is_transaction`]).
     ///
     /// ```
     /// assert_eq!(basinpantry::Transaction::from_bytes(&[]), None);
@@ -118,16 +118,16 @@ impl Transaction {
         if !is_transaction(s) {
             return None;
         }
-        // an item is no longer than the transaction
-        let mut room = vec![0; s.len()];
+        let [raw, witnesses] = molecule::parts(s)?.try_into().ok()?;
+        let [version, cell_deps, header_deps, inputs, outputs, outputs_data] = molecule::parts(raw)?.try_into().ok()?;
         Some(Transaction {
-            version: ffi::version(s),
-            cell_deps: list(s, 0, &mut room, CellDep::from_bytes)?,
-            header_deps: list(s, 1, &mut room, |hash| hash.try_into().ok())?,
-            inputs: list(s, 2, &mut room, CellInput::from_bytes)?,
-            outputs: list(s, 3, &mut room, CellOutput::from_bytes)?,
-            outputs_data: list(s, 4, &mut room, |data| Some(data.to_vec()))?,
-            witnesses: list(s, 5, &mut room, |witness| Some(witness.to_vec()))?,
+            version: u32::from_le_bytes(version.try_into().ok()?),
+            cell_deps: molecule::items(cell_deps, 37)?.into_iter().map(CellDep::from_bytes).collect::<Option<_>>()?,
+            header_deps: molecule::items(header_deps, 32)?.into_iter().map(|hash| hash.try_into().ok()).collect::<Option<_>>()?,
+            inputs: molecule::items(inputs, 44)?.into_iter().map(CellInput::from_bytes).collect::<Option<_>>()?,
+            outputs: molecule::parts(outputs)?.into_iter().map(CellOutput::from_bytes).collect::<Option<_>>()?,
+            outputs_data: contents(outputs_data)?,
+            witnesses: contents(witnesses)?,
         })
     }
 
@@ -150,15 +150,73 @@ fn bytes_vec(entries: &[Vec<u8>]) -> Vec<u8> {
     molecule::table(&items)
 }
 
-/// The items of a list of a transaction, by the number of the list.
-fn list<T>(tx: &[u8], number: u32, room: &mut [u8], read: impl Fn(&[u8]) -> Option<T>) -> Option<Vec<T>> {
-    let count = usize::try_from(ffi::item_count(tx, number)).ok()?;
-    (0..count)
-        .map(|i| {
-            let [size, ..] = ffi::item(tx, number, i, room).ok()?;
-            read(room.get(..usize::try_from(size).ok()?)?)
-        })
-        .collect()
+fn contents(list: &[u8]) -> Option<Vec<Vec<u8>>> {
+    molecule::parts(list)?.into_iter().map(|entry| molecule::content(entry).map(<[u8]>::to_vec)).collect()
+}
+
+/// A list of a transaction.
+///
+/// ```
+/// assert_ne!(basinpantry::List::Outputs, basinpantry::List::OutputsData);
+/// ```
+#[derive(Clone, Copy, Debug, PartialEq, Eq, Hash)]
+pub enum List {
+    /// Items of 37 bytes ([`CellDep`]).
+    CellDeps,
+    /// Items of 32 bytes.
+    HeaderDeps,
+    /// Items of 44 bytes ([`CellInput`]).
+    Inputs,
+    /// Tables ([`CellOutput`]).
+    Outputs,
+    /// The data of the outputs.
+    OutputsData,
+    /// The witnesses.
+    Witnesses,
+}
+
+/// The version of a transaction by the proved reader; none of bytes that are no transaction.
+///
+/// ```
+/// use basinpantry::{Transaction, version};
+///
+/// assert_eq!(version(&Transaction { version: 7, ..Transaction::default() }.to_bytes()), Some(7));
+/// assert_eq!(version(&[]), None);
+/// ```
+pub fn version(tx: &[u8]) -> Option<u32> {
+    is_transaction(tx).then(|| ffi::version(tx))
+}
+
+/// How many items a list of a transaction has, by the proved reader; 0 where the bytes are no transaction.
+///
+/// ```
+/// use basinpantry::{List, Transaction, item_count};
+///
+/// let tx = Transaction { witnesses: vec![vec![1], vec![2, 3]], ..Transaction::default() }.to_bytes();
+/// assert_eq!((item_count(&tx, List::Witnesses), item_count(&tx, List::Inputs)), (2, 0));
+/// ```
+pub fn item_count(tx: &[u8], list: List) -> usize {
+    usize::try_from(ffi::item_count(tx, list as u32)).unwrap_or(usize::MAX)
+}
+
+/// Item `i` of a list of a transaction, by the proved reader. Each call reads the whole transaction; [`Transaction::from_bytes`] reads it once for all items.
+///
+/// ```
+/// use basinpantry::{List, Transaction, item};
+///
+/// let tx = Transaction { witnesses: vec![vec![1], vec![2, 3]], ..Transaction::default() }.to_bytes();
+/// assert_eq!(item(&tx, List::Witnesses, 1), Some(vec![2, 3]));
+/// assert_eq!(item(&tx, List::Witnesses, 2), None);
+/// ```
+pub fn item(tx: &[u8], list: List, i: usize) -> Option<Vec<u8>> {
+    if i >= item_count(tx, list) {
+        return None;
+    }
+    // an item is no longer than the transaction
+    let mut out = vec![0; tx.len()];
+    let [size, ..] = ffi::item(tx, list as u32, i, &mut out).ok()?;
+    out.truncate(usize::try_from(size).ok()?);
+    Some(out)
 }
 
 /// Writes a transaction by the proved writer. Refused: 13, where it would have more than 133,116 bytes.

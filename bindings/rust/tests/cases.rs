@@ -1,7 +1,7 @@
 //! The case files of the examples: the program and the library give the recorded line.
 mod common;
 
-use basinpantry::{CaseFile, Transaction, check_case};
+use basinpantry::{CaseFile, List, Transaction, check_case, item, item_count, rewrite, version, write_transaction};
 use common::{cases, run};
 
 #[test]
@@ -36,17 +36,28 @@ fn lines_of_the_library() {
     }
 }
 
+/// What is read and written here is what the proved readers and the proved writer give.
 #[test]
 fn transactions_are_written_as_they_are_read() {
-    for (path, bytes, _) in cases() {
-        let case = CaseFile::from_bytes(&bytes).unwrap();
-        let tx = Transaction::from_bytes(&case.peer).unwrap();
-        assert_eq!(tx.to_bytes(), case.peer, "{path:?}");
-    }
+    let mut transactions: Vec<Vec<u8>> = cases().iter().map(|(_, bytes, _)| CaseFile::from_bytes(bytes).unwrap().peer).collect();
     for name in ["one_output.tx", "token_output.tx"] {
-        let bytes = std::fs::read(common::examples().join(name)).unwrap();
-        assert_eq!(Transaction::from_bytes(&bytes).unwrap().to_bytes(), bytes);
+        transactions.push(std::fs::read(common::examples().join(name)).unwrap());
     }
+    for bytes in transactions {
+        let tx = Transaction::from_bytes(&bytes).unwrap();
+        assert_eq!(tx.to_bytes(), bytes);
+        assert_eq!(write_transaction(&tx), Ok(bytes.clone()));
+        assert_eq!(rewrite(&bytes), Ok(bytes.clone()));
+        assert_eq!(version(&bytes), Some(tx.version));
+        let items = |list| (0..item_count(&bytes, list)).map(|i| item(&bytes, list, i).unwrap()).collect::<Vec<_>>();
+        assert_eq!(items(List::CellDeps), tx.cell_deps.iter().map(|dep| dep.to_bytes().to_vec()).collect::<Vec<_>>());
+        assert_eq!(items(List::HeaderDeps), tx.header_deps.iter().map(|hash| hash.to_vec()).collect::<Vec<_>>());
+        assert_eq!(items(List::Inputs), tx.inputs.iter().map(|input| input.to_bytes().to_vec()).collect::<Vec<_>>());
+        assert_eq!(items(List::Outputs), tx.outputs.iter().map(|output| output.to_bytes()).collect::<Vec<_>>());
+        assert_eq!(items(List::OutputsData), tx.outputs_data);
+        assert_eq!(items(List::Witnesses), tx.witnesses);
+    }
+    assert_eq!((item_count(&[], List::Inputs), item(&[], List::Inputs, 0)), (0, None));
 }
 
 /// Cut anywhere or with any byte changed, a case file is judged or refused, by the library and by the reader here alike.
