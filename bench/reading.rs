@@ -1,15 +1,9 @@
 // Times `is_transaction` over transactions of several sizes and shapes: see bench/run.
+mod library;
+
+use library::is_transaction;
 use std::hint::black_box;
 use std::time::Instant;
-
-extern "C" {
-    fn basinpantry_is_transaction(s: *const u8, len: usize) -> bool;
-}
-
-fn is_transaction(s: &[u8]) -> bool {
-    // The function reads the bytes that it is lent and keeps nothing; it asks nothing of them.
-    unsafe { basinpantry_is_transaction(s.as_ptr(), s.len()) }
-}
 
 // ---- transactions, written by this file alone
 

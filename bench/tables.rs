@@ -1,139 +1,152 @@
-//! Times `take` here and in the original, in turns: see bench/tables.
-use oracle::original::{holds as original, Point};
+//! Times the calls on full tables here and in the original, in turns: see bench/tables.
+mod library;
+mod stack;
+
+use library::{EXCLUSIONS_BYTES, HELD_BYTES};
+use oracle::original::exclusions::Map;
+use oracle::original::{holds, Point};
 use oracle::standins::packed::OutPoint;
+use stack::stack_use;
 use std::collections::HashSet;
 use std::hint::black_box;
 use std::time::Instant;
 
-extern "C" {
-    fn timed_hold(cells: *const u8, n: usize) -> usize;
-    fn timed_take(
-        cells: *const u8,
-        n: usize,
-        picked: *const u8,
-        picked_n: usize,
-        spent: *const u8,
-        spent_n: usize,
-        time: u64,
-        taken: *mut u8,
-        taken_n: usize,
-        refused: *mut u8,
-        refused_n: usize,
-    ) -> usize;
-    fn timed_migrate(old: *const u8, old_n: usize, new: *const u8, new_n: usize, tx: *const u8, tx_n: usize) -> usize;
-}
-
-const PAINTED: usize = 1 << 20;
-
-/// Paints the stack below and answers where the paint begins.
-#[inline(never)]
-fn paint() -> usize {
-    let stretch = [0xa5u8; PAINTED];
-    black_box(&stretch).as_ptr() as usize
-}
-
-/// How many bytes below its caller the call writes to.
-#[inline(never)]
-fn stack_use(call: impl FnOnce()) -> usize {
-    let low = paint();
-    call();
-    let here = black_box(&low) as *const usize as usize;
-    let mut at = low;
-    // The stretch belongs to this thread's stack.
-    while at < here && unsafe { std::ptr::read_volatile(at as *const u8) } == 0xa5 {
-        at += 1;
-    }
-    here - at
-}
-
 /// Out points that differ in their hash, with indexes from 0 to 3.
-fn point(i: u32) -> Vec<u8> {
-    let mut bytes = vec![7u8; 32];
+fn point(i: u32) -> Point {
+    let mut bytes = [7u8; 36];
     bytes[..4].copy_from_slice(&i.wrapping_mul(2_654_435_761).to_le_bytes());
-    bytes.extend((i % 4).to_le_bytes());
+    bytes[32..].copy_from_slice(&(i % 4).to_le_bytes());
     bytes
 }
 
-fn list(points: &[Vec<u8>]) -> Vec<u8> {
-    let mut bytes = (points.len() as u32).to_le_bytes().to_vec();
-    points.iter().for_each(|p| bytes.extend(p));
-    bytes
+fn points(of: std::ops::Range<u32>) -> Vec<Point> {
+    of.map(point).collect()
 }
 
-fn parsed(points: &[Vec<u8>]) -> Vec<OutPoint> {
+fn list(points: &[Point]) -> Vec<u8> {
+    [&(points.len() as u32).to_le_bytes()[..], &points.concat()].concat()
+}
+
+fn parsed(points: &[Point]) -> Vec<OutPoint> {
     points.iter().map(|p| OutPoint::read(p).unwrap()).collect()
 }
 
-/// Fills a table with the cells and takes the picks from it.
-fn take(cells: &[u8], picks: &[u8], spent: &[u8], taken: &mut [u8], refused: &mut [u8]) {
-    // The function reads and writes only the slices that it is lent.
-    black_box(unsafe {
-        timed_take(
-            cells.as_ptr(),
-            cells.len(),
-            picks.as_ptr(),
-            picks.len(),
-            spent.as_ptr(),
-            spent.len(),
-            5,
-            taken.as_mut_ptr(),
-            taken.len(),
-            refused.as_mut_ptr(),
-            refused.len(),
-        )
-    });
+/// A transaction of version 0 with these inputs and nothing else.
+fn spending(cells: &[Point]) -> Vec<u8> {
+    let inputs: Vec<u8> = cells.iter().flat_map(|p| [&[0u8; 8][..], p].concat()).collect();
+    let (raw, all) = (52 + inputs.len() as u32, 64 + 4 + inputs.len() as u32);
+    let (outputs, data) = (40 + inputs.len() as u32 + 4, 40 + inputs.len() as u32 + 8);
+    let words = |w: &[u32]| w.iter().flat_map(|w| w.to_le_bytes()).collect::<Vec<u8>>();
+    let head = words(&[all, 12, 12 + raw, raw, 28, 32, 36, 40, outputs, data, 0, 0, 0, cells.len() as u32]);
+    [head, inputs, words(&[4, 4, 4])].concat()
+}
+
+/// The least time of many rounds, ours and the original's by turns; each call has a table of its own, made before the clock starts.
+fn by_turns<A, B>(name: &str, ours: impl Fn() -> A, call: impl Fn(&mut A), theirs: impl Fn() -> B, original: impl Fn(&mut B)) {
+    let (mut here, mut there) = (f64::MAX, f64::MAX);
+    for _ in 0..2_000 {
+        let mut a = ours();
+        let start = Instant::now();
+        call(black_box(&mut a));
+        here = here.min(start.elapsed().as_secs_f64());
+        let mut b = theirs();
+        let start = Instant::now();
+        original(black_box(&mut b));
+        there = there.min(start.elapsed().as_secs_f64());
+    }
+    println!("{name:<46} {:>9.2} {:>13.2} {:>6.2}", here * 1e6, there * 1e6, here / there);
+}
+
+fn filled(cells: &[u8]) -> Vec<u8> {
+    let mut held = vec![0; HELD_BYTES];
+    assert_eq!(library::hold_funding(&mut held, 1, cells), 0);
+    held
 }
 
 fn main() {
-    println!("{:<40} {:>9} {:>12} {:>6}", "", "here (us)", "original (us)", "ratio");
-    let cases = [
-        ("256 records, 64 picks, all held", 256u32, 0..64u32),
-        ("192 records, 64 picks, all free", 192, 1000..1064),
-        ("256 records, 64 picks, all free (14)", 256, 1000..1064),
-    ];
-    for (name, records, picks) in cases {
-        let cells: Vec<_> = (0..records).map(point).collect();
-        let picked: Vec<_> = picks.map(point).collect();
-        let (cell_list, pick_list, none) = (list(&cells), list(&picked), list(&[]));
-        let (mut taken, mut refused) = (vec![0u8; 4 + 36 * 64], vec![0u8; 4 + 36 * 64]);
-        let cells: Vec<Point> = cells.iter().map(|p| p[..].try_into().unwrap()).collect();
-        let (picked, spent) = (parsed(&picked), HashSet::new());
-        let (mut hold, mut hold_and_take, mut theirs) = (f64::MAX, f64::MAX, f64::MAX);
-        for _ in 0..300 {
-            let rounds = 20;
-            let start = Instant::now();
-            for _ in 0..rounds {
-                // The function reads only the slice that it is lent.
-                black_box(unsafe { timed_hold(cell_list.as_ptr(), cell_list.len()) });
-            }
-            hold = hold.min(start.elapsed().as_secs_f64() / rounds as f64);
-            let start = Instant::now();
-            for _ in 0..rounds {
-                take(&cell_list, &pick_list, &none, &mut taken, &mut refused);
-            }
-            hold_and_take = hold_and_take.min(start.elapsed().as_secs_f64() / rounds as f64);
-            for _ in 0..rounds {
-                original::reset();
-                original::hold_funding(1, &cells);
-                let picks = picked.clone();
-                let start = Instant::now();
-                black_box(original::take_parsed(picks, &spent, Some(2), 5));
-                theirs = theirs.min(start.elapsed().as_secs_f64());
-            }
-        }
-        let ours = hold_and_take - hold;
-        println!("{name:<40} {:>9.1} {:>12.1} {:>6.2}", ours * 1e6, theirs * 1e6, ours / theirs);
+    println!("{:<46} {:>9} {:>13} {:>6}", "", "here (us)", "original (us)", "ratio");
+    let none = list(&[]);
+    let room = || vec![0u8; 4 + 36 * 256];
+    for (name, records, picks, answer) in [
+        ("take: 256 records, 64 picks, all held", 256, 0..64, 0),
+        ("take: 192 records, 64 picks, all free", 192, 1000..1064, 0),
+        ("take: 256 records, 64 picks, all free (14)", 256, 1000..1064, 14),
+    ] {
+        let (cells, picks) = (points(0..records), points(picks));
+        let (table, pick_list, pick_values, spent) = (filled(&list(&cells)), list(&picks), parsed(&picks), HashSet::new());
+        by_turns(
+            name,
+            || (table.clone(), room(), room()),
+            |(held, taken, refused)| assert_eq!(library::take(held, &pick_list, &none, 2, 5, taken, refused), answer),
+            || {
+                holds::reset();
+                holds::hold_funding(1, &cells);
+                pick_values.clone()
+            },
+            |picks| {
+                black_box(holds::take_parsed(std::mem::take(picks), &spent, Some(2), 5));
+            },
+        );
     }
-    let (cells, picks, none) = (list(&(0..192).map(point).collect::<Vec<_>>()), list(&(1000..1064).map(point).collect::<Vec<_>>()), list(&[]));
-    let (mut taken, mut refused) = (vec![0u8; 4 + 36 * 64], vec![0u8; 4 + 36 * 64]);
-    let (old, new) = ([1u8; 32], [2u8; 32]);
-    // Version 0 and empty lists: 68 bytes.
-    let words = [68u32, 12, 64, 52, 28, 32, 36, 40, 44, 48, 0, 0, 0, 0, 4, 4, 4];
-    let tx: Vec<u8> = words.iter().flat_map(|w| w.to_le_bytes()).collect();
-    let of_take = stack_use(|| take(&cells, &picks, &none, &mut taken, &mut refused));
-    let migrate = stack_use(|| {
-        let count = black_box(unsafe { timed_migrate(old.as_ptr(), 32, new.as_ptr(), 32, tx.as_ptr(), tx.len()) });
-        assert_eq!(count, 1);
-    });
-    println!("stack: hold_funding and take {of_take} bytes, add and migrate_funding_tx {migrate} bytes");
+    let (cells, fewer) = (points(0..256), points(0..192));
+    let (table, fewer_list) = (filled(&list(&cells)), list(&fewer));
+    by_turns(
+        "hold_funding: 192 cells for 256 held",
+        || table.clone(),
+        |held| assert_eq!(library::hold_funding(held, 1, &fewer_list), 0),
+        || {
+            holds::reset();
+            holds::hold_funding(1, &cells);
+            parsed(&fewer)
+        },
+        |cells| holds::hold_funding_parsed(1, std::mem::take(cells)),
+    );
+    by_turns(
+        "lock_held: 256 records",
+        || (table.clone(), room()),
+        |(held, out)| assert_eq!(library::lock_held(held, 5, out), 0),
+        || {
+            holds::reset();
+            holds::hold_funding(1, &cells);
+        },
+        |_| {
+            black_box(holds::lock_held(5));
+        },
+    );
+    // 64 transactions of 8 inputs each: the map is full
+    let txs: Vec<([u8; 32], Vec<u8>)> = (0..64u32).map(|i| ([i as u8; 32], spending(&points(8 * i..8 * i + 8)))).collect();
+    let (mut map, mut original) = (vec![0u8; EXCLUSIONS_BYTES], Map::default());
+    for (hash, tx) in &txs {
+        assert_eq!(library::exclusions_add(&mut map, hash, tx), 0);
+        original.add(hash, tx);
+    }
+    let (hash, tx) = &txs[63];
+    by_turns(
+        "exclusions: add again, 64 transactions",
+        || map.clone(),
+        |m| assert_eq!(library::exclusions_add(m, hash, tx), 0),
+        || original.clone(),
+        |m| m.add(hash, tx),
+    );
+    by_turns(
+        "exclusions: migrate, 64 transactions",
+        || map.clone(),
+        |m| assert_eq!(library::exclusions_migrate_funding_tx(m, hash, &[99; 32], tx), 0),
+        || original.clone(),
+        |m| m.migrate(hash, &[99; 32], tx),
+    );
+    by_turns(
+        "exclusions: apply, 512 out points",
+        || vec![0u8; 4 + 36 * 512],
+        |out| assert_eq!(library::exclusions_apply(&map, out), 0),
+        || (),
+        |_| {
+            black_box(original.apply());
+        },
+    );
+    let picks = list(&points(1000..1064));
+    let (mut held, mut taken, mut refused) = (filled(&fewer_list), room(), room());
+    let of_take = stack_use(|| assert_eq!(library::take(&mut held, &picks, &none, 2, 5, &mut taken, &mut refused), 0));
+    let of_migrate = stack_use(|| assert_eq!(library::exclusions_migrate_funding_tx(&mut map, hash, &[99; 32], tx), 0));
+    println!("stack: take {of_take} bytes, exclusions_migrate_funding_tx {of_migrate} bytes");
 }

@@ -4,8 +4,8 @@
 //! between `pub mod NAME {` and `}`, with one line behind it that brings the stand-ins into scope, and our probe as a child module (a child sees its
 //! parent's private items, so nothing in the file has to be made public).
 //!
-//! The library, as the static library that BASINPANTRY_LIB names (else ../target/staticlib/libcapi.a): it is linked to `compare` and `bench_update` alone,
-//! so that `oracle` can be built without it.
+//! The library, as the static library that BASINPANTRY_LIB names (else ../target/staticlib/libcapi.a): it is linked to `compare` and the
+//! benchmarks alone, so that `oracle` can be built without it.
 use std::path::PathBuf;
 use std::{env, fs};
 
@@ -61,8 +61,9 @@ fn main() {
     let library = env::var("BASINPANTRY_LIB").map(PathBuf::from).unwrap_or_else(|_| folder().join("../target/staticlib/libcapi.a"));
     println!("cargo:rerun-if-changed={}", library.display());
     if library.is_file() {
-        println!("cargo:rustc-link-arg-bin=compare={}", library.display());
-        println!("cargo:rustc-link-arg-bin=bench_update={}", library.display());
+        for program in ["compare", "bench_update", "bench_tables"] {
+            println!("cargo:rustc-link-arg-bin={program}={}", library.display());
+        }
     }
     let to = PathBuf::from(env::var("OUT_DIR").unwrap());
     fs::write(to.join("reference.rs"), reference()).unwrap();

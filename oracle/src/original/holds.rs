@@ -35,7 +35,11 @@ pub fn dump() -> Holds {
     holds
 }
 pub fn hold_funding(holder: u64, cells: &[Point]) {
-    held::hold_funding(holder, points(cells))
+    hold_funding_parsed(holder, points(cells))
+}
+/// The same from a list that is parsed already.
+pub fn hold_funding_parsed(holder: u64, cells: Vec<OutPoint>) {
+    held::hold_funding(holder, cells)
 }
 pub fn hold_for_watchtower(cells: &[Point], now: u64) {
     held::hold_for_watchtower(points(cells), now)
