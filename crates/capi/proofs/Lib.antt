@@ -4,4 +4,5 @@ pub mod BufferLaws
 pub mod ReplayLaws
 pub mod TableLaws
 pub mod TableWays
+pub mod Capacities
 pub mod Ways
