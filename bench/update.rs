@@ -43,23 +43,8 @@ struct Update {
 
 impl Update {
     fn lent(&self) -> Lent<'_> {
-        let Update {
-            peer,
-            lock,
-            udt,
-            source,
-            rate,
-            records,
-            ..
-        } = self;
-        Lent {
-            peer,
-            lock,
-            udt,
-            source,
-            rate: *rate,
-            records: read_records(records),
-        }
+        let Update { peer, lock, udt, source, rate, records, .. } = self;
+        Lent { peer, lock, udt, source, rate: *rate, records: read_records(records) }
     }
     /// From raw bytes, by the original.
     fn read(&self) -> Parsed {
@@ -92,39 +77,25 @@ impl Update {
     }
     /// One pass over all bytes of the transactions and records.
     fn pass(&self) -> u64 {
-        [&self.ours, &self.peer, &self.records]
-            .iter()
-            .fold(0, |sum, b| sum.wrapping_add(summed(b)))
+        [&self.ours, &self.peer, &self.records].iter().fold(0, |sum, b| sum.wrapping_add(summed(b)))
     }
     fn bytes(&self) -> usize {
         self.ours.len() + self.peer.len() + self.records.len()
     }
     /// Both accept it and report the same surpluses.
     fn agrees(&self, name: &str) {
-        let Verdict::Accept(capacity, token) = judge(&self.ours, self.lent()) else {
-            panic!("{name}: the original refuses")
-        };
+        let Verdict::Accept(capacity, token) = judge(&self.ours, self.lent()) else { panic!("{name}: the original refuses") };
         let mut values = [0; 4];
         let number = self.call(&mut values);
-        let expected = [
-            capacity as u64,
-            (capacity >> 64) as u64,
-            token as u64,
-            (token >> 64) as u64,
-        ];
+        let expected = [capacity as u64, (capacity >> 64) as u64, token as u64, (token >> 64) as u64];
         assert_eq!((number, values), (0, expected), "{name}");
     }
 }
 
 fn summed(bytes: &[u8]) -> u64 {
     let words = bytes.chunks_exact(8);
-    let rest = words
-        .remainder()
-        .iter()
-        .fold(0u64, |sum, x| sum.wrapping_add(*x as u64));
-    words.fold(rest, |sum, w| {
-        sum.wrapping_add(u64::from_le_bytes(w.try_into().unwrap()))
-    })
+    let rest = words.remainder().iter().fold(0u64, |sum, x| sum.wrapping_add(*x as u64));
+    words.fold(rest, |sum, w| sum.wrapping_add(u64::from_le_bytes(w.try_into().unwrap())))
 }
 
 /// The funding lock, our source lock, the token's type, and the peer's lock.
@@ -136,12 +107,7 @@ struct Scripts {
 }
 
 fn scripts() -> Scripts {
-    Scripts {
-        lock: script(0, 20),
-        source: script(1, 20),
-        udt: script(2, 32),
-        peer: script(3, 20),
-    }
+    Scripts { lock: script(0, 20), source: script(1, 20), udt: script(2, 32), peer: script(3, 20) }
 }
 fn tokens(n: u128) -> Bytes {
     data(&n.to_le_bytes())
@@ -172,80 +138,36 @@ fn updates() -> [(&'static str, Update); 5] {
     let plain = output(100_0000_0000, peer, None);
     let untyped = update(
         vec![],
-        tx(
-            2,
-            &[
-                output(100_0000_0000, lock, None),
-                output(61_0000_0000, peer, None),
-            ],
-            &[none(), none()],
-            1,
-            &[placeholder.clone()],
-        ),
+        tx(2, &[output(100_0000_0000, lock, None), output(61_0000_0000, peer, None)], &[none(), none()], 1, &[placeholder.clone()]),
         &[],
         &[record(plain.clone(), b""), record(plain, b"")],
     );
     let change = output(61_0000_0000, source, None);
     let kept = output(142_0000_0000, peer, Some(udt));
     let rest = output(61_0000_0000, peer, None);
-    let brought = record(
-        output(200_0000_0000, peer, Some(udt)),
-        &60u128.to_le_bytes(),
-    );
+    let brought = record(output(200_0000_0000, peer, Some(udt)), &60u128.to_le_bytes());
     let typed = update(
-        tx(
-            1,
-            &[output(100_0000_0000, lock, Some(udt)), change.clone()],
-            &[tokens(5), none()],
-            2,
-            &[placeholder.clone()],
-        ),
+        tx(1, &[output(100_0000_0000, lock, Some(udt)), change.clone()], &[tokens(5), none()], 2, &[placeholder.clone()]),
         tx(
             3,
-            &[
-                output(200_0000_0000, lock, Some(udt)),
-                change.clone(),
-                kept.clone(),
-                rest.clone(),
-            ],
+            &[output(200_0000_0000, lock, Some(udt)), change.clone(), kept.clone(), rest.clone()],
             &[tokens(50), none(), tokens(7), none()],
             3,
             &[placeholder.clone()],
         ),
         udt.as_slice(),
-        &[
-            brought.clone(),
-            record(output(200_0000_0000, peer, None), b""),
-        ],
+        &[brought.clone(), record(output(200_0000_0000, peer, None), b"")],
     );
-    let three = [
-        output(100_0000_0000, lock, Some(udt)),
-        kept.clone(),
-        rest.clone(),
-    ];
-    let opening =
-        |witnesses: &[Bytes]| tx(64, &three, &[tokens(50), tokens(7), none()], 8, witnesses);
+    let three = [output(100_0000_0000, lock, Some(udt)), kept.clone(), rest.clone()];
+    let opening = |witnesses: &[Bytes]| tx(64, &three, &[tokens(50), tokens(7), none()], 8, witnesses);
     let sixty_four = vec![brought; 64];
-    let most_inputs = update(
-        vec![],
-        opening(&vec![placeholder; 64]),
-        udt.as_slice(),
-        &sixty_four,
-    );
+    let most_inputs = update(vec![], opening(&vec![placeholder; 64]), udt.as_slice(), &sixty_four);
     let witness = update(vec![], filled(opening), udt.as_slice(), &sixty_four);
-    let ours = [
-        output(100_0000_0000, lock, Some(udt)),
-        change.clone(),
-        change,
-    ];
+    let ours = [output(100_0000_0000, lock, Some(udt)), change.clone(), change];
     let theirs = [ours.to_vec(), vec![kept, rest.clone(), rest]].concat();
     let entries = [tokens(5), none(), none(), tokens(7), none(), none()];
-    let shared = update(
-        tx(2_900, &ours, &entries[..3], 0, &[]),
-        filled(|witnesses| tx(2_964, &theirs, &entries, 8, witnesses)),
-        udt.as_slice(),
-        &sixty_four,
-    );
+    let shared =
+        update(tx(2_900, &ours, &entries[..3], 0, &[]), filled(|witnesses| tx(2_964, &theirs, &entries, 8, witnesses)), udt.as_slice(), &sixty_four);
     [
         ("504 bytes, untyped, from none", untyped),
         ("1,042 bytes, typed", typed),
@@ -263,13 +185,7 @@ fn growing(bytes: usize) -> [(&'static str, Update); 3] {
     let live = record(output(100_0000_0000, &s.peer, None), b"");
     let make = |inputs: usize, outputs: usize, witnesses: usize| {
         let outputs = [vec![funding.clone()], vec![other.clone(); outputs]].concat();
-        tx(
-            inputs,
-            &outputs,
-            &vec![data(b""); outputs.len()],
-            0,
-            &vec![data(&[0; 85]); witnesses],
-        )
+        tx(inputs, &outputs, &vec![data(b""); outputs.len()], 0, &vec![data(&[0; 85]); witnesses])
     };
     let update = |ours: Vec<u8>, peer: Vec<u8>| Update {
         ours,
@@ -284,14 +200,8 @@ fn growing(bytes: usize) -> [(&'static str, Update); 3] {
     let count = |one: usize| (bytes - make(2, 0, 0).len()) / one;
     let (inputs, outputs, witnesses) = (count(44), count(other.as_slice().len() + 12), count(93));
     [
-        (
-            "shared inputs",
-            update(make(inputs - 1, 0, 0), make(inputs, 0, 0)),
-        ),
-        (
-            "shared outputs",
-            update(make(1, outputs, 0), make(2, outputs, 0)),
-        ),
+        ("shared inputs", update(make(inputs - 1, 0, 0), make(inputs, 0, 0))),
+        ("shared outputs", update(make(1, outputs, 0), make(2, outputs, 0))),
         ("witnesses", update(make(1, 0, 0), make(2, 0, witnesses))),
     ]
 }
@@ -306,17 +216,12 @@ impl Clock {
     fn time(&mut self, calls: usize, mut call: impl FnMut()) {
         let start = Instant::now();
         (0..calls).for_each(|_| call());
-        self.0 = self
-            .0
-            .min(start.elapsed().as_secs_f64() * 1e9 / calls as f64);
+        self.0 = self.0.min(start.elapsed().as_secs_f64() * 1e9 / calls as f64);
     }
 }
 
 fn beside_the_original(rounds: usize) {
-    println!(
-        "{:<36}{:>8}{:>8}{:>8}{:>8}{:>7}{:>7}{:>7}",
-        "ns for a call", "a", "b", "c", "d", "c/a", "c/b", "c/d"
-    );
+    println!("{:<36}{:>8}{:>8}{:>8}{:>8}{:>7}{:>7}{:>7}", "ns for a call", "a", "b", "c", "d", "c/a", "c/b", "c/d");
     for (name, update) in updates() {
         update.agrees(name);
         let calls = (400_000 / update.bytes()).max(3);
@@ -331,49 +236,30 @@ fn beside_the_original(rounds: usize) {
             });
         }
         let (a, b, c, d) = (a.0, b.0, c.0, d.0);
-        println!(
-            "{name:<36}{a:>8.0}{b:>8.0}{c:>8.0}{d:>8.0}{:>7.2}{:>7.2}{:>7.2}",
-            c / a,
-            c / b,
-            c / d
-        );
+        println!("{name:<36}{a:>8.0}{b:>8.0}{c:>8.0}{d:>8.0}{:>7.2}{:>7.2}{:>7.2}", c / a, c / b, c / d);
     }
 }
 
 fn for_each_byte(rounds: usize) {
-    println!(
-        "{:<36}{:>8}{:>8}{:>8}",
-        "ns for each byte that is lent", "bytes", "c", "c/bytes"
-    );
+    println!("{:<36}{:>8}{:>8}{:>8}", "ns for each byte that is lent", "bytes", "c", "c/bytes");
     let mut cases = vec![];
     for bytes in [10_000, 20_000, 40_000, 80_000, MOST] {
         cases.extend(growing(bytes).map(|(name, update)| (name, update, Clock::new())));
     }
-    cases
-        .iter()
-        .for_each(|(name, update, _)| update.agrees(name));
+    cases.iter().for_each(|(name, update, _)| update.agrees(name));
     for _ in 0..rounds {
         for (_, update, clock) in &mut cases {
-            clock.time(400_000 / update.bytes(), || {
-                assert!(black_box(&*update).call(&mut [0; 4]) == 0)
-            });
+            clock.time(400_000 / update.bytes(), || assert!(black_box(&*update).call(&mut [0; 4]) == 0));
         }
     }
     cases.sort_by_key(|(name, ..)| *name);
     for (name, update, clock) in cases {
-        println!(
-            "{name:<36}{:>8}{:>8.0}{:>8.4}",
-            update.bytes(),
-            clock.0,
-            clock.0 / update.bytes() as f64
-        );
+        println!("{name:<36}{:>8}{:>8.0}{:>8.4}", update.bytes(), clock.0, clock.0 / update.bytes() as f64);
     }
 }
 
 fn main() {
-    let rounds = std::env::args()
-        .nth(1)
-        .map_or(1_500, |n| n.parse().expect("a number of rounds"));
+    let rounds = std::env::args().nth(1).map_or(500, |n| n.parse().expect("a number of rounds"));
     beside_the_original(rounds);
     for_each_byte(rounds / 5);
 }
