@@ -7,6 +7,10 @@ type Out = *mut u8;
 
 extern "C" {
     fn basinpantry_is_transaction(s: In, n: usize) -> bool;
+    fn basinpantry_update_for_peer(
+        ours: In, ours_n: usize, peer: In, peer_n: usize, lock: In, lock_n: usize, udt: In, udt_n: usize, source: In, source_n: usize, rate: u64, records: In,
+        records_n: usize, values: *mut u64, values_n: usize,
+    ) -> u32;
     fn basinpantry_build_base(
         ours: In, ours_n: usize, lock: In, lock_n: usize, udt: In, udt_n: usize, source: In, source_n: usize, cells: In, cells_n: usize, udt_deps: In,
         udt_deps_n: usize, lock_dep: In, lock_dep_n: usize, extra: In, extra_n: usize, local_low: u64, local_high: u64, local_reserved: u64, remote_low: u64,
@@ -30,6 +34,17 @@ pub const EXCLUSIONS_BYTES: usize = 27_652;
 
 pub fn is_transaction(s: &[u8]) -> bool {
     unsafe { basinpantry_is_transaction(s.as_ptr(), s.len()) }
+}
+
+pub fn update_for_peer(
+    ours: &[u8], peer: &[u8], lock: &[u8], udt: &[u8], source: &[u8], rate: u64, records: &[u8], values: &mut [u64; 4],
+) -> u32 {
+    unsafe {
+        basinpantry_update_for_peer(
+            ours.as_ptr(), ours.len(), peer.as_ptr(), peer.len(), lock.as_ptr(), lock.len(), udt.as_ptr(), udt.len(), source.as_ptr(), source.len(), rate,
+            records.as_ptr(), records.len(), values.as_mut_ptr(), values.len(),
+        )
+    }
 }
 
 // A base from no present transaction, untyped, with these extra deps.

@@ -1,4 +1,6 @@
 //! Times `update_for_peer` beside the original's, in turns: see bench/update.
+mod library;
+
 use oracle::original::parsed::Parsed;
 use oracle::original::update::{judge, read_records, Lent, Verdict};
 use oracle::selftest::{data, output, script, tx};
@@ -6,26 +8,6 @@ use oracle::standins::molecule::write_table;
 use oracle::standins::packed::{Bytes, CellOutput, Script};
 use std::hint::black_box;
 use std::time::Instant;
-
-extern "C" {
-    fn basinpantry_update_for_peer(
-        ours: *const u8,
-        ours_len: usize,
-        peer: *const u8,
-        peer_len: usize,
-        lock: *const u8,
-        lock_len: usize,
-        udt: *const u8,
-        udt_len: usize,
-        source: *const u8,
-        source_len: usize,
-        rate: u64,
-        records: *const u8,
-        records_len: usize,
-        values: *mut u64,
-        values_len: usize,
-    ) -> u32;
-}
 
 /// The greatest size of a peer's transaction, without the 4 bytes that a block adds.
 const MOST: usize = 133_116;
@@ -54,26 +36,8 @@ impl Update {
     }
     /// From raw bytes, by the library.
     fn call(&self, values: &mut [u64; 4]) -> u32 {
-        // The function reads the slices that it is lent and writes to `values`, which overlaps none of them.
-        unsafe {
-            basinpantry_update_for_peer(
-                self.ours.as_ptr(),
-                self.ours.len(),
-                self.peer.as_ptr(),
-                self.peer.len(),
-                self.lock.as_ptr(),
-                self.lock.len(),
-                self.udt.as_ptr(),
-                self.udt.len(),
-                self.source.as_ptr(),
-                self.source.len(),
-                self.rate,
-                self.records.as_ptr(),
-                self.records.len(),
-                values.as_mut_ptr(),
-                values.len(),
-            )
-        }
+        let Update { ours, peer, lock, udt, source, rate, records } = self;
+        library::update_for_peer(ours, peer, lock, udt, source, *rate, records, values)
     }
     /// One pass over all bytes of the transactions and records.
     fn pass(&self) -> u64 {
