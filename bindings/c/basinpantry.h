@@ -1,13 +1,17 @@
 /* Basinpantry: judges the funding transactions that a peer proposes when a CKB payment channel is opened. Every function here is a thin one over the
    proved library; link target/staticlib/libcapi.a (`rt staticlib capi`).
 
-   Lent bytes are a pointer and a length, and the caller answers for both: nothing can be proved of them here. Where the length is 0 nothing is read or
-   written through the pointer, and null will do (example.c lends such). A buffer that is written to overlaps nothing else that is lent to the same call.
-   Numbers in bytes are little-endian; transactions, scripts and lists have the Molecule forms of RFC 0008 and 0019.
+   Lent bytes are a pointer and a length, and the caller answers for both: nothing can be proved of them here. Where the length is 0 null will do (it was run
+   so: example.c). A buffer that is written to overlaps nothing else that is lent to the same call.
+   Numbers in bytes are little-endian; transactions, scripts and lists have the Molecule forms of RFC 0008 and 0019. No bytes at all are only what a comment
+   below says that they are ("no bytes: none"). An empty list has bytes: 00000000 of sized items (out points, cell deps, header deps, inputs), 04000000 of unsized
+   ones (records, token cells, updates, outputs, data, witnesses); no bytes in its place are 3.
 
-   A call returns 0, or the number of its refusal (1 to 15, BASINPANTRY_...), and then nothing that was lent has changed, but for `values` where a
-   refusal carries values. Where a function has `values`, it is an array of at least four words, which it then sets, the unused ones to 0; with fewer the
-   answer is 13 before all else. */
+   A function whose comment says "Refused" returns 0, or the number of its refusal (1 to 15, BASINPANTRY_...), and then no table and no buffer that was lent has
+   changed. `values` is where the answer goes: an array of at least four words, which every such call sets, the unused ones to 0; with fewer the answer is 13 before
+   all else, and they stay as they are.
+
+   A thread that calls needs half a megabyte of stack (bench/tables measures the largest calls). Calls that do not share a table or a buffer may run at once. */
 #ifndef BASINPANTRY_H
 #define BASINPANTRY_H
 
@@ -69,10 +73,11 @@ uint32_t basinpantry_version(const uint8_t *tx, size_t tx_len);
 uint32_t basinpantry_item_count(const uint8_t *tx, size_t tx_len, uint32_t list);
 
 /* Writes item i of a list of a transaction to the start of out: a cell dep (37 bytes), header dep (32), input (44), output (a table), or the bytes of a
-   data entry or a witness. values[0]: how many bytes, and 0 where there is no such item. Refused: 13. */
+   data entry or a witness. values[0]: how many bytes, and 0 where there is no such item, as for an empty entry (item_count tells which). Each call reads the whole
+   transaction first. Refused: 13. */
 uint32_t basinpantry_item(const uint8_t *tx, size_t tx_len, uint32_t list, size_t i, uint8_t *out, size_t out_len, uint64_t *values, size_t values_len);
 
-/* Writes a transaction from its version and six lists. values[0]: how many bytes. Refused: 3, 13. */
+/* Writes a transaction from its version and six lists. values[0]: how many bytes; 133,116 are always enough. Refused: 3, 13. */
 uint32_t basinpantry_write_transaction(uint32_t version, const uint8_t *cell_deps, size_t cell_deps_len, const uint8_t *header_deps, size_t header_deps_len,
                                        const uint8_t *inputs, size_t inputs_len, const uint8_t *outputs, size_t outputs_len, const uint8_t *outputs_data,
                                        size_t outputs_data_len, const uint8_t *witnesses, size_t witnesses_len, uint8_t *out, size_t out_len,
@@ -84,7 +89,8 @@ uint32_t basinpantry_rewrite(const uint8_t *tx, size_t tx_len, uint8_t *out, siz
 /* ---- a peer's update */
 
 /* Judges the peer's transaction against ours (no bytes: none), under the expected funding lock, the expected token type (no bytes: untyped), our source
-   lock and a fee rate, over one record for each input that the peer added. After 0 the peer's transaction is in force, after a refusal ours.
+   lock and a fee rate in shannons for 1,000 bytes. `records` has the cell that each added input spends, in the order of these inputs, as the chain has it: the
+   caller answers for that. After 0 the peer's transaction is in force, after a refusal ours.
    values of 0: the capacity surplus (low half, high half) and the token surplus (low half, high half). Refused: 1 to 8. */
 uint32_t basinpantry_update_for_peer(const uint8_t *ours, size_t ours_len, const uint8_t *peer, size_t peer_len, const uint8_t *lock, size_t lock_len,
                                      const uint8_t *udt, size_t udt_len, const uint8_t *source, size_t source_len, uint64_t rate, const uint8_t *records,
@@ -92,7 +98,7 @@ uint32_t basinpantry_update_for_peer(const uint8_t *ours, size_t ours_len, const
 
 /* Judges a list of updates, each against the transaction that the one before it left in force, under one expected lock and type. `updates` is a list of
    unsized items, each a table of four fields: the peer's transaction, the records and the source lock, each as bytes with their count, and the fee rate
-   (8 bytes). For update k, answers[5 * k] is its number and the four words after it are its values, as above. values: how many updates, how many
+   (8 bytes, as above). For update k, answers[5 * k] is its number and the four words after it are its values, as above. values: how many updates, how many
    accepted, and which transaction is then in force: 0 for the one at the start, k + 1 for that of update k. Refused, before any update is judged: 3 where
    `updates` is not such a list, 13 where `answers` has fewer than five words for each update. */
 uint32_t basinpantry_replay(const uint8_t *start, size_t start_len, const uint8_t *lock, size_t lock_len, const uint8_t *udt, size_t udt_len,
@@ -112,14 +118,17 @@ uint32_t basinpantry_build_funding_cell(const uint8_t *ours, size_t ours_len, co
                                         uint64_t local_reserved, uint64_t remote_low, uint64_t remote_high, uint64_t remote_reserved, uint64_t *values,
                                         size_t values_len);
 
-/* Picks token cells, a list of tables of out point and data, until their total reaches the wanted amount; the change output, if any, goes to the start
-   of out. values of 0: how many cells, the change (low half, high half), the capacity of its output. Refused: 3, 12, 10, 9, 13. */
+/* Picks token cells, a list of tables of out point and data, from the first on until their total reaches the wanted amount; without a type nothing is picked. The
+   caller answers for the cells: that they are live, under our lock, of the type, and listed once. The change output, if there is change, goes to the start of out,
+   24 + source_len + udt_len bytes; its data, the change in 16 bytes, is for the caller to write.
+   values of 0: how many cells, the change (low half, high half), the capacity of its output. Refused: 3, 12, 10, 9, 13. */
 uint32_t basinpantry_build_udt_inputs_outputs(const uint8_t *cells, size_t cells_len, const uint8_t *udt, size_t udt_len, const uint8_t *source,
                                               size_t source_len, uint64_t wanted_low, uint64_t wanted_high, uint8_t *out, size_t out_len,
                                               uint64_t *values, size_t values_len);
 
-/* Writes the base transaction of a request to the start of out. `udt_deps` is a list of cell deps and `lock_dep` one cell dep; no bytes: not supplied.
-   values[0] of 0: how many bytes. Refused: 1, 3, 7, 12, 10, 9, 11, 13. */
+/* Writes the base transaction of a request to the start of out: our present transaction (no bytes: none), the funding cell under `lock` of the type (no bytes: untyped),
+   token cells picked as above for the local amount, and the change under `source`. `udt_deps` is a list of cell deps and `lock_dep` one cell dep of 37 bytes; no bytes: not
+   supplied. values[0] of 0: how many bytes; 133,116 are always enough. Refused: 1, 3, 7, 12, 10, 9, 11, 13. */
 uint32_t basinpantry_build_base(const uint8_t *ours, size_t ours_len, const uint8_t *lock, size_t lock_len, const uint8_t *udt, size_t udt_len,
                                 const uint8_t *source, size_t source_len, const uint8_t *cells, size_t cells_len, const uint8_t *udt_deps,
                                 size_t udt_deps_len, const uint8_t *lock_dep, size_t lock_dep_len, const uint8_t *extra_deps, size_t extra_deps_len,
@@ -128,12 +137,14 @@ uint32_t basinpantry_build_base(const uint8_t *ours, size_t ours_len, const uint
 
 /* ---- tables of cells: bytes that the caller keeps and lends to each call. All zeros are the empty table; any other content is safe.
    A table is a count (4 bytes), then places of 48 bytes: an out point or a hash with four bytes of 0 behind it (36), a kind (4), a number (8). The places
-   beyond the count mean nothing. A table of another length is 3, before all else. */
+   beyond the count mean nothing. A table of another length is 3, before all else.
+   Lists of out points are written to the start of their buffer as they are read: a count of four bytes and 36 bytes for each. */
 
 /* Held cells: 256 places. Kind 0 is a funding, and the number its holder; any other kind the watchtower, and the number the end in milliseconds. */
 #define BASINPANTRY_HELD_BYTES 12292
 
-/* The funding inputs that `holder` holds now, in place of the ones that it held before. Refused: 3, 14. */
+/* The funding inputs that `holder` holds now, in place of the ones that it held before. A holder is a number of the caller's: two that use one number replace each
+   other's records. Refused: 3, 14. */
 uint32_t basinpantry_hold_funding(uint8_t *held, size_t held_len, uint64_t holder, const uint8_t *cells, size_t cells_len);
 
 /* The cells of a transaction that the watchtower sent at `time`: held for 1,800,000 ms. Refused: 3, 14. */
@@ -142,14 +153,17 @@ uint32_t basinpantry_hold_for_watchtower(uint8_t *held, size_t held_len, const u
 /* The cells of a transaction that the watchtower could not send are free again. Refused: 3. */
 uint32_t basinpantry_release_for_watchtower(uint8_t *held, size_t held_len, const uint8_t *cells, size_t cells_len);
 
-/* Writes the out points of every cell that is held at `time`; watchtower records that have ended are dropped. Refused: 3, 13. */
+/* Writes the out points of every record that holds at `time`, in the order of the records; watchtower records that have ended are dropped. 9,220 bytes are always enough.
+   Refused: 3, 13. */
 uint32_t basinpantry_lock_held(uint8_t *held, size_t held_len, uint64_t time, uint8_t *out, size_t out_len);
 
-/* Writes the out points of `picked` that are held at `time` or in `spent`. Refused: 3, 13. */
+/* Writes the out points of `picked` that are held at `time` or in `spent`, each once: picked_len bytes are always enough. This call and the next look at as many out
+   points as picks times (records, spent and picks). Refused: 3, 13. */
 uint32_t basinpantry_unavailable(const uint8_t *held, size_t held_len, const uint8_t *picked, size_t picked_len, const uint8_t *spent, size_t spent_len,
                                  uint64_t time, uint8_t *out, size_t out_len);
 
-/* Takes the cells `picked` for the watchtower, or for the funding of `holder`: the lists of those taken and of those refused go into the two buffers.
+/* Takes the cells `picked` for the watchtower, which holds them for 60,000 ms, or for the funding of `holder`: a cell that is held, spent, or taken earlier in the call is refused.
+   The lists of those taken and of those refused go into the two buffers; picked_len bytes are always enough for each. Watchtower records that have ended are dropped.
    Refused: 3, 13, 14. */
 uint32_t basinpantry_take(uint8_t *held, size_t held_len, const uint8_t *picked, size_t picked_len, const uint8_t *spent, size_t spent_len, bool watchtower,
                           uint64_t holder, uint64_t time, uint8_t *taken, size_t taken_len, uint8_t *refused, size_t refused_len);
@@ -158,7 +172,7 @@ uint32_t basinpantry_take(uint8_t *held, size_t held_len, const uint8_t *picked,
    out point that the transaction above it spends. */
 #define BASINPANTRY_EXCLUSIONS_BYTES 27652
 
-/* Enters the inputs of a transaction (no bytes: none) under its hash of 32 bytes. Refused: 3 (the table), 1, 3, 15. */
+/* Enters the inputs of a transaction (no bytes: none) under its hash of 32 bytes, which the caller answers for. Refused: 3 (the table), 1, 3, 15. */
 uint32_t basinpantry_exclusions_add(uint8_t *map, size_t map_len, const uint8_t *hash, size_t hash_len, const uint8_t *tx, size_t tx_len);
 
 /* The transaction of this hash was committed in this block. Refused: 3. */
@@ -174,7 +188,7 @@ uint32_t basinpantry_exclusions_migrate_funding_tx(uint8_t *map, size_t map_len,
 /* Drops what was committed 13 blocks before the tip, or earlier. Refused: 3. */
 uint32_t basinpantry_exclusions_truncate(uint8_t *map, size_t map_len, uint64_t tip);
 
-/* Writes the out points of all entries, in their order, as a list. Refused: 3, 13. */
+/* Writes the out points of all entries, in their order. 18,436 bytes are enough for every map that calls have made. Refused: 3, 13. */
 uint32_t basinpantry_exclusions_apply(const uint8_t *map, size_t map_len, uint8_t *out, size_t out_len);
 
 #ifdef __cplusplus
