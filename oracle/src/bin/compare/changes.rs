@@ -157,7 +157,7 @@ pub fn change(rng: &mut Rng, p: &mut Plan) {
             if rng.once_in(10) {
                 p.peer.witnesses.push(vec![]);
                 let n = p.peer.write().len();
-                let room = 133_116 - n + rng.below(2);
+                let room = (133_116 + rng.below(2)).saturating_sub(n);
                 p.peer.witnesses.last_mut().unwrap().resize(room, 0);
             }
         }
