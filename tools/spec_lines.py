@@ -1,0 +1,31 @@
+#!/usr/bin/env python3
+"""spec_lines.py: how many lines of definitions a reader has to believe, by part of the library: the lines of crates/*/specs/*.antt without comments, imports, blank lines
+and `pub mod` lines. Run it in the repository's root; docs/SPECIFICATION.md quotes it."""
+import glob
+
+PARTS = {
+    'reading, writing, amounts and errors': 'arithmetic units error molecule transaction transaction_writer',
+    'the rules and demand 3': 'rules funding_tx lists comparison records contribution negotiation',
+    'case files and their lines': 'case_file verdict_line',
+    'out points and the tables of cells': 'out_points hold_records picks held_cells exclusions table_bytes held_bytes exclusion_bytes',
+    'our own side': 'funding_cell udt_cells cell_output cell_deps list_writer base_inputs base_lists base_writer funding_builder',
+    'the C interface': 'words transaction_lists capi',
+}
+
+
+def lines(crate):
+    count = 0
+    for path in glob.glob('crates/%s/specs/*.antt' % crate):
+        for line in open(path):
+            text = line.strip()
+            if text and not text.startswith('--') and not text.startswith('use ') and not text.startswith('pub mod'):
+                count += 1
+    return count
+
+
+def main():
+    for part, crates in PARTS.items():
+        print('%4d  %s' % (sum(map(lines, crates.split())), part))
+
+
+main()
