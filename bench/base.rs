@@ -2,7 +2,7 @@
 mod library;
 mod stack;
 
-use library::build_base;
+use library::Base;
 use stack::stack_use;
 use std::hint::black_box;
 use std::time::Instant;
@@ -18,6 +18,24 @@ fn script() -> Vec<u8> {
     s.extend([0; 33]);
     s.extend([0; 4]);
     s
+}
+
+// A base from no present transaction, untyped, with these extra deps.
+fn build(script: &[u8], deps: &[u8], out: &mut [u8]) -> u32 {
+    let none: &[u8] = &[];
+    let base = Base {
+        ours: none,
+        lock: script,
+        udt: none,
+        source: script,
+        cells: &4u32.to_le_bytes(),
+        udt_deps: none,
+        lock_dep: none,
+        extra_deps: deps,
+        local: 5,
+        reserved: 7,
+    };
+    library::build_base(&base, out)
 }
 
 // `distinct` deps in an order, then repeats of them up to `count`.
@@ -47,12 +65,12 @@ fn main() {
             let mut answer = 0;
             for _ in 0..5 {
                 let start = Instant::now();
-                answer = black_box(build_base(&script, &list, &mut out));
+                answer = black_box(build(&script, &list, &mut out));
                 best = best.min(start.elapsed().as_secs_f64());
             }
             println!("{order:<8} {count:>10} {distinct:>9} {answer:>7} {:>8.2}", best * 1e3);
         }
     }
     let list = deps("mixed", MOST - 10, MOST - 10);
-    println!("stack: {} bytes", stack_use(|| assert_eq!(build_base(&script, &list, &mut out), 0)));
+    println!("stack: {} bytes", stack_use(|| assert_eq!(build(&script, &list, &mut out), 0)));
 }

@@ -47,14 +47,28 @@ pub fn update_for_peer(
     }
 }
 
-// A base from no present transaction, untyped, with these extra deps.
-pub fn build_base(script: &[u8], deps: &[u8], out: &mut [u8]) -> u32 {
-    let (none, cells, mut values): (&[u8], _, _) = (&[], 4u32.to_le_bytes(), [0u64; 4]);
-    let (p, n) = (none.as_ptr(), none.len());
+// What a base transaction is built from, in bytes; unfunded figures of the remote side are 0.
+pub struct Base<'a> {
+    pub ours: &'a [u8],
+    pub lock: &'a [u8],
+    pub udt: &'a [u8],
+    pub source: &'a [u8],
+    pub cells: &'a [u8],
+    pub udt_deps: &'a [u8],
+    pub lock_dep: &'a [u8],
+    pub extra_deps: &'a [u8],
+    pub local: u64,
+    pub reserved: u64,
+}
+
+pub fn build_base(base: &Base, out: &mut [u8]) -> u32 {
+    let Base { ours, lock, udt, source, cells, udt_deps, lock_dep, extra_deps, local, reserved } = *base;
+    let mut values = [0u64; 4];
     unsafe {
         basinpantry_build_base(
-            p, n, script.as_ptr(), script.len(), p, n, script.as_ptr(), script.len(), cells.as_ptr(), cells.len(), p, n, p, n, deps.as_ptr(), deps.len(), 5, 0, 7, 0, 0, 0,
-            out.as_mut_ptr(), out.len(), values.as_mut_ptr(), values.len(),
+            ours.as_ptr(), ours.len(), lock.as_ptr(), lock.len(), udt.as_ptr(), udt.len(), source.as_ptr(), source.len(), cells.as_ptr(), cells.len(), udt_deps.as_ptr(),
+            udt_deps.len(), lock_dep.as_ptr(), lock_dep.len(), extra_deps.as_ptr(), extra_deps.len(), local, 0, reserved, 0, 0, 0, out.as_mut_ptr(), out.len(),
+            values.as_mut_ptr(), values.len(),
         )
     }
 }

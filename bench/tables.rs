@@ -1,11 +1,14 @@
-//! Times the calls on full tables here and in the original, in turns: see bench/tables.
+//! Times the calls on full tables, and base transactions, here and in the original, in turns: see bench/tables.
 mod library;
 mod stack;
 
-use library::{EXCLUSIONS_BYTES, HELD_BYTES};
+use library::{Base, EXCLUSIONS_BYTES, HELD_BYTES};
 use oracle::original::exclusions::Map;
+use oracle::original::request::{Answer, Request};
 use oracle::original::{holds, Point};
-use oracle::standins::packed::OutPoint;
+use oracle::selftest::{data, output, script, tx};
+use oracle::standins::molecule::write_table;
+use oracle::standins::packed::{CellDep, OutPoint, Transaction};
 use stack::stack_use;
 use std::collections::HashSet;
 use std::hint::black_box;
@@ -61,6 +64,60 @@ fn filled(cells: &[u8]) -> Vec<u8> {
     let mut held = vec![0; HELD_BYTES];
     assert_eq!(library::hold_funding(&mut held, 1, cells), 0);
     held
+}
+
+/// Base transactions: a small one, one that picks token cells behind present inputs, and one with many cell deps.
+fn bases() {
+    let (lock, source, udt) = (script(0, 20), script(1, 20), script(2, 32));
+    let amount = |n: u128| data(&n.to_le_bytes());
+    let outputs = [output(100_0000_0000, &lock, Some(&udt)), output(61_0000_0000, &source, None)];
+    let funded = tx(2, &outputs, &[amount(5), data(b"")], 2, &[]);
+    let dep = |n: u32| [&[7; 32][..], &n.to_le_bytes(), &[0]].concat();
+    let deps = |n: u32| [&n.to_le_bytes()[..], &(0..n).flat_map(dep).collect::<Vec<u8>>()].concat();
+    let parsed_deps = |n: u32| (0..n).map(|i| CellDep::read(&dep(i)).unwrap()).collect::<Vec<_>>();
+    for (name, ours, typed, cells, extra) in [
+        ("base: from none, untyped, 2 deps", &[][..], false, 0, 2),
+        ("base: funded, typed, 64 token cells", &funded[..], true, 64, 2),
+        ("base: from none, untyped, 3,000 deps", &[], false, 0, 3000),
+    ] {
+        let picks: Vec<(OutPoint, Vec<u8>)> = parsed(&points(0..cells)).into_iter().map(|p| (p, 10u128.to_le_bytes().to_vec())).collect();
+        let cell = |(point, data): &(OutPoint, Vec<u8>)| write_table(&[point.as_slice(), &[&16u32.to_le_bytes()[..], data].concat()]);
+        let cell_list = write_table(&picks.iter().map(cell).collect::<Vec<_>>());
+        let (extra_list, token_deps, lock_dep) = (deps(extra), deps(1), dep(9));
+        let base = Base {
+            ours,
+            lock: lock.as_slice(),
+            udt: if typed { udt.as_slice() } else { &[] },
+            source: source.as_slice(),
+            cells: &cell_list,
+            udt_deps: &token_deps,
+            lock_dep: &lock_dep,
+            extra_deps: &extra_list,
+            local: 10 * u64::from(cells) + 5 * u64::from(cells == 0) - u64::from(cells > 0),
+            reserved: 7,
+        };
+        let request = Request {
+            ours: Transaction::read(ours),
+            lock: lock.clone(),
+            udt: typed.then(|| udt.clone()),
+            source: source.clone(),
+            local: base.local.into(),
+            local_reserved: base.reserved,
+            cells: picks,
+            at_once: 64,
+            udt_deps: Some(parsed_deps(1)),
+            lock_dep: CellDep::read(&lock_dep),
+            extra_deps: parsed_deps(extra),
+            ..Default::default()
+        };
+        by_turns(
+            name,
+            || vec![0u8; 133_116],
+            |out| assert_eq!(library::build_base(&base, out), 0),
+            || (),
+            |_| assert!(matches!(black_box(request.base_in_any_order()), Answer::Done(_))),
+        );
+    }
 }
 
 fn main() {
@@ -144,6 +201,7 @@ fn main() {
             black_box(original.apply());
         },
     );
+    bases();
     let picks = list(&points(1000..1064));
     let (mut held, mut taken, mut refused) = (filled(&fewer_list), room(), room());
     let of_take = stack_use(|| assert_eq!(library::take(&mut held, &picks, &none, 2, 5, &mut taken, &mut refused), 0));

@@ -80,11 +80,18 @@ impl Request {
     }
     /// The base transaction with its cell deps sorted, since the original keeps them in a hash set.
     pub fn base(&self) -> Answer<Transaction> {
+        match self.base_in_any_order() {
+            Answer::Done(t) => Answer::Done(sorted_deps(&t)),
+            other => other,
+        }
+    }
+    /// The base transaction as the original leaves it.
+    pub fn base_in_any_order(&self) -> Answer<Transaction> {
         DESK.with_borrow_mut(|d| d.udt_deps = self.udt_deps.clone());
         let (b, mut lent) = (self.builder(), self.lent());
         let resolver = probe::resolver(self.lock_dep.clone(), self.external.then(|| (self.source.clone(), &self.extra_deps[..])));
         match catch_unwind(AssertUnwindSafe(|| probe::base(&b, &mut lent, &*resolver))) {
-            Ok(Ok(t)) => Answer::Done(sorted_deps(&t.data())),
+            Ok(Ok(t)) => Answer::Done(t.data()),
             Ok(Err(e)) => Answer::Refused(Refusal::from(&e)),
             Err(_) => Answer::Panics,
         }
