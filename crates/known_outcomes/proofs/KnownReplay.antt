@@ -8,7 +8,7 @@ use Rattle.negotiation.specs.Updates.{bytesOf, rateOf, callsOf, transactionAt}
 use Rattle.words.specs.Words.{numberOf, valuesOf, surplusWords}
 use Rattle.negotiation.specs.Words.{allWords}
 use Rattle.negotiation.specs.Replay.{acceptedOf, indexAfter, replayOf, leaves}
-use Rattle.known_outcomes.specs.Cases.{expectedLock, tokenType}
+use Rattle.known_cases.specs.Cases.{expectedLock, tokenType}
 use Rattle.known_outcomes.specs.Runs.{worked, growing}
 use Rattle.known_outcomes.specs.Replays.{lent}
 use Rattle.known_outcomes.proofs.Computing.{computing}
