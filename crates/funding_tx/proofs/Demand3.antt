@@ -31,7 +31,7 @@ module _ (lock udt : List ℕ) where
   unfolding judge given _>>=_
   one ours c h = rw h
 
-  all-one : (calls : List Call) (start : List ℕ) → readOurs start ≡ none
+  pub all-one : (calls : List Call) (start : List ℕ) → readOurs start ≡ none
       → (verdicts (updateForPeer lock udt) start calls ≡ map (λ (_ : Call). refused 1 []) calls) × (inForce (updateForPeer lock udt) start calls ≡ start)
   all-one [] start h = (refl, refl)
   all-one (c ∷ cs) start h =

@@ -1,13 +1,13 @@
 -- Demand 3 (crates/funding_tx/proofs/Demand3.antt quotes it) of the words that `replay` leaves.
-use mathlib.Core.Path.{_≡_, refl, sym, ap, ap₂, _∙_}
+use mathlib.Core.Path.{_≡_, refl, sym, ap, _∙_}
 use Prim.Native.Nat.{ℕ, _+_, _-_, _*_, _/_, _<_}
 use native.Mathlib.Omega.{arith}
-use mathlib.Core.List.{List, [], _∷_, _++_, map}
+use mathlib.Core.List.{List, [], _∷_, _++_}
 use mathlib.Core.Option.{some}
 use borrow.Author.Tests.{ne-eqb}
 use lib.Dec.{T, leb}
-use lib.ListN.{length, drop}
-use lib.Seq.{drop-at}
+use lib.ListN.{length, take, drop}
+use lib.Seq.{take-at, drop-at}
 use Rattle.molecule.specs.Molecule.{readable}
 use Rattle.molecule.specs.Layout.{itemCount}
 use Rattle.molecule.proofs.Offsets.{span-length}
@@ -20,6 +20,7 @@ use Rattle.rules.specs.Run.{Entry, Exact, updateForPeer, handedBack, carried, s
 use Rattle.rules.proofs.Tests.{never, fine-inj, check-fine}
 use Rattle.rules.proofs.Accept as accept
 use Rattle.rules.proofs.Law.{exact, kept-inputs, kept-records, stay-readable}
+use Rattle.funding_tx.proofs.Demand3.{all-one}
 use Rattle.error.specs.declared.Refusal.{Refusal}
 use Rattle.negotiation.specs.declared.Replayed.{Replayed}
 use Rattle.negotiation.specs.Updates.{Updates, callsOf, callAt, transactionAt}
@@ -42,28 +43,18 @@ refused-back : (n : ℕ) (l ws : List ℕ) → 0 < n → answerIn (words (refuse
 unfolding numberOf valuesOf
 refused-back n l ws h = rw (ne-eqb n 0 (λ e. omega arith))
 
--- two answers with one number, and the same surpluses where they are acceptances
-record Alike (v w : Outcome Figures) : Type 0 where
-  number : numberOf v ≡ numberOf w
-  carries : (pick : Figures → ℕ) (vs ws : List (Outcome Figures)) → carried pick vs ≡ carried pick ws → carried pick (v ∷ vs) ≡ carried pick (w ∷ ws)
-
-alike : (v : Outcome Figures) (ws : List ℕ) → Numbered v → Alike (answerIn (words v ++ ws)) v
-unfolding numberOf
-alike (fine f) ws h = rw (accepted-back f ws) (record { number = refl; carries = λ pick us vs e. ap (λ (l : List ℕ). pick f ∷ l) e })
-alike (refused n l) ws h = rw (refused-back n l ws (h .positive n l refl)) (record { number = refl; carries = λ pick us vs e. e })
-
-back-numbers : (vs : List (Outcome Figures)) (out : List ℕ) → All Numbered vs → map numberOf (answersIn (length vs) (allWords vs ++ out)) ≡ map numberOf vs
-unfolding answersIn allWords
-back-numbers [] out h = refl
-back-numbers (v ∷ vs) out (h, hs) =
-    ap₂ (λ (n : ℕ) (l : List ℕ). n ∷ l) (alike v (allWords vs ++ out) h .number) (back-numbers vs out hs)
+-- what is read back carries what the answer carries
+alike : (pick : Figures → ℕ) (v : Outcome Figures) (ws : List ℕ) (us vs : List (Outcome Figures)) → Numbered v → carried pick us ≡ carried pick vs
+    → carried pick (answerIn (words v ++ ws) ∷ us) ≡ carried pick (v ∷ vs)
+alike pick (fine f) ws us vs h e = rw (accepted-back f ws) (ap (λ (l : List ℕ). pick f ∷ l) e)
+alike pick (refused n l) ws us vs h e = rw (refused-back n l ws (h .positive n l refl)) e
 
 back-carried : (pick : Figures → ℕ) (vs : List (Outcome Figures)) (out : List ℕ) → All Numbered vs
     → carried pick (answersIn (length vs) (allWords vs ++ out)) ≡ carried pick vs
 unfolding answersIn allWords
 back-carried pick [] out h = refl
 back-carried pick (v ∷ vs) out (h, hs) =
-    alike v (allWords vs ++ out) h .carries pick (answersIn (length vs) (allWords vs ++ out)) vs (back-carried pick vs out hs)
+    alike pick v (allWords vs ++ out) (answersIn (length vs) (allWords vs ++ out)) vs h (back-carried pick vs out hs)
 
 -- ---- the theorem
 
@@ -104,10 +95,11 @@ module _ (lock udt start updates before : List ℕ) (n accepted at : ℕ) (after
       let h : All Numbered vs = rw ev at (verdicts-numbered lock udt calls start) in
       let l : length (allWords vs) ≡ 5 * n = all-length vs ∙ ap (λ (j : ℕ). 5 * j) (sym c) in
       let back : (pick : Figures → ℕ) → carried pick (answersIn n after) ≡ carried pick vs = λ pick. rw (c, ea) (back-carried pick vs _ h) in
+      let w : take (5 * n) after ≡ allWords (verdicts E start calls) = rw (ea, ev) (take-at (allWords vs) _ (5 * n) l) in
       record {
         isList = t;
         count = c ∙ ap (length {A = Outcome Figures}) (sym ev) ∙ length-verdicts E start calls ∙ span-length (callAt updates) 0 (itemCount updates);
-        numbers = rw (c, ea, ev) (back-numbers vs _ h);
+        words = w;
         atEnd = eb;
         acceptances = k ∙ ap sum (sym (back (λ f. 1)));
         capacity = as-carried E (λ f. f .capacity) (back (λ f. f .capacity) ∙ ap (carried (λ (f : Figures). f .capacity)) (sym ev)) eb
@@ -118,6 +110,7 @@ module _ (lock udt start updates before : List ℕ) (n accepted at : ℕ) (after
         records = kept-records E capacities (λ f. f .capacity) (λ ours c f e. accept.accepted lock udt ours c f e .capacity) calls start;
         readable = λ h. rw eb
             (at-last E (λ b. readOurs b ≡ some (txOf b)) calls start h (stay-readable E (λ ours c f e. accept.accepted lock udt ours c f e .peerReadable) calls start h));
+        unreadable = λ h. (let (ones, same) = all-one lock udt calls start h in (w ∙ ap allWords ones, eb ∙ same));
         beyond = rw (ea, l) (drop-at (allWords vs) (drop (5 * n) before) (5 * n) l);
       }
 

@@ -3,9 +3,9 @@ use mathlib.Core.Path.{_≡_}
 use Prim.Native.Nat.{ℕ, zero, suc, _+_, _*_, _^_}
 use mathlib.Core.Bool.{cond}
 use mathlib.Core.List.{List, [], _∷_, _++_, map}
-use mathlib.Core.Option.{some}
+use mathlib.Core.Option.{none, some}
 use lib.Dec.{T, eqb}
-use lib.ListN.{length, drop, getD}
+use lib.ListN.{length, take, drop, getD}
 use Rattle.molecule.specs.Molecule as molecule
 use Rattle.molecule.specs.Layout.{itemCount}
 use Rattle.rules.specs.Outcome.{Outcome, fine, refused}
@@ -15,7 +15,8 @@ use Rattle.rules.specs.Judge.{Figures, txOf}
 use Rattle.rules.specs.Run.{Exact, updateForPeer, handedBack, verdicts, inForce, kept, keptRecords, inputsOf, recordsOf}
 use Rattle.negotiation.specs.declared.Replayed.{Replayed}
 use Rattle.negotiation.specs.Updates.{Updates, callsOf, transactionAt}
-use Rattle.words.specs.Words.{numberOf, fourOf}
+use Rattle.words.specs.Words.{fourOf}
+use Rattle.negotiation.specs.Words.{allWords}
 use Rattle.negotiation.specs.Replay.{acceptedOf, replayOf, leaves, answered, named}
 
 -- the answer that five words tell: where the first is 0 an acceptance, with its two surpluses in halves
@@ -42,8 +43,8 @@ module _ (lock udt start updates before : List ℕ) where
     -- what was lent is a list of n updates
     pub isList : T (molecule.readable Updates updates)
     pub count : n ≡ itemCount updates
-    -- the numbers in the words are those of the rules, from the start and the list alone, and the index names the transaction that is then in force
-    pub numbers : map numberOf (answersIn n after) ≡ map numberOf (verdicts (updateForPeer lock udt) start (callsOf updates))
+    -- the words are those of the rules' verdicts, from the start and the list alone, and the index names the transaction that is then in force
+    pub words : take (5 * n) after ≡ allWords (verdicts (updateForPeer lock udt) start (callsOf updates))
     pub atEnd : transactionAt start updates at ≡ inForce (updateForPeer lock udt) start (callsOf updates)
     -- so many of the answers in the words are acceptances
     pub acceptances : accepted ≡ acceptedOf (answersIn n after)
@@ -56,5 +57,7 @@ module _ (lock udt start updates before : List ℕ) where
     pub records : recordsOf (kept (updateForPeer lock udt) start (callsOf updates)) ≡ keptRecords (updateForPeer lock udt) start (callsOf updates)
     -- from a readable transaction, or none, it is readable, or none
     pub readable : readOurs start ≡ some (txOf start) → readOurs (transactionAt start updates at) ≡ some (txOf (transactionAt start updates at))
+    -- from an unreadable one every answer is 1, and it stays in force
+    pub unreadable : readOurs start ≡ none → (take (5 * n) after ≡ allWords (map (λ _. refused 1 []) (callsOf updates))) × (transactionAt start updates at ≡ start)
     -- the words beyond those of the n answers keep their value
     pub beyond : drop (5 * n) after ≡ drop (5 * n) before
