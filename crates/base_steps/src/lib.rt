@@ -1,9 +1,12 @@
-// `build_base` with the contract that what is proved of its definition (crates/base_theorems) holds of the bytes that it leaves in the lent buffer.
+// `build_base` with, beside its own contract, that what is proved of its definition (crates/base_theorems) holds of the bytes that it leaves in the lent
+// buffer.
 use funding_cell::FundingRequest;
 use transaction_writer::Written;
 ghost use mathlib.Core.Path.{_≡_};
 ghost use Prim.Native.Nat.{ℕ};
 ghost use lib.ListN.{take};
+ghost use Rattle.base_writer.specs.Answer.{written, told};
+ghost use Rattle.funding_builder.specs.Base.{buildBase};
 ghost use Rattle.base_theorems.proofs.Claims.{Based};
 ghost use Rattle.transaction_writer.specs.declared.{Written.Written};
 
@@ -19,6 +22,7 @@ pub fn build_base<'a>(
     request: FundingRequest,
     out: &mut [u8],
 ) -> Written
+    ensures { λ r. ⌜ (told r, now (out .exit)) ≡ written (buildBase (record { ours = now (ours .entry); lock = now (lock .entry); udt = now (udt .entry); source = now (source .entry); cells = now (cells .entry); udtDeps = now («udt_deps» .entry); lockDep = now («lock_dep» .entry); extraDeps = now («extra_deps» .entry) }) request) (now (out .entry)) ⌝ }
     ensures { λ r. ⌜ ((n : ℕ) → r ≡ Written.Wrote n → Based (record { ours = now (ours .entry); lock = now (lock .entry); udt = now (udt .entry); source = now (source .entry); cells = now (cells .entry); udtDeps = now («udt_deps» .entry); lockDep = now («lock_dep» .entry); extraDeps = now («extra_deps» .entry) }) request (take n (now (out .exit)))) ⌝ }
 {
     transaction_writer::are_bytes(ours);
