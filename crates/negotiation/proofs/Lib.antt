@@ -1,5 +1,6 @@
 pub mod Demand3
 pub mod Numbers
+pub mod ReadExactly
 pub mod ReplayLaws
 pub mod RunLaws
 pub mod TableLaws

@@ -14,11 +14,15 @@ use Rattle.molecule.specs.Layout.{part, fieldOf, itemCount, itemOf, fixCount, f
 use Rattle.transaction.specs.Ckb.{Byte32, Bytes, OutPoint, OutPoints, CellDep, CellDeps, CellInput, Script, CellOutput, RawTransaction, Transaction, TokenCell, TokenCells, Record, Records}
 use Rattle.transaction.specs.Tx.{Tx, rawField, witnessesOf, txAt, argsOf, capacityOf, lockOf, typeOf, previousOutputOf, firstOf, dataOf}
 
--- the types that the code tests
-abbrev pub tested : List Ty
-tested =
-    Script ∷ option Script ∷ CellOutput ∷ dynvec CellOutput ∷ CellDeps ∷ fixvec Byte32 ∷ fixvec CellInput ∷ OutPoints ∷ RawTransaction
+-- of the types that the code tests, those whose strings say their own length or are empty
+abbrev pub dynamicTypes : List Ty
+dynamicTypes =
+    Script ∷ option Script ∷ CellOutput ∷ dynvec CellOutput ∷ CellDeps ∷ option CellDeps ∷ fixvec Byte32 ∷ fixvec CellInput ∷ OutPoints ∷ RawTransaction
     ∷ Transaction ∷ option Transaction ∷ TokenCell ∷ TokenCells ∷ Record ∷ option Record ∷ Records ∷ dynvec Bytes ∷ Bytes ∷ []
+
+-- and a cell dep or nothing; for a list of updates it is crates/negotiation/proofs/ReadExactly.antt
+abbrev pub tested : List Ty
+tested = option CellDep ∷ dynamicTypes
 
 -- r is what the test answers of s, as its contract says: yes exactly if s has fewer than 2^32 bytes and is the encoding of a value
 abbrev pub ReadExactly : Ty → Type 0
