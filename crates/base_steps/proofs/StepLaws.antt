@@ -9,8 +9,8 @@ use Rattle.transaction_writer.specs.declared.Written.{Written}
 use Rattle.funding_cell.specs.declared.FundingRequest.{FundingRequest}
 use Rattle.base_writer.specs.Answer.{written, told}
 use Rattle.funding_builder.specs.Base.{Lent, buildBase}
-use Rattle.base_theorems.proofs.Claims.{ReadsBack, Encodes, Funds, Keeps, Passes, Tidy, Based}
-use Rattle.base_theorems.proofs.Base.{is-readable, encoded, first-output, kept, compared, tidied, of-calls}
+use Rattle.base_theorems.proofs.Claims.{ReadsBack, Encodes, Funds, Keeps, Passes, Tidy, Balanced, Based}
+use Rattle.base_theorems.proofs.Base.{is-readable, encoded, first-output, kept, compared, tidied, in-balance, of-calls}
 
 module _ (l : Lent) (request : FundingRequest) (out after : List ℕ) where
   wrote : (n : ℕ) → AllBytes (l .ours) → AllBytes after → (told (Written.Wrote n), after) ≡ written (buildBase l request) out → Based l request (take n after)
@@ -21,6 +21,7 @@ module _ (l : Lent) (request : FundingRequest) (out after : List ℕ) where
     keeps = of-calls Keeps kept l request out after n b e;
     passes = of-calls Passes compared l request out after n b e;
     tidy = of-calls Tidy tidied l request out after n b e;
+    balanced = of-calls Balanced in-balance l request out after n b e;
   }
 
   pub base-step : {r : Written} → AllBytes (l .ours) → AllBytes after → (told r, after) ≡ written (buildBase l request) out

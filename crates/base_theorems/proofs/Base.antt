@@ -13,7 +13,7 @@ use Rattle.arithmetic.proofs.LittleEndianLaws.{length-toLe}
 use Rattle.arithmetic.specs.Amount.{value}
 use Rattle.molecule.specs.Partial.{All}
 use Rattle.molecule.specs.Items.{join}
-use Rattle.molecule.specs.Layout.{span, itemsOf, itemCount, fixItems, content, entryOf}
+use Rattle.molecule.specs.Layout.{span, itemOf, itemsOf, itemCount, fixItems, content, entryOf}
 use Rattle.molecule.specs.Molecule.{size, decode, readable, option}
 use Rattle.molecule.proofs.Valid.{fixed, hasBytes, valid}
 use Rattle.molecule.proofs.PartialLaws.{there-some}
@@ -28,7 +28,7 @@ use Rattle.transaction.proofs.ListLaws.{option-none}
 use Rattle.transaction_writer.specs.declared.Written.{Written}
 use Rattle.transaction_writer.specs.Written.{fits}
 use Rattle.transaction_writer.proofs.PutLaws.{tx-length}
-use Rattle.rules.specs.Cells.{pair, cells}
+use Rattle.rules.specs.Cells.{Cell, pair, cells}
 use Rattle.rules.specs.Outcome.{Outcome, fine, refused, check, checkWith, _>>_}
 use Rattle.rules.specs.Surplus.{isEmpty}
 use Rattle.rules.specs.Judge.{Figures, scripts}
@@ -39,8 +39,6 @@ use Rattle.funding_cell.specs.declared.FundingRequest.{FundingRequest}
 use Rattle.funding_cell.specs.FundingCell.{fundingCell, cellOfSums, cellOf}
 use Rattle.cell_output.specs.CellOutput.{cellOutput}
 use Rattle.udt_cells.proofs.OutputReads.{output-readable, output-lock, output-type, output-capacity}
-use Rattle.udt_cells.specs.Change.{capacityFor}
-use Rattle.cell_output.proofs.CellOutputLaws.{output-length}
 use Rattle.udt_cells.specs.Pick.{Pick, pickTyped}
 use Rattle.list_writer.specs.ListWriter.{fixList, bytesItem, itemOr, later, ifAny, ifPositive}
 use Rattle.base_inputs.specs.BaseInputs.{picked, inputList}
@@ -51,10 +49,11 @@ use Rattle.base_writer.specs.Answer.{inRoom, leaves, written, told}
 use Rattle.transaction_theorems.proofs.FieldsDecoded.{transaction-fields}
 use Rattle.funding_builder.specs.Base.{Lent, Packed, packed, baseTx, changeCapacity, supplied, lists, withPick, withCell, withRequest, buildBase}
 use Rattle.funding_builder.proofs.PresentLaws.{deps-readable, option-of}
-use Rattle.base_theorems.proofs.Claims.{Figured, ReadsBack, fieldsOf, Encodes, Funds, Keeps, Distinct, Passes, Readable, Encoded, FirstOutput, Kept, Compared, Tidy, Tidied, OfCalls}
+use Rattle.base_theorems.proofs.Claims.{Figured, ReadsBack, fieldsOf, Encodes, Funds, Keeps, Distinct, Passes, Readable, Encoded, FirstOutput, Kept, Compared, Tidy, Tidied, Changes, Balanced, InBalance, OfCalls}
 use Rattle.base_theorems.proofs.PackedLaws.{Formed, ReadsAs, reads-as, item-readable, item-content}
 use Rattle.base_theorems.proofs.CompareLaws.{prefix-append, deps-begin, all-distinct, entries-begin, map-append, has-lock, has-type, has-data, passes}
-use Rattle.base_theorems.proofs.FormLaws.{of-T, Present, present, version-low, every-append, later-is, later-outputs, later-data, all-right, last-every, witnesses-readable, picked-long}
+use Rattle.base_theorems.proofs.FormLaws.{of-T, Present, present, version-low, every-append, later-is, later-outputs, later-data, all-right, last-every, witnesses-readable, typed-within, picked-long}
+use Rattle.base_theorems.proofs.ChangeLaws.{spends, typed-amounts, change-count, change-cells, map-length, behind}
 
 -- ---- what a call that is not refused has found
 
@@ -138,41 +137,9 @@ first-content : (typed : Bool) (n : ℕ) → content (cond typed (amountItem n) 
 first-content true n = item-content (toLe 16 n)
 first-content false n = item-content []
 
--- there is a change output exactly if there is change
-positive-is : (n : ℕ) (x : List ℕ) → 0 < n → ifPositive n x ≡ x
-unfolding ifPositive
-positive-is zero x h = let z : ⊥ = omega arith in absurd z
-positive-is (suc n) x h = refl
-
-any-one : (x : List ℕ) → 0 < length x → length (ifAny x) ≡ 1
-unfolding ifAny
-any-one [] h = let z : ⊥ = omega arith in absurd z
-any-one (b ∷ x) h = refl
-
-some-count : (n : ℕ) (x : List ℕ) → 0 < n → 0 < length x → length (ifAny (ifPositive n x)) ≡ 1
-some-count n x h k = ap (λ (y : List ℕ). length (ifAny y)) (positive-is n x h) ∙ any-one x k
-
-output-some : (c : ℕ) (lock udt : List ℕ) → 0 < length (cellOutput c lock udt)
-output-some c lock udt = omega (arith, output-length c lock udt)
-
-amount-some : (n : ℕ) → 0 < length (amountItem n)
-unfolding bytesItem
-amount-some n = omega (arith, length-append (toLe 4 (length (toLe 16 n))) (toLe 16 n), length-toLe 16 n)
-
-capacity-some : (source udt : List ℕ) → 0 < capacityFor source udt
-capacity-some source udt = omega arith
-
-change-count : (source udt : List ℕ) (c : ℕ)
-    → length (ifAny (ifPositive (changeCapacity c source udt) (cellOutput (changeCapacity c source udt) source udt))) ≡ length (ifAny (ifPositive c (amountItem c)))
-unfolding changeCapacity
-change-count source udt zero = unfold ifPositive in unfold ifAny in refl
-change-count source udt (suc n) =
-    some-count (capacityFor source udt) (cellOutput (capacityFor source udt) source udt) (capacity-some source udt) (output-some (capacityFor source udt) source udt)
-    ∙ sym (some-count (suc n) (amountItem (suc n)) (omega arith) (amount-some (suc n)))
-
-map-length : (xs : List (List ℕ)) → length (map content xs) ≡ length xs
-map-length [] = refl
-map-length (x ∷ xs) = ap suc (map-length xs)
+later-length : (s : List ℕ) (k : ℕ) → length (later s k) ≡ k
+unfolding later
+later-length s k = span-length (itemOr s) 1 k
 
 module _ (l : Lent) (request : FundingRequest) (bytes : List ℕ) (b : AllBytes (l .ours)) (e : buildBase l request ≡ fine bytes) (short : length bytes ≤ 133116) where
   abbrev m : Made l request bytes
@@ -337,6 +304,10 @@ module _ (l : Lent) (request : FundingRequest) (bytes : List ℕ) (b : AllBytes 
 
   -- ---- what stands at its place
 
+  all-inputs : txAt bytes .inputs ≡ txAt (l .ours) .inputs ++ span (picked (l .cells)) 0 (m .pick .taken)
+  unfolding baseTx inputList
+  all-inputs = reads .inputs
+
   keeps : Keeps l request bytes
   keeps = record {
     version = unfold baseTx in reads .fields .version;
@@ -345,9 +316,6 @@ module _ (l : Lent) (request : FundingRequest) (bytes : List ℕ) (b : AllBytes 
     outputs = subst (λ (xs : List (List ℕ)). Prefix (drop 1 (txAt (l .ours) .outputs)) xs) (sym later-outputs-are) (prefix-append (drop 1 (txAt (l .ours) .outputs)) changes);
   }
     where
-      all-inputs : txAt bytes .inputs ≡ txAt (l .ours) .inputs ++ span (picked (l .cells)) 0 (m .pick .taken)
-      all-inputs = unfold baseTx in unfold inputList in reads .inputs
-
       later-outputs-are : drop 1 (txAt bytes .outputs) ≡ drop 1 (txAt (l .ours) .outputs) ++ changes
       later-outputs-are = ap (drop 1) all-outputs ∙ ap (λ (xs : List (List ℕ)). xs ++ changes) (later-is (rawField (l .ours) 4) after refl)
 
@@ -375,10 +343,9 @@ module _ (l : Lent) (request : FundingRequest) (bytes : List ℕ) (b : AllBytes 
   entries = rawField (l .ours) 5
 
   later-count : length (map content (later entries after ++ changed)) ≡ after + length changed
-  unfolding later
   later-count =
       ap length (map-append (later entries after) changed) ∙ length-append (map content (later entries after)) (map content changed)
-      ∙ ap₂ _+_ (map-length (later entries after) ∙ span-length (itemOr entries) 1 after) (map-length changed)
+      ∙ ap₂ _+_ (map-length (later entries after) ∙ later-length entries after) (map-length changed)
 
   data-count : length (before .outputsData) ≤ length (before .outputs) → length (before .outputsData) ≤ length (txAt bytes .outputsData)
   data-count h =
@@ -414,11 +381,33 @@ module _ (l : Lent) (request : FundingRequest) (bytes : List ℕ) (b : AllBytes 
   tidy =
       let n : length (txAt bytes .outputs) ≡ suc (length (later (rawField (l .ours) 4) after ++ changes)) = ap length all-outputs in
       let k : length (txAt bytes .outputsData) ≡ suc (length (map content (later entries after ++ changed))) = ap length all-data in
-      let o : length (later (rawField (l .ours) 4) after) ≡ after = unfold later in span-length (itemOr (rawField (l .ours) 4)) 1 after in
+      let o : length (later (rawField (l .ours) 4) after) ≡ after = later-length (rawField (l .ours) 4) after in
       record {
         cellDeps = subst (λ (xs : List (List ℕ)). Distinct xs) (sym all-deps) (all-distinct [] (allDeps (rawField (l .ours) 1) (ifPositive (m .pick .taken) (l .udtDeps)) (ifPositive (m .pick .taken) (l .lockDep)) (l .extraDeps)) tt);
         outputsData = omega (arith, later-count, length-append (later (rawField (l .ours) 4) after) changes, change-count (l .source) (l .udt) (m .pick .change));
       }
+
+  -- ---- the picked cells and the change
+
+  balanced : Balanced l request bytes
+  balanced = record {
+    pick = m .pick;
+    isPick = m .figured .isPick;
+    inputs = all-inputs ∙ ap (λ (xs : List (List ℕ)). before .inputs ++ xs) (spends (l .cells) 0 (m .pick .taken) (itemCount (l .cells)) few);
+    amounts = typed-amounts (l .udt) (value (request .«local_amount»)) (itemsOf (l .cells)) (m .pick) (m .figured .isPick);
+    change = subst (λ (cs : List Cell). Changes l (m .pick .change) cs) (sym last)
+        (change-cells l (m .pick .change) (all-right (λ (x : List ℕ). length x < 2 ^ 32) (later (rawField (l .ours) 4) after) changes (outputs-all .1)));
+  }
+    where
+      few : m .pick .taken ≤ itemCount (l .cells)
+      few =
+          let n : length (itemsOf (l .cells)) ≡ itemCount (l .cells) = span-length (itemOf (l .cells)) 0 (itemCount (l .cells)) in
+          omega (arith, typed-within (l .udt) (value (request .«local_amount»)) (itemsOf (l .cells)) (m .pick) (m .figured .isPick))
+
+      last : drop (suc after) (cells (txAt bytes)) ≡ pair changes (map content changed)
+      last =
+          ap (drop (suc after)) cells-are
+          ∙ behind after (later (rawField (l .ours) 4) after) (later entries after) changes changed (later-length (rawField (l .ours) 4) after) (later-length entries after)
 
 -- "the result is readable"
 pub is-readable : Readable
@@ -443,6 +432,10 @@ compared l request bytes b e short = compares l request bytes b e short
 -- "first occurrence only"; "each output's data, empty if missing"
 pub tidied : Tidied
 tidied l request bytes b e short = tidy l request bytes b e short
+
+-- "cells in list order until the total reaches it"; "A remainder makes one change output .."
+pub in-balance : InBalance
+in-balance l request bytes b e short = balanced l request bytes b e short
 
 -- ---- what `build_base` leaves in the lent buffer
 

@@ -1,9 +1,9 @@
 -- What is proved of the base transaction (01-scope.md, "Our own side"): of the bytes of `buildBase`, where they fit a transaction, and so (`of-calls`)
 -- of what `build_base` writes. The proofs are proofs/Base.antt.
 use mathlib.Core.Path.{_≡_}
-use Prim.Native.Nat.{ℕ, _≤_}
+use Prim.Native.Nat.{ℕ, zero, suc, _+_, _-_, _≤_}
 use mathlib.Core.Bool.{true, false, not, cond}
-use mathlib.Core.List.{List, [], _∷_, map}
+use mathlib.Core.List.{List, [], _∷_, _++_, map}
 use lib.ListN.{length, take, drop}
 use Rattle.arithmetic.specs.LittleEndian.{toLe, AllBytes}
 use Rattle.arithmetic.specs.Amount.{value}
@@ -21,6 +21,9 @@ use Rattle.rules.specs.Step.{Prefix}
 use Rattle.funding_cell.specs.declared.FundingRequest.{FundingRequest}
 use Rattle.funding_cell.specs.FundingCell.{fundingCell}
 use Rattle.udt_cells.specs.Pick.{Pick, pickTyped}
+use Rattle.udt_cells.specs.Change.{capacityFor}
+use Rattle.udt_cells.proofs.PickTheorems.{held}
+use Rattle.base_inputs.specs.BaseInputs.{pickedInput}
 use Rattle.list_writer.specs.ListWriter.{fixList}
 use Rattle.transaction_writer.specs.declared.Written.{Written}
 use Rattle.base_writer.specs.Answer.{written, told}
@@ -121,6 +124,29 @@ pub record Tidy (l : Lent) (request : FundingRequest) (bytes : List ℕ) : Type 
   pub cellDeps : Distinct (txAt bytes .cellDeps)
   pub outputsData : length (txAt bytes .outputsData) ≡ length (txAt bytes .outputs)
 
+-- a cell of change: our lock, the type, the capacity for its bytes, and so many tokens
+pub record Change (l : Lent) (tokens : ℕ) (c : Cell) : Type 0 where
+  pub lock : lockOf (c .output) ≡ l .source
+  pub typeScript : typeOf (c .output) ≡ l .udt
+  pub capacity : capacityOf (c .output) ≡ capacityFor (l .source) (l .udt)
+  pub content : c .cellData ≡ toLe 16 tokens
+
+-- one such cell, or none where there is no change
+abbrev pub Changes : Lent → ℕ → List Cell → Type 0
+Changes l zero cs = cs ≡ []
+Changes l (suc n) [] = ⊥
+Changes l (suc n) (c ∷ cs) = Change l (suc n) c × (cs ≡ [])
+
+-- "cells in list order until the total reaches it"; "A remainder makes one change output with our lock, the type and 16 data bytes"
+pub record Balanced (l : Lent) (request : FundingRequest) (bytes : List ℕ) : Type 0 where
+  pub pick : Pick
+  pub isPick : pickTyped (l .udt) (value (request .«local_amount»)) (itemsOf (l .cells)) ≡ fine pick
+  -- the inputs behind the present ones spend the first cells, and these hold the local amount and the change
+  pub inputs : txAt bytes .inputs ≡ txAt (l .ours) .inputs ++ map pickedInput (take (pick .taken) (itemsOf (l .cells)))
+  pub amounts : isEmpty (l .udt) ≡ false → held (take (pick .taken) (itemsOf (l .cells))) ≡ value (request .«local_amount») + pick .change
+  -- behind the funding cell and the present outputs after 0 stands the change
+  pub change : Changes l (pick .change) (drop (suc (length (txAt (l .ours) .outputs) - 1)) (cells (txAt bytes)))
+
 abbrev pub Readable : Type 0
 Readable = Built ReadsBack
 
@@ -139,6 +165,9 @@ Compared = Built Passes
 abbrev pub Tidied : Type 0
 Tidied = Built Tidy
 
+abbrev pub InBalance : Type 0
+InBalance = Built Balanced
+
 abbrev pub OfCalls : Type 1
 OfCalls = (P : Lent → FundingRequest → List ℕ → Type 0) → Built P → Called P
 
@@ -150,3 +179,4 @@ pub record Based (l : Lent) (request : FundingRequest) (bytes : List ℕ) : Type
   pub keeps : Keeps l request bytes
   pub passes : Passes l request bytes
   pub tidy : Tidy l request bytes
+  pub balanced : Balanced l request bytes

@@ -250,7 +250,7 @@ taken-within wanted taken total (cell ∷ cells) p e = by (leb wanted total) ref
         let (sum, s, g) = bind-fine (plusCell total cell) (λ sum. pickFrom wanted (taken + 1) sum cells) p (rw f at e) in
         omega (arith, later sum g)
 
-typed-within : (udt : List ℕ) (wanted : ℕ) (cells : List (List ℕ)) (p : Pick) → pickTyped udt wanted cells ≡ fine p → p .taken ≤ length cells
+pub typed-within : (udt : List ℕ) (wanted : ℕ) (cells : List (List ℕ)) (p : Pick) → pickTyped udt wanted cells ≡ fine p → p .taken ≤ length cells
 unfolding pickTyped
 typed-within udt wanted cells p e = by (isEmpty udt) refl
   where

@@ -1,4 +1,5 @@
 pub mod Base
+pub mod ChangeLaws
 pub mod Claims
 pub mod CompareLaws
 pub mod FormLaws

@@ -43,7 +43,7 @@ part-within : (s : List ℕ) (from to : ℕ) → length (part s from to) ≤ len
 unfolding part
 part-within s from to = omega (arith, length-take (to - from) (drop from s), length-drop from s)
 
-args-within : (s : List ℕ) → length (argsOf s) ≤ length s
+pub args-within : (s : List ℕ) → length (argsOf s) ≤ length s
 unfolding argsOf content fieldOf
 args-within s = le-trans (part-within (fieldOf s 3 2) 4 _) (part-within s _ _)
 
