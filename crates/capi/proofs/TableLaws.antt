@@ -9,9 +9,9 @@ use Rattle.units.specs.declared.{Millis.Millis}
 use Rattle.out_points.specs.Tables.{told}
 use Rattle.hold_records.specs.declared.{Taker.Taker}
 use Rattle.hold_records.specs.Holds.{takeCells}
-use Rattle.table_bytes.specs.Lent.{lentWithTwo, toldNumber}
+use Rattle.table_bytes.specs.Lent.{lentWithTwo, withBytes, toldNumber}
 use Rattle.table_bytes.proofs.LentLaws.{number-two}
-use Rattle.held_bytes.specs.HeldBytes.{heldOf, heldAt}
+use Rattle.held_bytes.specs.HeldBytes.{heldOf, heldAt, heldBytes}
 
 module _ {watchtower : Bool} (holder : ℕ) where
   pub by-tower : watchtower ≡ true → Taker.Watchtower ≡ cond watchtower Taker.Watchtower (Taker.Funding holder)
@@ -21,7 +21,7 @@ module _ {watchtower : Bool} (holder : ℕ) where
   by-funding e = rw e
 
 pub taken-by : (s picked spent : List ℕ) (t : Taker) (time : Millis) (out₁ out₂ : List ℕ) (a : Answer) (o : List ℕ) {taker : Taker} {n : ℕ} {b₁ b₂ : List ℕ} → taker ≡ t → n ≡ answered a
-    → (told heldAt a o, b₁, b₂) ≡ lentWithTwo 12292 s out₁ out₂ (takeCells (heldOf s) picked spent taker time out₁ out₂)
-    → (toldNumber heldAt n o, b₁, b₂) ≡ lentWithTwo 12292 s out₁ out₂ (takeCells (heldOf s) picked spent t time out₁ out₂)
+    → (told (withBytes heldAt) a o, b₁, b₂) ≡ lentWithTwo heldBytes 12292 s out₁ out₂ (takeCells (heldOf s) picked spent taker time out₁ out₂)
+    → (toldNumber (withBytes heldAt) n o, b₁, b₂) ≡ lentWithTwo heldBytes 12292 s out₁ out₂ (takeCells (heldOf s) picked spent t time out₁ out₂)
 taken-by s picked spent t time out₁ out₂ a o et en h =
-    number-two heldAt o a en h ∙ ap (λ (k : Taker). lentWithTwo 12292 s out₁ out₂ (takeCells (heldOf s) picked spent k time out₁ out₂)) et
+    number-two (withBytes heldAt) o a en h ∙ ap (λ (k : Taker). lentWithTwo heldBytes 12292 s out₁ out₂ (takeCells (heldOf s) picked spent k time out₁ out₂)) et

@@ -7,16 +7,16 @@ ghost use mathlib.Core.Bool.{cond};
 ghost use Rattle.hold_records.specs.declared.{Taker.Taker};
 ghost use Rattle.hold_records.specs.Holds.{holdFunding, releaseForWatchtower, holdForWatchtower, lockHeld, unavailable, takeCells};
 ghost use Rattle.exclusions.specs.Exclusions.{commitCall, removeCall, applyCall, addCall, migrateCall};
-ghost use Rattle.table_bytes.specs.Lent.{lentTable, lentWith, lentWithTwo, lentRead, toldNumber};
-ghost use Rattle.held_bytes.specs.HeldBytes.{heldOf, heldAt};
-ghost use Rattle.exclusion_bytes.specs.ExclusionBytes.{mapOf, excludedAt, truncateCall};
+ghost use Rattle.table_bytes.specs.Lent.{lentTable, lentWith, lentWithTwo, lentRead, withBytes, toldNumber};
+ghost use Rattle.held_bytes.specs.HeldBytes.{heldOf, heldAt, heldBytes};
+ghost use Rattle.exclusion_bytes.specs.ExclusionBytes.{mapOf, excludedAt, truncateCall, standing};
 
 // ---- holds
 
 // The funding inputs that `holder` holds now, in place of the ones that it held before.
 #[no_mangle]
 pub extern "C" fn basinpantry_hold_funding(held: &mut [u8], holder: u64, cells: &[u8]) -> u32
-    ensures { λ r. ⌜ toldNumber heldAt r (now (held .exit)) ≡ lentTable 12292 (now (held .entry)) (holdFunding (heldOf (now (held .entry))) holder (now (cells .entry))) ⌝ }
+    ensures { λ r. ⌜ toldNumber (withBytes heldAt) r (now (held .exit)) ≡ lentTable heldBytes 12292 (now (held .entry)) (holdFunding (heldOf (now (held .entry))) holder (now (cells .entry))) ⌝ }
 {
     let a = held_bytes::calls::hold_funding(held, holder, cells);
     a.number() as u32
@@ -25,7 +25,7 @@ pub extern "C" fn basinpantry_hold_funding(held: &mut [u8], holder: u64, cells: 
 // The cells of a transaction that the watchtower sent at `time`.
 #[no_mangle]
 pub extern "C" fn basinpantry_hold_for_watchtower(held: &mut [u8], cells: &[u8], time: u64) -> u32
-    ensures { λ r. ⌜ toldNumber heldAt r (now (held .exit)) ≡ lentTable 12292 (now (held .entry)) (holdForWatchtower (heldOf (now (held .entry))) (now (cells .entry)) (record { 0 = time })) ⌝ }
+    ensures { λ r. ⌜ toldNumber (withBytes heldAt) r (now (held .exit)) ≡ lentTable heldBytes 12292 (now (held .entry)) (holdForWatchtower (heldOf (now (held .entry))) (now (cells .entry)) (record { 0 = time })) ⌝ }
 {
     let now = Millis(time);
     let a = held_bytes::calls::hold_for_watchtower(held, cells, now);
@@ -35,7 +35,7 @@ pub extern "C" fn basinpantry_hold_for_watchtower(held: &mut [u8], cells: &[u8],
 // The cells of a transaction that the watchtower could not send are free again.
 #[no_mangle]
 pub extern "C" fn basinpantry_release_for_watchtower(held: &mut [u8], cells: &[u8]) -> u32
-    ensures { λ r. ⌜ toldNumber heldAt r (now (held .exit)) ≡ lentTable 12292 (now (held .entry)) (releaseForWatchtower (heldOf (now (held .entry))) (now (cells .entry))) ⌝ }
+    ensures { λ r. ⌜ toldNumber (withBytes heldAt) r (now (held .exit)) ≡ lentTable heldBytes 12292 (now (held .entry)) (releaseForWatchtower (heldOf (now (held .entry))) (now (cells .entry))) ⌝ }
 {
     let a = held_bytes::calls::release_for_watchtower(held, cells);
     a.number() as u32
@@ -44,7 +44,7 @@ pub extern "C" fn basinpantry_release_for_watchtower(held: &mut [u8], cells: &[u
 // Writes the out points of every cell that is held at `time`.
 #[no_mangle]
 pub extern "C" fn basinpantry_lock_held(held: &mut [u8], time: u64, out: &mut [u8]) -> u32
-    ensures { λ r. ⌜ (toldNumber heldAt r (now (held .exit)), now (out .exit)) ≡ lentWith 12292 (now (held .entry)) (now (out .entry)) (lockHeld (heldOf (now (held .entry))) (record { 0 = time }) (now (out .entry))) ⌝ }
+    ensures { λ r. ⌜ (toldNumber (withBytes heldAt) r (now (held .exit)), now (out .exit)) ≡ lentWith heldBytes 12292 (now (held .entry)) (now (out .entry)) (lockHeld (heldOf (now (held .entry))) (record { 0 = time }) (now (out .entry))) ⌝ }
 {
     let now = Millis(time);
     let a = held_bytes::calls::lock_held(held, now, out);
@@ -89,7 +89,7 @@ pub extern "C" fn basinpantry_take(
     taken: &mut [u8],
     refused: &mut [u8],
 ) -> u32
-    ensures { λ r. ⌜ (toldNumber heldAt r (now (held .exit)), now (taken .exit), now (refused .exit)) ≡ lentWithTwo 12292 (now (held .entry)) (now (taken .entry)) (now (refused .entry)) (takeCells (heldOf (now (held .entry))) (now (picked .entry)) (now (spent .entry)) (cond watchtower Taker.Watchtower (Taker.Funding holder)) (record { 0 = time }) (now (taken .entry)) (now (refused .entry))) ⌝ }
+    ensures { λ r. ⌜ (toldNumber (withBytes heldAt) r (now (held .exit)), now (taken .exit), now (refused .exit)) ≡ lentWithTwo heldBytes 12292 (now (held .entry)) (now (taken .entry)) (now (refused .entry)) (takeCells (heldOf (now (held .entry))) (now (picked .entry)) (now (spent .entry)) (cond watchtower Taker.Watchtower (Taker.Funding holder)) (record { 0 = time }) (now (taken .entry)) (now (refused .entry))) ⌝ }
 {
     let now = Millis(time);
     let taker = taker_for(watchtower, holder);
@@ -102,7 +102,7 @@ pub extern "C" fn basinpantry_take(
 // Enters the inputs of a transaction under its hash.
 #[no_mangle]
 pub extern "C" fn basinpantry_exclusions_add(map: &mut [u8], hash: &[u8], tx: &[u8]) -> u32
-    ensures { λ r. ⌜ toldNumber excludedAt r (now (map .exit)) ≡ lentTable 27652 (now (map .entry)) (addCall (mapOf (now (map .entry))) (now (hash .entry)) (now (tx .entry))) ⌝ }
+    ensures { λ r. ⌜ toldNumber (withBytes excludedAt) r (now (map .exit)) ≡ lentTable (standing (now (map .exit))) 27652 (now (map .entry)) (addCall (mapOf (now (map .entry))) (now (hash .entry)) (now (tx .entry))) ⌝ }
 {
     let a = exclusion_bytes::calls::add(map, hash, tx);
     a.number() as u32
@@ -111,7 +111,7 @@ pub extern "C" fn basinpantry_exclusions_add(map: &mut [u8], hash: &[u8], tx: &[
 // The transaction of this hash was committed in this block.
 #[no_mangle]
 pub extern "C" fn basinpantry_exclusions_commit(map: &mut [u8], hash: &[u8], block: u64) -> u32
-    ensures { λ r. ⌜ toldNumber excludedAt r (now (map .exit)) ≡ lentTable 27652 (now (map .entry)) (commitCall (mapOf (now (map .entry))) (now (hash .entry)) (record { 0 = block })) ⌝ }
+    ensures { λ r. ⌜ toldNumber (withBytes excludedAt) r (now (map .exit)) ≡ lentTable (standing (now (map .exit))) 27652 (now (map .entry)) (commitCall (mapOf (now (map .entry))) (now (hash .entry)) (record { 0 = block })) ⌝ }
 {
     let number = BlockNumber(block);
     let a = exclusion_bytes::calls::commit(map, hash, number);
@@ -121,7 +121,7 @@ pub extern "C" fn basinpantry_exclusions_commit(map: &mut [u8], hash: &[u8], blo
 // Removes the transaction of this hash.
 #[no_mangle]
 pub extern "C" fn basinpantry_exclusions_remove(map: &mut [u8], hash: &[u8]) -> u32
-    ensures { λ r. ⌜ toldNumber excludedAt r (now (map .exit)) ≡ lentTable 27652 (now (map .entry)) (removeCall (mapOf (now (map .entry))) (now (hash .entry))) ⌝ }
+    ensures { λ r. ⌜ toldNumber (withBytes excludedAt) r (now (map .exit)) ≡ lentTable (standing (now (map .exit))) 27652 (now (map .entry)) (removeCall (mapOf (now (map .entry))) (now (hash .entry))) ⌝ }
 {
     let a = exclusion_bytes::calls::remove(map, hash);
     a.number() as u32
@@ -135,7 +135,7 @@ pub extern "C" fn basinpantry_exclusions_migrate_funding_tx(
     new: &[u8],
     tx: &[u8],
 ) -> u32
-    ensures { λ r. ⌜ toldNumber excludedAt r (now (map .exit)) ≡ lentTable 27652 (now (map .entry)) (migrateCall (mapOf (now (map .entry))) (now (old .entry)) (now (new .entry)) (now (tx .entry))) ⌝ }
+    ensures { λ r. ⌜ toldNumber (withBytes excludedAt) r (now (map .exit)) ≡ lentTable (standing (now (map .exit))) 27652 (now (map .entry)) (migrateCall (mapOf (now (map .entry))) (now (old .entry)) (now (new .entry)) (now (tx .entry))) ⌝ }
 {
     let a = exclusion_bytes::calls::migrate_funding_tx(map, old, new, tx);
     a.number() as u32
@@ -144,7 +144,7 @@ pub extern "C" fn basinpantry_exclusions_migrate_funding_tx(
 // Drops what was committed 13 blocks before the tip, or earlier.
 #[no_mangle]
 pub extern "C" fn basinpantry_exclusions_truncate(map: &mut [u8], tip: u64) -> u32
-    ensures { λ r. ⌜ toldNumber excludedAt r (now (map .exit)) ≡ lentTable 27652 (now (map .entry)) (truncateCall (mapOf (now (map .entry))) (record { 0 = tip })) ⌝ }
+    ensures { λ r. ⌜ toldNumber (withBytes excludedAt) r (now (map .exit)) ≡ lentTable (standing (now (map .exit))) 27652 (now (map .entry)) (truncateCall (mapOf (now (map .entry))) (record { 0 = tip })) ⌝ }
 {
     let number = BlockNumber(tip);
     let a = exclusion_bytes::calls::truncate(map, number);

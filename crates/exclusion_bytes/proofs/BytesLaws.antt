@@ -15,13 +15,12 @@ use Rattle.molecule.specs.Write.{putAt, putEnd, Put}
 use Rattle.out_points.specs.declared.{Byte32.Byte32, OutPoint.OutPoint}
 use Rattle.out_points.specs.OutPoints.{Fit}
 use Rattle.exclusions.specs.declared.{Row.Row, Slot.Slot, LiveCellsExclusionMap.LiveCellsExclusionMap}
-use Rattle.exclusions.specs.Exclusions.{readRows, entriesOf}
 use Rattle.exclusions.specs.Rows.{rowsOf}
 use Rattle.table_bytes.specs.declared.{Place.Place}
 use Rattle.table_bytes.specs.Places.{FitPlace, placesBytes}
 use Rattle.table_bytes.proofs.LoopLaws.{Reading, read-end}
 use Rattle.table_bytes.proofs.TableLaws.{table-short, table-room, table-put, records-back, records-put, records-again}
-use Rattle.exclusion_bytes.specs.ExclusionBytes.{rowOf, slotOf, mapOf, rowsAt, excludedAt, hashPoint, rowPlace, placeFor, mapBytes}
+use Rattle.exclusion_bytes.specs.ExclusionBytes.{rowOf, slotOf, mapOf, rowsAt, hashPoint, rowPlace, placeFor, mapBytes}
 
 -- ---- one row
 
@@ -87,7 +86,7 @@ module _ (m : LiveCellsExclusionMap) (out : List ℕ) {n : ℕ} (e : n ≡ min (
   unfolding mapBytes
   map-short l = table-short (map placeFor (rowsOf m)) out counted l
 
-  pub map-none : length out < 4 + 48 * n → (27652 ≤ length out → excludedAt out ≡ entriesOf m)
+  pub map-none : length out < 4 + 48 * n → (27652 ≤ length out → rowsAt out ≡ rowsOf m)
   map-none l b = absurd (omega arith)
 
   module _ (room : 4 + 48 * n ≤ length out) {o : List ℕ} {at : ℕ} (eo : o ≡ putAt out 0 (toLe 4 n)) (ea : at ≡ putEnd out 0 (toLe 4 n)) where
@@ -99,11 +98,10 @@ module _ (m : LiveCellsExclusionMap) (out : List ℕ) {n : ℕ} (e : n ≡ min (
       unfolding mapBytes
       map-put = table-put (map placeFor (rowsOf m)) out counted room eo ea p
 
-      pub map-means : All FitPlace (map placeFor (rowsOf m)) → (27652 ≤ length out → excludedAt o₂ ≡ entriesOf m)
-      unfolding excludedAt mapOf entriesOf mapBytes
+      pub map-means : All FitPlace (map placeFor (rowsOf m)) → (27652 ≤ length out → rowsAt o₂ ≡ rowsOf m)
+      unfolding rowsAt mapOf mapBytes
       map-means f b =
-          ap (λ (l : List Slot). readRows l .1)
-          (records-put slotOf placeFor same-slot (rowsOf m) out 576 (omega (arith, length-take (m .count) (m .rows))) (omega arith) (omega arith) f map-put)
+          records-put slotOf placeFor same-slot (rowsOf m) out 576 (omega (arith, length-take (m .count) (m .rows))) (omega arith) (omega arith) f map-put
 
 -- what was written is read, whatever bytes follow
 pub rows-back : (l : List Slot) (z : List ℕ) → length l ≤ 576 → All FitPlace (map placeFor l) → rowsAt (mapBytes l ++ z) ≡ l

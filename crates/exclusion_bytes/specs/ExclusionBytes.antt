@@ -49,3 +49,7 @@ placeFor x = rowPlace (x .row)
 
 unfoldable pub mapBytes : List Slot → List ℕ
 mapBytes l = tableBytes (map placeFor l)
+
+-- The rows that the bytes o mean, as bytes. The entries l don't give them alone: out points above the first transaction are of no entry, and may stay.
+unfoldable pub standing : List ℕ → List Entry → List ℕ
+standing o l = mapBytes (rowsAt o)

@@ -13,9 +13,8 @@ ghost use lib.ListN.{length};
 ghost use Rattle.molecule.specs.Partial.{All};
 ghost use Rattle.molecule.specs.Write.{putAt, Put};
 ghost use Rattle.table_bytes.specs.Places.{FitPlace, placesBytes};
-ghost use Rattle.exclusions.specs.Exclusions.{entriesOf};
 ghost use Rattle.exclusions.specs.Rows.{rowsOf};
-ghost use Rattle.exclusion_bytes.specs.ExclusionBytes.{slotOf, placeFor, mapOf, excludedAt, mapBytes};
+ghost use Rattle.exclusion_bytes.specs.ExclusionBytes.{slotOf, placeFor, mapOf, rowsAt, mapBytes};
 
 pub mod calls;
 
@@ -113,7 +112,7 @@ fn put_rows(m: LiveCellsExclusionMap, out: &mut [u8], at: usize) -> usize
 // Puts the table at the start of s, and nothing where there is no room for its rows; the bytes behind them keep their value.
 pub fn write_map(m: LiveCellsExclusionMap, s: &mut [u8])
     ensures { λ _. ⌜ now (s .exit) ≡ putAt (now (s .entry)) 0 (mapBytes (rowsOf m)) ⌝ }
-    ensures { λ _. ⌜ (27652 ≤ length (now (s .entry)) → excludedAt (now (s .exit)) ≡ entriesOf m) ⌝ }
+    ensures { λ _. ⌜ (27652 ≤ length (now (s .entry)) → rowsAt (now (s .exit)) ≡ rowsOf m) ⌝ }
 {
     let n = exclusions::used(m.count);
     if s.len() < 4 + 48 * n {
