@@ -2,11 +2,11 @@
 use mathlib.Core.Path.{_≡_, refl, ap}
 use Prim.Native.Nat.{ℕ, _+_, _*_, _^_, _≤_, _<_, min}
 use mathlib.Core.Bool.{Bool, true, false, cond}
-use mathlib.Core.List.{List, _++_, map}
+use mathlib.Core.List.{List, [], _++_, map}
 use native.Mathlib.Omega.{arith}
 use borrow.Author.Tests.{eq-eqb, ne-eqb}
 use lib.Dec.{eqb}
-use lib.ListN.{length, length-map, length-take}
+use lib.ListN.{length, take, replicate, length-map, length-take}
 use Rattle.arithmetic.specs.LittleEndian.{toLe, AllBytes}
 use Rattle.units.specs.declared.{BlockNumber.BlockNumber}
 use Rattle.molecule.specs.Layout.{fixCount}
@@ -15,12 +15,14 @@ use Rattle.molecule.specs.Write.{putAt, putEnd, Put}
 use Rattle.out_points.specs.declared.{Byte32.Byte32, OutPoint.OutPoint}
 use Rattle.out_points.specs.OutPoints.{Fit}
 use Rattle.exclusions.specs.declared.{Row.Row, Slot.Slot, LiveCellsExclusionMap.LiveCellsExclusionMap}
+use Rattle.exclusions.specs.Exclusions.{readRows, entriesOf}
 use Rattle.exclusions.specs.Rows.{rowsOf}
 use Rattle.table_bytes.specs.declared.{Place.Place}
-use Rattle.table_bytes.specs.Places.{FitPlace, placesBytes}
+use Rattle.table_bytes.specs.Places.{FitPlace, places, placesBytes}
+use Rattle.table_bytes.proofs.AgainLaws.{count-zero}
 use Rattle.table_bytes.proofs.LoopLaws.{Reading, read-end}
 use Rattle.table_bytes.proofs.TableLaws.{table-short, table-room, table-put, records-back, records-put, records-again}
-use Rattle.exclusion_bytes.specs.ExclusionBytes.{rowOf, slotOf, mapOf, rowsAt, hashPoint, rowPlace, placeFor, mapBytes}
+use Rattle.exclusion_bytes.specs.ExclusionBytes.{rowOf, slotOf, mapOf, rowsAt, excludedAt, hashPoint, rowPlace, placeFor, mapBytes}
 
 -- ---- one row
 
@@ -124,3 +126,8 @@ slot-fits p f = by (eqb (p .kind) 0) (eqb (p .kind) 1)
 pub rows-again : (s z : List ℕ) → AllBytes s → rowsAt (mapBytes (rowsAt s) ++ z) ≡ rowsAt s
 unfolding rowsAt mapOf mapBytes
 rows-again s z b = records-again slotOf placeFor same-slot slot-fits s z 576 b (omega arith)
+
+-- all zeros are the empty table
+pub map-zeros : excludedAt (replicate 27652 0) ≡ []
+unfolding excludedAt mapOf entriesOf readRows
+map-zeros = ap (λ (n : ℕ). readRows (take n (map slotOf (places 576 (replicate 27652 0)))) .1) (count-zero (replicate 27648 0))

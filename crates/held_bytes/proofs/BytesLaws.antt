@@ -2,11 +2,11 @@
 use mathlib.Core.Path.{_≡_, refl, ap}
 use Prim.Native.Nat.{ℕ, _+_, _*_, _^_, _≤_, _<_, min}
 use mathlib.Core.Bool.{Bool, true, false, cond}
-use mathlib.Core.List.{List, _++_, map}
+use mathlib.Core.List.{List, [], _++_, map}
 use native.Mathlib.Omega.{arith}
 use borrow.Author.Tests.{eq-eqb, ne-eqb}
 use lib.Dec.{eqb}
-use lib.ListN.{length, length-map}
+use lib.ListN.{length, take, replicate, length-map}
 use Rattle.arithmetic.specs.LittleEndian.{toLe, AllBytes}
 use Rattle.units.specs.declared.{Millis.Millis}
 use Rattle.molecule.specs.Layout.{fixCount}
@@ -17,7 +17,8 @@ use Rattle.hold_records.specs.declared.{Owner.Owner, Hold.Hold, Held.Held}
 use Rattle.hold_records.specs.Holds.{recordsOf}
 use Rattle.hold_records.proofs.LoopLaws.{stands}
 use Rattle.table_bytes.specs.declared.{Place.Place}
-use Rattle.table_bytes.specs.Places.{FitPlace, placesBytes}
+use Rattle.table_bytes.specs.Places.{FitPlace, places, placesBytes}
+use Rattle.table_bytes.proofs.AgainLaws.{count-zero}
 use Rattle.table_bytes.proofs.LoopLaws.{Reading, read-end, Putting, put-end, put-fit}
 use Rattle.table_bytes.proofs.TableLaws.{table-short, table-room, table-put, records-back, records-put, records-again}
 use Rattle.held_bytes.specs.HeldBytes.{ownerOf, holdOf, heldOf, heldAt, kindOf, numberOf, placeFor, heldBytes}
@@ -115,3 +116,8 @@ hold-fits p f = let o = owner-fits (p .kind) (p .number) (f .number-fits) in rec
 pub held-again : (s z : List ℕ) → AllBytes s → heldAt (heldBytes (heldAt s) ++ z) ≡ heldAt s
 unfolding heldAt heldOf recordsOf heldBytes
 held-again s z b = records-again holdOf placeFor same-hold hold-fits s z 256 b (omega arith)
+
+-- all zeros are the empty table
+pub held-zeros : heldAt (replicate 12292 0) ≡ []
+unfolding heldAt heldOf recordsOf
+held-zeros = ap (λ (n : ℕ). take n (map holdOf (places 256 (replicate 12292 0)))) (count-zero (replicate 12288 0))

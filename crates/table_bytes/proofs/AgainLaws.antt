@@ -3,8 +3,9 @@ use mathlib.Core.Path.{_≡_, refl, sym, ap, _∙_}
 use Prim.Native.Nat.{ℕ, zero, suc, _+_, _^_, _≤_, _<_}
 use mathlib.Core.List.{List, [], _∷_, _++_, map, flatten, append-assoc, append-nil}
 use native.Mathlib.Omega.{arith}
+use borrow.Author.Tests.{le-leb}
 use lib.ListN.{length, take, drop, length-append}
-use Rattle.arithmetic.specs.LittleEndian.{toLe, AllBytes, u32At, u64At}
+use Rattle.arithmetic.specs.LittleEndian.{le, toLe, AllBytes, numAt, u32At, u64At}
 use Rattle.arithmetic.proofs.LittleEndianLaws.{length-toLe}
 use Rattle.molecule.specs.Layout.{span, word, fixCount, fixItem}
 use Rattle.molecule.specs.Partial.{All}
@@ -58,3 +59,9 @@ pub places-fit : (s : List ℕ) (i n : ℕ) → AllBytes s → All FitPlace (spa
 unfolding span placeOf
 places-fit s i zero b = tt
 places-fit s i (suc n) b = (place-fits (fixItem s 48 i) (item-bytes s 48 i b), places-fit s (suc i) n b)
+
+-- ---- a count of 0
+
+pub count-zero : (z : List ℕ) → fixCount (0 ∷ 0 ∷ 0 ∷ 0 ∷ z) ≡ 0
+unfolding word numAt le
+count-zero z = rw (le-leb 4 (length (0 ∷ 0 ∷ 0 ∷ 0 ∷ z)) (omega arith)) refl
