@@ -130,9 +130,13 @@ last-list tx (suc (suc (suc (suc zero)))) h a b c d e = absurd (e refl)
 last-list tx (suc (suc (suc (suc (suc zero))))) h a b c d e = refl
 last-list tx (suc (suc (suc (suc (suc (suc list)))))) h a b c d e = absurd (omega arith)
 
+pub left-is-witnesses : (tx : List ℕ) (list i : ℕ) {n : ℕ} → n ≡ length (listIn tx list) → i < n
+    → (list ≡ 0 → ⊥) → (list ≡ 1 → ⊥) → (list ≡ 2 → ⊥) → (list ≡ 3 → ⊥) → (list ≡ 4 → ⊥) → list ≡ 5
+left-is-witnesses tx list i q h a b c d e =
+    let l = ap length (some-there tx list i q h _ refl) in
+    last-list (txAt tx) list (omega arith) a b c d e
+
 pub item-witness : (tx : List ℕ) (list i : ℕ) {n : ℕ} {x : List ℕ} → n ≡ length (listIn tx list) → i < n
     → (list ≡ 0 → ⊥) → (list ≡ 1 → ⊥) → (list ≡ 2 → ⊥) → (list ≡ 3 → ⊥) → (list ≡ 4 → ⊥) → x ≡ entryOf (witnessesOf tx) i → x ≡ itemIn tx list i
 unfolding listOf
-item-witness tx list i q h a b c d e w =
-    let l = ap length (some-there tx list i q h _ refl) in
-    item-as tx list i q h 5 (entryOf (witnessesOf tx)) _ (last-list (txAt tx) list (omega arith) a b c d e) refl w
+item-witness tx list i q h a b c d e w = item-as tx list i q h 5 (entryOf (witnessesOf tx)) _ (left-is-witnesses tx list i q h a b c d e) refl w

@@ -2,7 +2,8 @@
 use transaction::fields;
 ghost use mathlib.Core.Path.{_≡_};
 ghost use lib.ListN.{length};
-ghost use Rattle.transaction_lists.specs.Lists.{versionOf, listIn, itemIn};
+ghost use Rattle.molecule.specs.Layout.{inside};
+ghost use Rattle.transaction_lists.specs.Lists.{versionOf, listIn, itemIn, placeIn};
 
 const CELL_DEPS: u32 = 0;
 
@@ -54,9 +55,10 @@ pub fn item_count(tx: &[u8], list: u32) -> u32
     0
 }
 
-// The item at a place, and no bytes past the last.
+// The item at a place, and no bytes past the last, as its stretch of the lent bytes.
 pub fn item(tx: &[u8], list: u32, i: usize) -> &[u8]
     ensures { λ r. ⌜ now r ≡ itemIn (now (tx .entry)) list i ⌝ }
+    ensures { λ r. ⌜ r .ptr ≡ inside (tx .entry .ptr) (placeIn (now (tx .entry)) list i) ⌝ }
 {
     let n = item_count(tx, list) as usize;
     if n <= i {

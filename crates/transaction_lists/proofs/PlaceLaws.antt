@@ -1,0 +1,46 @@
+-- Where an item stands: one law for each way out of `item`.
+use mathlib.Core.Path.{_≡_, refl, ap, _∙_}
+use Prim.Native.Nat.{ℕ, _+_, _≤_, _<_}
+use mathlib.Core.List.{List}
+use native.Mathlib.Omega.{arith}
+use borrow.Author.Tests.{lt-ltb, le-ltb}
+use lib.ListN.{length}
+use Rattle.molecule.specs.Layout.{inside, partStart, fieldStart, fixStart, itemStart, entryStart}
+use Rattle.transaction.specs.Tx.{rawField, rawStart, witnessesOf}
+use Rattle.transaction_lists.specs.Lists.{listIn, startOf, placeIn}
+use Rattle.transaction_lists.proofs.ListLaws.{left-is-witnesses}
+
+module _ (tx : List ℕ) (list i : ℕ) (p : ℕ × ℕ) {n : ℕ} {q : ℕ × ℕ} (e : n ≡ length (listIn tx list)) where
+  pub place-none : n ≤ i → q ≡ inside p (partStart tx 0 0) → q ≡ inside p (placeIn tx list i)
+  unfolding placeIn partStart
+  place-none h k = k ∙ ap (inside p) (rw (le-ltb i (length (listIn tx list)) (omega arith)) (omega arith))
+
+  module _ (h : i < n) where
+    place-as : (k a : ℕ) → list ≡ k → a ≡ startOf tx k i → q ≡ inside p a → q ≡ inside p (placeIn tx list i)
+    unfolding placeIn
+    place-as k a g s w = w ∙ ap (inside p) (s ∙ rw (lt-ltb i (length (listIn tx list)) (omega arith), g))
+
+    pub place-cell-dep : list ≡ 0 → q ≡ inside p (rawStart tx 1 + fixStart (rawField tx 1) 37 i) → q ≡ inside p (placeIn tx list i)
+    unfolding startOf
+    place-cell-dep g w = place-as 0 _ g refl w
+
+    pub place-header-dep : list ≡ 1 → q ≡ inside p (rawStart tx 2 + fixStart (rawField tx 2) 32 i) → q ≡ inside p (placeIn tx list i)
+    unfolding startOf
+    place-header-dep g w = place-as 1 _ g refl w
+
+    pub place-input : list ≡ 2 → q ≡ inside p (rawStart tx 3 + fixStart (rawField tx 3) 44 i) → q ≡ inside p (placeIn tx list i)
+    unfolding startOf
+    place-input g w = place-as 2 _ g refl w
+
+    pub place-output : list ≡ 3 → q ≡ inside p (rawStart tx 4 + itemStart (rawField tx 4) i) → q ≡ inside p (placeIn tx list i)
+    unfolding startOf
+    place-output g w = place-as 3 _ g refl w
+
+    pub place-output-data : list ≡ 4 → q ≡ inside p (rawStart tx 5 + entryStart (rawField tx 5) i) → q ≡ inside p (placeIn tx list i)
+    unfolding startOf
+    place-output-data g w = place-as 4 _ g refl w
+
+    pub place-witness : (list ≡ 0 → ⊥) → (list ≡ 1 → ⊥) → (list ≡ 2 → ⊥) → (list ≡ 3 → ⊥) → (list ≡ 4 → ⊥) → q ≡ inside p (fieldStart tx 2 1 + entryStart (witnessesOf tx) i)
+        → q ≡ inside p (placeIn tx list i)
+    unfolding startOf
+    place-witness a b c d f w = place-as 5 _ (left-is-witnesses tx list i e h a b c d f) refl w
