@@ -52,7 +52,7 @@ depCount a b c d = fixCount a + (fixCount b + (anyCount c + fixCount d))
 unfoldable pub depsAt : List ℕ → List ℕ → List ℕ → List ℕ → Chosen → List (List ℕ)
 depsAt a b c d x = map (depAt a b c d) (take (x .count) (x .places))
 
--- the choice: the places of the deps where each first stands, or 3,598 for more of them than a transaction has room for
+-- the choice: places of these deps, in their order, or 3,598 for more of them than a transaction has room for
 pub record Chooses (a b c d : List ℕ) (x : Chosen) : Type 0 where
   pub number : x .count ≡ min (length (cellDeps a b c d)) 3598
   pub chosen : x .count < 3598 → depsAt a b c d x ≡ cellDeps a b c d
