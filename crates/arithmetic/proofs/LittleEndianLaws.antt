@@ -72,19 +72,20 @@ four s at h =
     ∙ ap (λ (l : List ℕ). getD s (at + 1 + 1) 0 ∷ l) (take-more 0 s (at + 1 + 1 + 1) h₃)))
     ∙ rw (e₃, e₂)
 
--- what u32_at has at hand: too few bytes, a place too far, or four bytes
+-- what u32_at and u32_of have at hand: too few bytes, or a place too far; then four bytes
 pub u32-short : (s : List ℕ) (at : ℕ) → length s < 4 → 0 ≡ u32At s at
 u32-short s at h = num-none 4 s at (omega arith)
 
 pub u32-far : (s : List ℕ) (at : ℕ) → length s - 4 < at → 0 ≡ u32At s at
 u32-far s at h = num-none 4 s at (omega arith)
 
-pub u32-is : (s : List ℕ) (at : ℕ) {a b c d : ℕ} → 4 ≤ length s → at ≤ length s - 4
+pub u32-past : (s : List ℕ) (i : ℕ) → length s / 4 ≤ i → 0 ≡ u32At s (4 * i)
+u32-past s i h = num-none 4 s (4 * i) (omega arith)
+
+pub u32-is : (s : List ℕ) (at : ℕ) {a b c d : ℕ} → at + 4 ≤ length s
     → a ≡ getD s at 0 → b ≡ getD s (at + 1) 0 → c ≡ getD s (at + 2) 0 → d ≡ getD s (at + 3) 0 → a + 256 * (b + 256 * (c + 256 * d)) ≡ u32At s at
 unfolding le
-u32-is s at {a} {b} {c} {d} h k ea eb ec ed =
-    let n : at + 4 ≤ length s = omega arith in
-    rw (ea, eb, ec, ed) (sym (num-some 4 s at n ∙ ap le (four s at n) ∙ omega arith))
+u32-is s at {a} {b} {c} {d} n ea eb ec ed = rw (ea, eb, ec, ed) (sym (num-some 4 s at n ∙ ap le (four s at n) ∙ omega arith))
 
 -- ---- a number in two halves
 

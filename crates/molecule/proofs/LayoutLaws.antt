@@ -13,7 +13,6 @@ use lib.Dec.{eqb}
 use lib.ListN.{length, take, drop, length-drop, drop-of-length-le}
 use lib.Seq.{take-all, take-nil}
 use Rattle.arithmetic.specs.LittleEndian.{u32At}
-use Rattle.arithmetic.proofs.LittleEndianLaws.{num-none}
 use Rattle.molecule.proofs.Offsets.{start-out}
 use Rattle.molecule.specs.Layout.{part, partStart, inside, word, start, fieldOf, fieldStart, itemCount, itemOf, itemStart, fixCount, fixItem, fixStart, content, contentStart, entryOf, entryStart}
 
@@ -70,10 +69,6 @@ inside-twice p a b e f =
     f ∙ ap (λ (q : ℕ × ℕ). inside q b) e ∙ ap {B = ℕ × ℕ} (λ (n : ℕ). (p .0, n)) w
 
 -- ---- words
-
-pub word-none : (s : List ℕ) (i : ℕ) → length s / 4 ≤ i → 0 ≡ word s i
-unfolding word
-word-none s i h = num-none 4 s (4 * i) (omega arith)
 
 pub word-is : (s : List ℕ) (i : ℕ) {r : ℕ} → r ≡ u32At s (4 * i) → r ≡ word s i
 unfolding word

@@ -29,10 +29,7 @@ pub fn part(s: &[u8], from: usize, to: usize) -> &[u8]
 pub fn word(s: &[u8], i: usize) -> u32
     ensures { λ r. ⌜ r ≡ word (now (s .entry)) i ⌝ }
 {
-    if s.len() / 4 <= i {
-        return 0;
-    }
-    little_endian::u32_at(s, 4 * i)
+    little_endian::u32_of(s, i)
 }
 
 // Where item i of n starts, and the end for i = n.
