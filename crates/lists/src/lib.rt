@@ -14,7 +14,7 @@ const FIRST_ENTRY: usize = 1;
 // How many bytes are compared at a time: a script has one such block or two, a long run is compared at the speed of memory.
 const BLOCK: usize = 64;
 
-const LONG_BLOCK: usize = 256;
+const LONG_BLOCK: usize = 512;
 
 // Whether two strings of one length hold the same bytes. This loop and those over a block have no early exit, so that they are compiled to wide comparisons.
 fn same_run(a: &[u8], b: &[u8]) -> bool
@@ -51,9 +51,9 @@ fn same_block(a: &[u8], b: &[u8], at: usize) -> bool
 
 // A long block.
 fn same_long_block(a: &[u8], b: &[u8], at: usize) -> bool
-    requires { ⌜ at + 256 ≤ length (now a) ⌝ }
-    requires { ⌜ at + 256 ≤ length (now b) ⌝ }
-    ensures { λ r. ⌜ r ≡ eqBytes (take 256 (drop at (now (a .entry)))) (take 256 (drop at (now (b .entry)))) ⌝ }
+    requires { ⌜ at + 512 ≤ length (now a) ⌝ }
+    requires { ⌜ at + 512 ≤ length (now b) ⌝ }
+    ensures { λ r. ⌜ r ≡ eqBytes (take 512 (drop at (now (a .entry)))) (take 512 (drop at (now (b .entry)))) ⌝ }
 {
     let mut ok = true;
     let mut i = 0;
@@ -86,7 +86,7 @@ fn same_by_blocks(a: &[u8], b: &[u8]) -> bool
 // The same by long blocks.
 fn same_by_long_blocks(a: &[u8], b: &[u8]) -> bool
     requires { ⌜ length (now a) ≡ length (now b) ⌝ }
-    requires { ⌜ 256 ≤ length (now a) ⌝ }
+    requires { ⌜ 512 ≤ length (now a) ⌝ }
     ensures { λ r. ⌜ r ≡ eqBytes (now (a .entry)) (now (b .entry)) ⌝ }
 {
     let last = a.len() - LONG_BLOCK;

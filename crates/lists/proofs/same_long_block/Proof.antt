@@ -6,10 +6,10 @@ use Rattle.lists.proofs.same_long_block.Statement.{statement}
 use Rattle.lists.proofs.same_long_block.Tie as tie
 
 abbrev Inv-loop : tie.InvT-loop
-Inv-loop a b at ok₀ i₀ ok i = InBlock 256 at a b ok i
+Inv-loop a b at ok₀ i₀ ok i = InBlock 512 at a b ok i
 
 abbrev μ-loop : tie.MeasureT-loop
-μ-loop a b at ok₀ i₀ ok i = 256 - i
+μ-loop a b at ok₀ i₀ ok i = 512 - i
 
 pub same-long-block-spec : {M : Type 1} → statement M
 same-long-block-spec =
