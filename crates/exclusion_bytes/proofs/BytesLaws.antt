@@ -1,28 +1,26 @@
 -- The exclusion map read and written: one law for each way out of the functions.
 use mathlib.Core.Path.{_≡_, refl, ap}
-use Prim.Native.Nat.{ℕ, _+_, _*_, _^_, _≤_, _<_, min}
+use Prim.Native.Nat.{ℕ, _^_, _≤_, _<_}
 use mathlib.Core.Bool.{Bool, true, false, cond}
 use mathlib.Core.List.{List, [], _++_, map}
 use native.Mathlib.Omega.{arith}
 use borrow.Author.Tests.{eq-eqb, ne-eqb}
 use lib.Dec.{eqb}
-use lib.ListN.{length, take, replicate, length-map, length-take}
-use Rattle.arithmetic.specs.LittleEndian.{toLe, AllBytes}
+use lib.ListN.{length, take, replicate}
+use Rattle.arithmetic.specs.LittleEndian.{AllBytes}
 use Rattle.units.specs.declared.{BlockNumber.BlockNumber}
 use Rattle.molecule.specs.Layout.{fixCount}
 use Rattle.molecule.specs.Partial.{All}
-use Rattle.molecule.specs.Write.{putAt, putEnd, Put}
 use Rattle.out_points.specs.declared.{Byte32.Byte32, OutPoint.OutPoint}
 use Rattle.out_points.specs.OutPoints.{Fit}
 use Rattle.exclusions.specs.declared.{Row.Row, Slot.Slot, LiveCellsExclusionMap.LiveCellsExclusionMap}
 use Rattle.exclusions.specs.Exclusions.{readRows, entriesOf}
-use Rattle.exclusions.specs.Rows.{rowsOf}
 use Rattle.table_bytes.specs.declared.{Place.Place}
-use Rattle.table_bytes.specs.Places.{FitPlace, places, placesBytes}
+use Rattle.table_bytes.specs.Places.{FitPlace, places}
 use Rattle.table_bytes.proofs.AgainLaws.{count-zero}
 use Rattle.table_bytes.proofs.LoopLaws.{Reading, read-end}
-use Rattle.table_bytes.proofs.TableLaws.{table-short, table-room, table-put, records-back, records-put, records-again}
-use Rattle.exclusion_bytes.specs.ExclusionBytes.{rowOf, slotOf, mapOf, rowsAt, excludedAt, hashPoint, rowPlace, placeFor, mapBytes}
+use Rattle.table_bytes.proofs.TableLaws.{records-back, records-again}
+use Rattle.exclusion_bytes.specs.ExclusionBytes.{rowOf, slotOf, mapOf, rowsAt, excludedAt, hashPoint, rowPlace, placeFor, rowsBytes}
 
 -- ---- one row
 
@@ -65,7 +63,7 @@ module _ (h : Byte32) (fa : h .a < 2 ^ 64) (fb : h .b < 2 ^ 64) (fc : h .c < 2 ^
 pub fit-input : (p : OutPoint) → Fit p → FitPlace (record { point = p; kind = 2; number = 0 })
 fit-input p f = record { point-fits = f; kind-fits = omega arith; number-fits = omega arith }
 
-same-slot : (x : Slot) → slotOf (placeFor x) ≡ x
+pub same-slot : (x : Slot) → slotOf (placeFor x) ≡ x
 unfolding slotOf rowOf placeFor rowPlace hashPoint
 same-slot x = ap (λ (r : Row). record { row = r }) (by (x .row))
   where
@@ -80,34 +78,9 @@ pub map-read : {s : List ℕ} {g : List Slot} {i n : ℕ} → Reading slotOf s 5
 unfolding mapOf
 map-read r h e = rw (read-end r h, e)
 
-module _ (m : LiveCellsExclusionMap) (out : List ℕ) {n : ℕ} (e : n ≡ min (m .count) 576) (w : length (m .rows) ≡ 576) where
-  counted : n ≡ length (map placeFor (rowsOf m))
-  counted = omega (arith, length-map (rowsOf m) placeFor, length-take (m .count) (m .rows))
-
-  pub map-short : length out < 4 + 48 * n → out ≡ putAt out 0 (mapBytes (rowsOf m))
-  unfolding mapBytes
-  map-short l = table-short (map placeFor (rowsOf m)) out counted l
-
-  pub map-none : length out < 4 + 48 * n → (27652 ≤ length out → rowsAt out ≡ rowsOf m)
-  map-none l b = absurd (omega arith)
-
-  module _ (room : 4 + 48 * n ≤ length out) {o : List ℕ} {at : ℕ} (eo : o ≡ putAt out 0 (toLe 4 n)) (ea : at ≡ putEnd out 0 (toLe 4 n)) where
-    pub map-room : at + 48 * min (m .count) 576 ≤ length o
-    map-room = let r = table-room (map placeFor (rowsOf m)) out counted room eo ea in omega arith
-
-    module _ {o₂ : List ℕ} {a : ℕ} (p : Put o at (placesBytes (map placeFor (rowsOf m))) o₂ a) where
-      pub map-put : o₂ ≡ putAt out 0 (mapBytes (rowsOf m))
-      unfolding mapBytes
-      map-put = table-put (map placeFor (rowsOf m)) out counted room eo ea p
-
-      pub map-means : All FitPlace (map placeFor (rowsOf m)) → (27652 ≤ length out → rowsAt o₂ ≡ rowsOf m)
-      unfolding rowsAt mapOf mapBytes
-      map-means f b =
-          records-put slotOf placeFor same-slot (rowsOf m) out 576 (omega (arith, length-take (m .count) (m .rows))) (omega arith) (omega arith) f map-put
-
 -- what was written is read, whatever bytes follow
-pub rows-back : (l : List Slot) (z : List ℕ) → length l ≤ 576 → All FitPlace (map placeFor l) → rowsAt (mapBytes l ++ z) ≡ l
-unfolding rowsAt mapOf mapBytes
+pub rows-back : (l : List Slot) (z : List ℕ) → length l ≤ 576 → All FitPlace (map placeFor l) → rowsAt (rowsBytes l ++ z) ≡ l
+unfolding rowsAt mapOf rowsBytes
 rows-back l z h f = records-back slotOf placeFor same-slot l z 576 h (omega arith) f
 
 -- and a table in bytes, written again, means the same
@@ -123,8 +96,8 @@ slot-fits p f = by (eqb (p .kind) 0) (eqb (p .kind) 1)
     by false true = record { point-fits = hash .point-fits; kind-fits = omega arith; number-fits = f .number-fits }
     by false false = fit-input (p .point) (f .point-fits)
 
-pub rows-again : (s z : List ℕ) → AllBytes s → rowsAt (mapBytes (rowsAt s) ++ z) ≡ rowsAt s
-unfolding rowsAt mapOf mapBytes
+pub rows-again : (s z : List ℕ) → AllBytes s → rowsAt (rowsBytes (rowsAt s) ++ z) ≡ rowsAt s
+unfolding rowsAt mapOf rowsBytes
 rows-again s z b = records-again slotOf placeFor same-slot slot-fits s z 576 b (omega arith)
 
 -- all zeros are the empty table

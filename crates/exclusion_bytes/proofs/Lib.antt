@@ -1,3 +1,4 @@
 pub mod BytesLaws
 pub mod CallLaws
 pub mod Ways
+pub mod WriteLaws

@@ -1,14 +1,16 @@
 -- The exclusion map in bytes: what lent bytes mean, and the bytes of a list of rows.
 use Prim.Native.Nat.{ℕ}
 use mathlib.Core.Bool.{cond}
-use mathlib.Core.List.{List, map}
-use lib.{Dec.eqb, ListN.take}
+use mathlib.Core.List.{List, [], _∷_, _++_, map}
+use mathlib.Core.Option.{Option, none, some}
+use lib.{Dec.eqb, ListN.take, ListN.drop}
 use Rattle.units.specs.declared.{BlockNumber.BlockNumber}
 use Rattle.molecule.specs.Layout.{fixCount}
 use Rattle.out_points.specs.declared.{Byte32.Byte32, OutPoint.OutPoint}
 use Rattle.out_points.specs.Tables.{Outcome, done}
 use Rattle.exclusions.specs.declared.{Row.Row, Slot.Slot, LiveCellsExclusionMap.LiveCellsExclusionMap}
 use Rattle.exclusions.specs.Exclusions.{Entry, entriesOf, truncated}
+use Rattle.exclusions.specs.Rows.{rowsOf, inputRow}
 use Rattle.table_bytes.specs.declared.{Place.Place}
 use Rattle.table_bytes.specs.Places.{places, tableBytes}
 
@@ -47,9 +49,21 @@ rowPlace (Row.Input p) = record { point = p; kind = 2; number = 0 }
 unfoldable pub placeFor : Slot → Place
 placeFor x = rowPlace (x .row)
 
-unfoldable pub mapBytes : List Slot → List ℕ
-mapBytes l = tableBytes (map placeFor l)
+-- a transaction's row, and then those of its out points; out points above the first transaction are of no entry, and are not written
+unfoldable pub rowFor : Byte32 → Option BlockNumber → Row
+rowFor h none = Row.Pending h
+rowFor h (some b) = Row.Committed h b
 
--- The rows that the bytes o mean, as bytes. The entries l don't give them alone: out points above the first transaction are of no entry, and may stay.
-unfoldable pub standing : List ℕ → List Entry → List ℕ
-standing o l = mapBytes (rowsAt o)
+unfoldable pub rowsFor : List Entry → List Slot
+rowsFor [] = []
+rowsFor (e ∷ l) = record { row = rowFor (e .hash) (e .committed) } ∷ (map inputRow (e .points) ++ rowsFor l)
+
+-- the rows of a table from `from` on
+unfoldable pub rowsFrom : LiveCellsExclusionMap → ℕ → List Slot
+rowsFrom m from = drop from (rowsOf m)
+
+unfoldable pub rowsBytes : List Slot → List ℕ
+rowsBytes l = tableBytes (map placeFor l)
+
+unfoldable pub mapBytes : List Entry → List ℕ
+mapBytes l = rowsBytes (rowsFor l)

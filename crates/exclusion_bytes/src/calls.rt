@@ -10,12 +10,12 @@ ghost use Rattle.error.specs.Refusal.{answered};
 ghost use Rattle.out_points.specs.Tables.{told};
 ghost use Rattle.exclusions.specs.Exclusions.{entriesOf, commitCall, removeCall, applyCall, addCall, migrateCall};
 ghost use Rattle.table_bytes.specs.Lent.{leaving, lentTable, lentRead, withBytes};
-ghost use Rattle.exclusion_bytes.specs.ExclusionBytes.{mapOf, excludedAt, truncateCall, standing};
+ghost use Rattle.exclusion_bytes.specs.ExclusionBytes.{mapOf, excludedAt, truncateCall, mapBytes};
 
 // Writes the table that a call returned, if the call is done.
 fn leave(s: &mut [u8], r: Excluded) -> Answer
     requires { ⌜ length (now s) ≡ 27652 ⌝ }
-    ensures { λ a. ⌜ told (withBytes excludedAt) a (now (s .exit)) ≡ leaving (standing (now (s .exit))) (now (s .entry)) (told entriesOf (r .answer) (r .map)) ⌝ }
+    ensures { λ a. ⌜ told (withBytes excludedAt) a (now (s .exit)) ≡ leaving mapBytes (now (s .entry)) (told entriesOf (r .answer) (r .map)) ⌝ }
 {
     let answer = r.answer;
     match answer {
@@ -30,7 +30,7 @@ fn leave(s: &mut [u8], r: Excluded) -> Answer
 
 // Enters a transaction, uncommitted, under its hash; empty bytes are none.
 pub fn add(map: &mut [u8], hash: &[u8], tx: &[u8]) -> Answer
-    ensures { λ r. ⌜ told (withBytes excludedAt) r (now (map .exit)) ≡ lentTable (standing (now (map .exit))) 27652 (now (map .entry)) (addCall (mapOf (now (map .entry))) (now (hash .entry)) (now (tx .entry))) ⌝ }
+    ensures { λ r. ⌜ told (withBytes excludedAt) r (now (map .exit)) ≡ lentTable mapBytes 27652 (now (map .entry)) (addCall (mapOf (now (map .entry))) (now (hash .entry)) (now (tx .entry))) ⌝ }
 {
     if map.len() != EXCLUSIONS_BYTES {
         return Answer::Refused(Refusal::LentBytesUnreadable);
@@ -42,7 +42,7 @@ pub fn add(map: &mut [u8], hash: &[u8], tx: &[u8]) -> Answer
 
 // The transaction with this hash is committed in this block.
 pub fn commit(map: &mut [u8], hash: &[u8], block: BlockNumber) -> Answer
-    ensures { λ r. ⌜ told (withBytes excludedAt) r (now (map .exit)) ≡ lentTable (standing (now (map .exit))) 27652 (now (map .entry)) (commitCall (mapOf (now (map .entry))) (now (hash .entry)) block) ⌝ }
+    ensures { λ r. ⌜ told (withBytes excludedAt) r (now (map .exit)) ≡ lentTable mapBytes 27652 (now (map .entry)) (commitCall (mapOf (now (map .entry))) (now (hash .entry)) block) ⌝ }
 {
     if map.len() != EXCLUSIONS_BYTES {
         return Answer::Refused(Refusal::LentBytesUnreadable);
@@ -54,7 +54,7 @@ pub fn commit(map: &mut [u8], hash: &[u8], block: BlockNumber) -> Answer
 
 // The table without the transaction of this hash.
 pub fn remove(map: &mut [u8], hash: &[u8]) -> Answer
-    ensures { λ r. ⌜ told (withBytes excludedAt) r (now (map .exit)) ≡ lentTable (standing (now (map .exit))) 27652 (now (map .entry)) (removeCall (mapOf (now (map .entry))) (now (hash .entry))) ⌝ }
+    ensures { λ r. ⌜ told (withBytes excludedAt) r (now (map .exit)) ≡ lentTable mapBytes 27652 (now (map .entry)) (removeCall (mapOf (now (map .entry))) (now (hash .entry))) ⌝ }
 {
     if map.len() != EXCLUSIONS_BYTES {
         return Answer::Refused(Refusal::LentBytesUnreadable);
@@ -66,7 +66,7 @@ pub fn remove(map: &mut [u8], hash: &[u8]) -> Answer
 
 // Moves an entry to the transaction that replaces it.
 pub fn migrate_funding_tx(map: &mut [u8], old: &[u8], new: &[u8], tx: &[u8]) -> Answer
-    ensures { λ r. ⌜ told (withBytes excludedAt) r (now (map .exit)) ≡ lentTable (standing (now (map .exit))) 27652 (now (map .entry)) (migrateCall (mapOf (now (map .entry))) (now (old .entry)) (now (new .entry)) (now (tx .entry))) ⌝ }
+    ensures { λ r. ⌜ told (withBytes excludedAt) r (now (map .exit)) ≡ lentTable mapBytes 27652 (now (map .entry)) (migrateCall (mapOf (now (map .entry))) (now (old .entry)) (now (new .entry)) (now (tx .entry))) ⌝ }
 {
     if map.len() != EXCLUSIONS_BYTES {
         return Answer::Refused(Refusal::LentBytesUnreadable);
@@ -78,7 +78,7 @@ pub fn migrate_funding_tx(map: &mut [u8], old: &[u8], new: &[u8], tx: &[u8]) -> 
 
 // Drops what was committed 13 blocks before the tip, or earlier.
 pub fn truncate(map: &mut [u8], tip: BlockNumber) -> Answer
-    ensures { λ r. ⌜ told (withBytes excludedAt) r (now (map .exit)) ≡ lentTable (standing (now (map .exit))) 27652 (now (map .entry)) (truncateCall (mapOf (now (map .entry))) tip) ⌝ }
+    ensures { λ r. ⌜ told (withBytes excludedAt) r (now (map .exit)) ≡ lentTable mapBytes 27652 (now (map .entry)) (truncateCall (mapOf (now (map .entry))) tip) ⌝ }
 {
     if map.len() != EXCLUSIONS_BYTES {
         return Answer::Refused(Refusal::LentBytesUnreadable);

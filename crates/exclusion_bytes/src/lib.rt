@@ -8,13 +8,13 @@ use table_bytes::Place;
 use units::BlockNumber;
 ghost use mathlib.Core.Path.{_≡_};
 ghost use mathlib.Core.List.{map};
-ghost use Prim.Native.Nat.{_+_, _*_, _≤_, min};
+ghost use Prim.Native.Nat.{_+_, _-_, _*_, _≤_, min};
 ghost use lib.ListN.{length};
 ghost use Rattle.molecule.specs.Partial.{All};
 ghost use Rattle.molecule.specs.Write.{putAt, Put};
 ghost use Rattle.table_bytes.specs.Places.{FitPlace, placesBytes};
-ghost use Rattle.exclusions.specs.Rows.{rowsOf};
-ghost use Rattle.exclusion_bytes.specs.ExclusionBytes.{slotOf, placeFor, mapOf, rowsAt, mapBytes};
+ghost use Rattle.exclusions.specs.Exclusions.{entriesOf};
+ghost use Rattle.exclusion_bytes.specs.ExclusionBytes.{slotOf, placeFor, mapOf, excludedAt, rowsFrom, mapBytes};
 
 pub mod calls;
 
@@ -91,15 +91,15 @@ pub fn read_map(s: &[u8]) -> LiveCellsExclusionMap
     g
 }
 
-// Puts the rows one after the other from `at` on.
-fn put_rows(m: LiveCellsExclusionMap, out: &mut [u8], at: usize) -> usize
-    requires { ⌜ at + 48 * min (m .count) 576 ≤ length (now out) ⌝ }
-    ensures { λ r. ⌜ Put (now (out .entry)) at (placesBytes (map placeFor (rowsOf m))) (now (out .exit)) r ⌝ }
-    ensures { λ _. ⌜ All FitPlace (map placeFor (rowsOf m)) ⌝ }
+// Puts the rows from `from` on, one after the other, from `at` on.
+fn put_rows(m: LiveCellsExclusionMap, from: usize, out: &mut [u8], at: usize) -> usize
+    requires { ⌜ at + 48 * (min (m .count) 576 - from) ≤ length (now out) ⌝ }
+    ensures { λ r. ⌜ Put (now (out .entry)) at (placesBytes (map placeFor (rowsFrom m from))) (now (out .exit)) r ⌝ }
+    ensures { λ _. ⌜ All FitPlace (map placeFor (rowsFrom m from)) ⌝ }
 {
     let n = exclusions::used(m.count);
     let mut to = at;
-    let mut i: usize = 0;
+    let mut i = from;
     while i < n {
         let x = m.rows[i];
         let p = place_for(x);
@@ -109,15 +109,17 @@ fn put_rows(m: LiveCellsExclusionMap, out: &mut [u8], at: usize) -> usize
     to
 }
 
-// Puts the table at the start of s, and nothing where there is no room for its rows; the bytes behind them keep their value.
+// Puts the table's entries at the start of s, and nothing where there is no room for their rows; the bytes behind them keep their value.
 pub fn write_map(m: LiveCellsExclusionMap, s: &mut [u8])
-    ensures { λ _. ⌜ now (s .exit) ≡ putAt (now (s .entry)) 0 (mapBytes (rowsOf m)) ⌝ }
-    ensures { λ _. ⌜ (27652 ≤ length (now (s .entry)) → rowsAt (now (s .exit)) ≡ rowsOf m) ⌝ }
+    ensures { λ _. ⌜ now (s .exit) ≡ putAt (now (s .entry)) 0 (mapBytes (entriesOf m)) ⌝ }
+    ensures { λ _. ⌜ (27652 ≤ length (now (s .entry)) → excludedAt (now (s .exit)) ≡ entriesOf m) ⌝ }
 {
     let n = exclusions::used(m.count);
-    if s.len() < 4 + 48 * n {
+    let from = exclusions::skip_inputs(m, 0);
+    let left = n - from;
+    if s.len() < 4 + 48 * left {
         return;
     }
-    let at = write::put_u32(s, 0, n as u32);
-    put_rows(m, s, at);
+    let at = write::put_u32(s, 0, left as u32);
+    put_rows(m, from, s, at);
 }

@@ -1,4 +1,4 @@
--- What the functions inside promise one another about rows; no call's contract cites it.
+-- What the functions inside promise one another about rows; no contract of a call of this crate cites it.
 use Prim.Native.Nat.{ℕ, suc, _+_, _-_}
 use mathlib.Core.Bool.{Bool, true, false, not, cond}
 use mathlib.Core.List.{List, [], _∷_, _++_, map}

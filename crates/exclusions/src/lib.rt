@@ -267,7 +267,7 @@ fn place_of(m: LiveCellsExclusionMap, hash: Byte32) -> usize
 }
 
 // The place after the out points that stand from `from` on.
-fn skip_inputs(m: LiveCellsExclusionMap, from: usize) -> usize
+pub fn skip_inputs(m: LiveCellsExclusionMap, from: usize) -> usize
     ensures { λ r. ⌜ r ≡ from + length (loose (drop from (rowsOf m))) ⌝ }
 {
     let n = used(m.count);

@@ -1,15 +1,14 @@
 use Prim.Native.Nat.{_-_}
-use Rattle.table_bytes.proofs.LoopLaws.{Putting}
-use Rattle.exclusion_bytes.specs.ExclusionBytes.{placeFor}
+use Rattle.exclusion_bytes.proofs.WriteLaws.{Rest}
 use Rattle.exclusion_bytes.proofs.Ways.{ways}
 use Rattle.exclusion_bytes.proofs.put_rows.Statement.{statement}
 use Rattle.exclusion_bytes.proofs.put_rows.Tie as tie
 
 abbrev Inv-loop : tie.InvT-loop
-Inv-loop out₀ at m n to₀ i₀ out to i = Putting placeFor (m .rows) (m .count) n out₀ at i out to
+Inv-loop from out₀ at m n to₀ i₀ out to i = Rest m from n out₀ at i out to
 
 abbrev μ-loop : tie.MeasureT-loop
-μ-loop out₀ at m n to₀ i₀ out to i = n - i
+μ-loop from out₀ at m n to₀ i₀ out to i = n - i
 
 pub put-rows-spec : {M : Type 1} → statement M
 put-rows-spec =

@@ -7,6 +7,8 @@ write-map-spec =
     tie.close
     (tie.spec
     (λ c κs. search ways)  -- used-requires
+    (λ c κs. search ways)  -- skip-inputs-requires
+    (λ c. search ways)  -- sub-left
     (λ c. search ways)  -- mul-if1
     (λ c. search ways)  -- add-if1
     (λ c. search ways)  -- returns
