@@ -90,7 +90,7 @@ uint32_t basinpantry_rewrite(const uint8_t *tx, size_t tx_len, uint8_t *out, siz
 
 /* Judges the peer's transaction against ours (no bytes: none), under the expected funding lock, the expected token type (no bytes: untyped), our source
    lock and a fee rate in shannons for 1,000 bytes. `records` has the cell that each added input spends, in the order of these inputs, as the chain has it: the
-   caller answers for that. After 0 the peer's transaction is in force, after a refusal ours.
+   caller answers for that. Each input entry counts by itself: a cell that the peer lists twice counts twice. After 0 the peer's transaction is in force, after a refusal ours.
    values of 0: the capacity surplus (low half, high half) and the token surplus (low half, high half). Refused: 1 to 8. */
 uint32_t basinpantry_update_for_peer(const uint8_t *ours, size_t ours_len, const uint8_t *peer, size_t peer_len, const uint8_t *lock, size_t lock_len,
                                      const uint8_t *udt, size_t udt_len, const uint8_t *source, size_t source_len, uint64_t rate, const uint8_t *records,
@@ -144,7 +144,7 @@ uint32_t basinpantry_build_base(const uint8_t *ours, size_t ours_len, const uint
 #define BASINPANTRY_HELD_BYTES 12292
 
 /* The funding inputs that `holder` holds now, in place of the ones that it held before. A holder is a number of the caller's: two that use one number replace each
-   other's records. Refused: 3, 14. */
+   other's records, and an empty list lets all its cells go. Refused: 3, 14. */
 uint32_t basinpantry_hold_funding(uint8_t *held, size_t held_len, uint64_t holder, const uint8_t *cells, size_t cells_len);
 
 /* The cells of a transaction that the watchtower sent at `time`: held for 1,800,000 ms. Refused: 3, 14. */

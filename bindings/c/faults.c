@@ -603,7 +603,11 @@ static void call(size_t which) {
         case 20: r = basinpantry_exclusions_add(S(t), S(h), S(x)); break;
         case 21: r = basinpantry_exclusions_commit(S(t), S(h), time); break;
         case 22: r = basinpantry_exclusions_remove(S(t), S(h)); break;
-        case 23: r = basinpantry_exclusions_migrate_funding_tx(S(t), S(h), pool[POINTS] + 40, 32, S(x)); break;
+        case 23: {
+            struct slice k = lend(pool[POINTS] + 40, one_in(8) ? below(40) : 32, false);
+            r = basinpantry_exclusions_migrate_funding_tx(S(t), S(h), S(k), S(x));
+            break;
+        }
         case 24: r = basinpantry_exclusions_truncate(S(t), time); break;
         default: r = basinpantry_exclusions_apply(S(t), S(o)); break;
         }
