@@ -1,4 +1,5 @@
-//! The declarations of src/ffi.rs are those of the C header, parameter by parameter: on that their soundness rests.
+//! The declarations of src/ffi.rs are those of the C header, parameter by parameter, and the header's are those of the library: on that their soundness
+//! rests.
 use std::collections::BTreeMap;
 use std::path::Path;
 
@@ -77,6 +78,67 @@ fn declared() -> BTreeMap<String, Signature> {
         found.insert(format!("basinpantry_{}", name_of(declaration)), signature);
     }
     found
+}
+
+/// The text of the library's crate for C, without comments.
+fn library_text() -> String {
+    let folder = Path::new(env!("CARGO_MANIFEST_DIR")).join("../../crates/capi/src");
+    let mut out = String::new();
+    for entry in std::fs::read_dir(folder).expect("crates/capi/src") {
+        let path = entry.expect("a file").path();
+        assert!(path.extension().is_some_and(|extension| extension == "rt"), "{path:?}");
+        for line in std::fs::read_to_string(path).expect("its text").lines() {
+            out += line.split("//").next().unwrap_or_default();
+            out.push('\n');
+        }
+    }
+    out
+}
+
+/// A type of the library as it crosses to C: a slice is a pointer and then a length.
+fn crossing(kind: &str) -> &'static [&'static str] {
+    match kind.replace("&'a ", "&").as_str() {
+        "&[u8]" => &["*const u8", "usize"],
+        "&mut [u8]" => &["*mut u8", "usize"],
+        "&mut [u64]" => &["*mut u64", "usize"],
+        "u64" => &["u64"],
+        "u32" => &["u32"],
+        "usize" => &["usize"],
+        "bool" => &["bool"],
+        other => panic!("{other}"),
+    }
+}
+
+/// The functions that the library has for C: the types of their parameters, then that of the answer.
+fn library() -> BTreeMap<String, Vec<&'static str>> {
+    let text = library_text();
+    let mut found = BTreeMap::new();
+    for declaration in text.split("#[no_mangle]").skip(1) {
+        let declaration = declaration.trim_start().strip_prefix("pub extern \"C\" fn ").expect("a function for C");
+        let (parameters, rest) = declaration.split_once('(').expect("parameters").1.split_once(')').expect("an end");
+        let answer = rest.trim_start().strip_prefix("->").expect("an answer").split_whitespace().next().expect("a type");
+        let kinds = parameters.split(',').map(str::trim).filter(|parameter| !parameter.is_empty());
+        let kinds = kinds.map(|parameter| parameter.split_once(':').expect("a name and a type").1.trim());
+        let signature = kinds.chain([answer]).flat_map(crossing).copied().collect();
+        let name = name_of(declaration).trim_end_matches("<'a>").to_string();
+        assert!(found.insert(name, signature).is_none());
+    }
+    assert_eq!(found.len(), text.matches("extern \"C\"").count());
+    found
+}
+
+#[test]
+fn the_library_has_what_the_header_declares() {
+    let header = header();
+    assert!(header.len() >= 27, "{}", header.len());
+    let kinds = header.iter().map(|(name, signature)| (name.clone(), signature.iter().map(|(_, kind)| kind.as_str()).collect()));
+    assert_eq!(library(), kinds.collect::<BTreeMap<String, Vec<&str>>>());
+    // a length has the name of the pointer before it
+    for (name, signature) in &header {
+        for pair in signature.windows(2).filter(|pair| pair[0].1.starts_with('*')) {
+            assert_eq!(pair[1].0, format!("{}_len", pair[0].0), "{name}");
+        }
+    }
 }
 
 #[test]
