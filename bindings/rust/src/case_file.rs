@@ -6,7 +6,7 @@ use crate::refusal::Refusal;
 use crate::update::{Accepted, Update, update_for_peer};
 use std::fmt;
 
-/// The longest case file that is judged.
+/// The longest case file that [`check_case`] judges; [`CaseFile::judge`] has no such bound.
 pub const MAX_CASE_BYTES: usize = 65_536;
 
 /// Room for the longest verdict line.
@@ -166,7 +166,7 @@ impl<'a> Items<'a> {
 }
 
 impl CaseFile {
-    /// What a case file holds. A file of more than 65,536 bytes is read all the same, though it is not judged.
+    /// What a case file of any length holds. [`check_case`] answers 3 to one of more than 65,536 bytes, though it is read and judged here.
     ///
     /// ```
     /// let why = basinpantry::CaseFile::from_bytes(b"").unwrap_err();
@@ -251,7 +251,7 @@ impl CaseFile {
         molecule::table(&items)
     }
 
-    /// Judges the update that it holds ([`update_for_peer`]).
+    /// Judges the update that it holds ([`update_for_peer`]), however long the file is.
     ///
     /// ```
     /// assert_eq!(basinpantry::CaseFile::default().judge(), Err(basinpantry::Refusal::PeerTransactionUnreadable));

@@ -2,30 +2,7 @@
 mod common;
 
 use basinpantry::{CaseFile, CellDep, CellInput, CellOutput, OutPoint, Script, Transaction};
-use common::{Ran, examples, file, run};
-
-fn read(name: &str) -> String {
-    std::fs::read_to_string(examples().join("json").join(name)).unwrap()
-}
-
-/// Makes a case of the example, with some of its files replaced.
-fn make(out: &str, replaced: &[(&str, &str)]) -> Ran {
-    let mut words = vec!["case".to_string(), "--rate".to_string(), "1000".to_string(), "-o".to_string(), out.to_string()];
-    for (option, name) in [
-        ("--ours", "json/ours.json"),
-        ("--peer", "json/peer.json"),
-        ("--lock", "json/funding_lock.json"),
-        ("--type", "json/token_type.json"),
-        ("--source", "json/source_lock.json"),
-        ("--records", "json/records.json"),
-    ] {
-        let name = replaced.iter().find(|(other, _)| *other == option).map_or(name, |(_, name)| name);
-        if !name.is_empty() {
-            words.extend([option.to_string(), name.to_string()]);
-        }
-    }
-    run(&words.iter().map(String::as_str).collect::<Vec<_>>())
-}
+use common::{Ran, file, make, read, run};
 
 #[test]
 fn two_commands() {
@@ -311,12 +288,4 @@ fn scripts() {
     assert_eq!(made.err, format!("basinpantry: {path}: line 1, column 15: a hash has 32 bytes, and this has 1\n"));
     let made = make(&file("script.case", ""), &[("--source", &file("script.bin", [1, 2, 3]))]);
     assert!(made.err.ends_with("script.bin: neither the bytes of a script nor JSON\n"), "{}", made.err);
-}
-
-#[test]
-fn too_long_for_a_case() {
-    let text = SMALL.replacen("\"0xff\"", &format!("\"0x{}\"", "00".repeat(70_000)), 1);
-    let made = make(&file("long.case", ""), &[("--peer", &file("long.json", text))]);
-    assert_eq!(made.err, "basinpantry: the case file would be longer than 65536 bytes, and such a file is not judged\n");
-    assert_eq!(made.status, 2);
 }

@@ -64,20 +64,6 @@ fn no_case_file() {
     assert_eq!(ran.status, 2);
 }
 
-/// More than 65,536 bytes are no case file, however good their shape is.
-#[test]
-fn a_long_case_file() {
-    let mut bytes = cases().into_iter().find(|(path, ..)| path.ends_with("first.case")).unwrap().1;
-    while bytes.len() <= 65_536 {
-        bytes.extend([0, 0, 0, 0x90]);
-    }
-    let ran = run_with(&["check", "-"], &bytes);
-    assert_eq!(ran.err, "basinpantry: -: a case file has at most 65536 bytes, and this has 65540\n");
-    assert_eq!((ran.status, ran.out.as_str()), (2, ""));
-    let ran = run_with(&["check", "--line", "-"], &bytes);
-    assert_eq!((ran.status, ran.out.as_str()), (2, "3\n"));
-}
-
 #[test]
 fn sentences() {
     for (name, sentence) in [

@@ -61,3 +61,27 @@ pub fn cases() -> Vec<(PathBuf, Vec<u8>, String)> {
     cases.sort();
     cases
 }
+
+/// A file of the example in JSON.
+pub fn read(name: &str) -> String {
+    std::fs::read_to_string(examples().join("json").join(name)).unwrap()
+}
+
+/// Makes a case of the example, with some of its files replaced.
+pub fn make(out: &str, replaced: &[(&str, &str)]) -> Ran {
+    let mut words = vec!["case".to_string(), "--rate".to_string(), "1000".to_string(), "-o".to_string(), out.to_string()];
+    for (option, name) in [
+        ("--ours", "json/ours.json"),
+        ("--peer", "json/peer.json"),
+        ("--lock", "json/funding_lock.json"),
+        ("--type", "json/token_type.json"),
+        ("--source", "json/source_lock.json"),
+        ("--records", "json/records.json"),
+    ] {
+        let name = replaced.iter().find(|(other, _)| *other == option).map_or(name, |(_, name)| name);
+        if !name.is_empty() {
+            words.extend([option.to_string(), name.to_string()]);
+        }
+    }
+    run(&words.iter().map(String::as_str).collect::<Vec<_>>())
+}

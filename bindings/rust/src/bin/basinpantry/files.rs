@@ -1,5 +1,6 @@
 //! Files in and out, and what goes wrong with them.
 use crate::json;
+use basinpantry::CaseFile;
 use std::ffi::OsStr;
 use std::io::Read;
 
@@ -28,6 +29,11 @@ impl Input {
             Ok(bytes) => Ok(Input { name, bytes }),
             Err(why) => Err(Failure(format!("{name}: {why}"))),
         }
+    }
+
+    /// The case that it holds.
+    pub fn case(&self) -> Result<CaseFile, Failure> {
+        CaseFile::from_bytes(&self.bytes).map_err(|why| Failure(format!("{}: no case file: {why}", self.name)))
     }
 
     /// Whether it begins as JSON does. No transaction or script does: their first four bytes are their size.

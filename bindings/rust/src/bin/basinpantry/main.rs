@@ -28,6 +28,7 @@ basinpantry judges the funding transactions that a peer proposes when a CKB paym
   basinpantry replay CASE...      judge a list of updates, and add up what they leave over
 
 basinpantry COMMAND --help says more. A FILE of - is standard input.
+A case file may have any length; only check --line, as the proved program check_update, answers 3 to one of more than 65,536 bytes.
 Exit status: 0 accepted or done, 1 refused, 2 bad usage or a bad file.
 ";
 
@@ -37,7 +38,10 @@ basinpantry check [--line] CASE
 Judges the update that a case file holds, and prints the verdict with its numbers.
 
   --line    print the bare verdict line instead: 0 and the capacity surplus as 32 hex digits,
-            or the number of the refusal and its values
+            or the number of the refusal and its values; 3 for a file of more than 65,536 bytes, as the proved
+            program check_update has it
+
+Without --line a case file may have any length.
 
 Exit status: 0 accepted, 1 refused, 2 bad usage, or a file that is no case file (its line is 3).
 ";
@@ -67,6 +71,9 @@ and, if it is to be compared with the input's, the out_point:
   [{\"output\": {\"capacity\": \"0x2540be4cd\", \"lock\": {...}, \"type\": null}, \"data\": \"0x\"}, null]
 
 The answer of the RPC's get_live_cell with data may stand for an entry too.
+
+A case file may have any length. The proved program check_update and check --line answer 3 to one of more than
+65,536 bytes, which a note then says.
 ";
 
 const SHOW_HELP: &str = "\
@@ -77,6 +84,8 @@ they spend, outputs, what the peer puts in, the growth of output 0, what the pee
 the verdict. An input or output is shared (ours has the same), changed, or added; output 0 is the funding cell.
 
   --full    whole hashes and args, not only their first and last bytes
+
+A case file may have any length.
 
 Exit status: 0 where it could be shown, whatever the verdict is; 2 bad usage or a bad file.
 ";
@@ -90,7 +99,7 @@ force, and prints each verdict, the sums of what the accepted updates leave over
 The transaction of ours in the first file is the start. That of the later ones is not looked at and may be
 missing. All files have the same expected funding lock and token type; peer, records, source lock and fee
 rate are each file's own. The records of an update are one for each input that its transaction adds to the
-one that is in force by then.
+one that is in force by then. A case file may have any length.
 
 Exit status: 0 all accepted, 1 one was refused, 2 bad usage or a bad file.
 ";
@@ -178,20 +187,13 @@ impl Arguments {
 fn check(words: &[OsString]) -> Result<Done, Failure> {
     let arguments = arguments("check", words, &["--line"], &[])?;
     let file = arguments.one_file("check")?;
-    let case = CaseFile::from_bytes(&file.bytes);
     if arguments.has("--line") {
         let line = check_case(&file.bytes);
-        let status = match &case {
-            _ if file.bytes.len() > MAX_CASE_BYTES => 2,
-            Err(_) => 2,
-            Ok(_) => u8::from(!line.starts_with("0 ")),
-        };
+        let judged = file.bytes.len() <= MAX_CASE_BYTES && CaseFile::from_bytes(&file.bytes).is_ok();
+        let status = if judged { u8::from(!line.starts_with("0 ")) } else { 2 };
         return Ok(printed(line, status));
     }
-    let case = case.map_err(|why| Failure(format!("{}: no case file: {why}", file.name)))?;
-    if file.bytes.len() > MAX_CASE_BYTES {
-        return Err(Failure(format!("{}: a case file has at most {MAX_CASE_BYTES} bytes, and this has {}", file.name, file.bytes.len())));
-    }
+    let case = file.case()?;
     let answer = case.judge();
     Ok(printed(words::verdict(&case, &answer) + "\n", u8::from(answer.is_err())))
 }

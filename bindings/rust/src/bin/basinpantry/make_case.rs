@@ -72,8 +72,14 @@ pub fn make(parts: &Parts) -> Result<(Vec<u8>, Vec<String>), Failure> {
     if case.records.len() != added.len() {
         notes.push(format!("{} added, and {} given", was(added.len(), "inputs"), was(case.records.len(), "records")));
     }
-    match case.to_bytes() {
-        Some(bytes) if bytes.len() <= MAX_CASE_BYTES => Ok((bytes, notes)),
-        _ => Err(Failure(format!("the case file would be longer than {MAX_CASE_BYTES} bytes, and such a file is not judged"))),
+    let Some(bytes) = case.to_bytes() else {
+        return Err(Failure("a part has 2^28 bytes or more, which no case file can hold".to_string()));
+    };
+    if bytes.len() > MAX_CASE_BYTES {
+        notes.push(format!(
+            "the case file has {} bytes, and check_update and check --line answer 3 to more than {MAX_CASE_BYTES}",
+            bytes.len()
+        ));
     }
+    Ok((bytes, notes))
 }

@@ -7,7 +7,7 @@ use basinpantry::{CaseFile, replay};
 pub fn replay_cases(files: &[Input]) -> Result<(String, bool), Failure> {
     let mut cases: Vec<CaseFile> = Vec::new();
     for file in files {
-        let case = CaseFile::from_bytes(&file.bytes).map_err(|why| Failure(format!("{}: no case file: {why}", file.name)))?;
+        let case = file.case()?;
         if let Some(first) = cases.first() {
             if case.lock != first.lock || case.udt != first.udt {
                 let what = if case.lock != first.lock { "funding lock" } else { "token type" };
