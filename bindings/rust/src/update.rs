@@ -37,6 +37,9 @@ pub(crate) fn whole(low: u64, high: u64) -> u128 {
 /// Judges the peer's transaction against ours (no bytes: none), under the expected funding lock, the expected token type (no bytes: untyped), our
 /// source lock and a fee rate in shannons per 1000 bytes, over one record for each input that the peer added.
 ///
+/// An added input whose out point stands earlier among the peer's inputs is not refused, and its record is counted again, as in the original: a caller who
+/// minds compares the out points.
+///
 /// After an acceptance the peer's transaction is in force, after a refusal ours ([`Negotiation`] keeps it). Refused: 1 to 8.
 ///
 /// ```
@@ -84,7 +87,7 @@ pub fn update_for_peer(
 pub struct Update<'a> {
     /// The peer's transaction.
     pub peer: &'a [u8],
-    /// One record for each input that it adds ([`write_records`](crate::write_records)).
+    /// One record for each input that it adds ([`write_records`](crate::write_records)); of a cell that is spent twice each record is counted.
     pub records: &'a [u8],
     /// Our source lock.
     pub source: &'a [u8],

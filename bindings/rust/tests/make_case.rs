@@ -47,3 +47,28 @@ fn the_bound_of_the_line() {
     assert!(sentence.out.starts_with("refused (3): ") && longer.out.starts_with("refused (3): "), "{} {}", sentence.out, longer.out);
     assert_eq!(run_with(&["check", "--line", "-"], &bytes).status, 2);
 }
+
+/// One cell listed twice is judged as in the original, and noted.
+#[test]
+fn an_input_listed_twice() {
+    let hash = "0x5ba156200c6310bf140fbbd3bfe7e8f03d4d5f82b612c1a8ec2501826eaabc17";
+    let again = format!(", {{\"since\": \"0x0\", \"previous_output\": {{\"tx_hash\": \"{hash}\", \"index\": \"0x4\"}}}}");
+    let text = read("peer.json").replacen("\n    ],\n    \"outputs\"", &format!("{again}],\n    \"outputs\""), 1);
+    let peer = file("twice.json", text);
+    let records = read("records.json");
+    let entry = records.trim().trim_start_matches('[').trim_end_matches(']');
+    let out = file("twice.case", "");
+    let made = make(&out, &[("--peer", &peer), ("--records", &file("twice_records.json", format!("[{entry}, {entry}]")))]);
+    let note = format!("added input 2 spends {hash}:4, as input 1 does; its record is counted all the same\n");
+    assert_eq!((made.status, made.err), (0, format!("basinpantry: note: {note}")));
+    let shown = run(&["show", "--full", &out]).out;
+    assert!(shown.contains(&format!("\n  note: {note}")), "{shown}");
+    // 400 CKB and 5000 tokens above the surplus of the example
+    assert_eq!(
+        run(&["check", &out]).out,
+        "accepted: the peer puts in 40000001000 shannons (400.00001000 CKB) and 5000 tokens more than the growth of output 0 and the outputs that it added\n"
+    );
+    // the example itself has nothing to be noted
+    assert_eq!(make(&out, &[]).err, "");
+    assert!(!run(&["show", &out]).out.contains("note:"));
+}

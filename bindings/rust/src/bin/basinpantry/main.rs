@@ -7,6 +7,7 @@ mod json;
 mod make_case;
 mod node;
 mod reason;
+mod repeats;
 mod replay_cases;
 mod show;
 mod table;

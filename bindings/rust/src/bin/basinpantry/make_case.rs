@@ -2,6 +2,7 @@
 use crate::files::{Failure, Input};
 use crate::json::Source;
 use crate::node::{self, Record};
+use crate::repeats::repeats;
 use crate::words::was;
 use basinpantry::{CaseFile, CaseRecord, MAX_CASE_BYTES, Transaction, is_script, is_transaction};
 
@@ -53,10 +54,10 @@ pub fn make(parts: &Parts) -> Result<(Vec<u8>, Vec<String>), Failure> {
         records: Vec::new(),
     };
     let mut notes = Vec::new();
-    let inputs = |bytes: &[u8]| Transaction::from_bytes(bytes).map(|tx| tx.inputs).unwrap_or_default();
-    let peer_inputs = inputs(&case.peer);
-    let shared = inputs(&case.ours).len();
-    let added = peer_inputs.get(shared..).unwrap_or_default();
+    let read = |bytes: &[u8]| Transaction::from_bytes(bytes).unwrap_or_default();
+    let (ours, peer) = (read(&case.ours), read(&case.peer));
+    let shared = ours.inputs.len();
+    let added = peer.inputs.get(shared..).unwrap_or_default();
     if let Some(file) = &parts.records {
         let source = Source::new(&file.name, &file.bytes)?;
         for (i, Record { at, out_point, cell }) in node::records(&source, &source.read()?)?.into_iter().enumerate() {
@@ -72,6 +73,7 @@ pub fn make(parts: &Parts) -> Result<(Vec<u8>, Vec<String>), Failure> {
     if case.records.len() != added.len() {
         notes.push(format!("{} added, and {} given", was(added.len(), "inputs"), was(case.records.len(), "records")));
     }
+    notes.extend(repeats(&ours, &peer, true));
     let Some(bytes) = case.to_bytes() else {
         return Err(Failure("a part has 2^28 bytes or more, which no case file can hold".to_string()));
     };

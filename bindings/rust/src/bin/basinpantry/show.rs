@@ -2,6 +2,7 @@
 use crate::files::{Failure, Input};
 use crate::json::Source;
 use crate::reason::{added_outputs, cell_of, is_of, ours_of};
+use crate::repeats::repeats;
 use crate::{node, table, words};
 use basinpantry::{CaseFile, CellOutput, ResolvedCell, Script, Sum, Transaction};
 
@@ -208,6 +209,9 @@ fn inputs(out: &mut String, case: &CaseFile, ours: &Transaction, peer: &Transact
     let added = peer.inputs.len().saturating_sub(shared);
     if cells.len() != added {
         *out += &format!("  {} lent, and {} added\n", words::was(cells.len(), "records"), words::was(added, "inputs"));
+    }
+    for note in repeats(ours, peer, full) {
+        *out += &format!("  note: {note}\n");
     }
 }
 
