@@ -212,12 +212,40 @@ fn bad_files() {
     );
     assert_eq!(
         complaint("error", b"{\"jsonrpc\": \"2.0\", \"error\": {\"code\": -3}, \"id\": 1}"),
+        "line 1, column 29: the node answered with an error: -3"
+    );
+    assert_eq!(
+        complaint("no_result", b"{\"jsonrpc\": \"2.0\", \"error\": null, \"id\": 1}"),
         "line 1, column 1: the node answered without a \"result\""
     );
+    // an error counts, whatever stands beside it
+    assert_eq!(
+        complaint(
+            "error_and_null",
+            b"{\"jsonrpc\": \"2.0\", \"result\": null, \"error\": {\"code\": -32602, \"message\": \"Invalid params\"}, \"id\": 1}"
+        ),
+        "line 1, column 45: the node answered with an error: -32602: Invalid params"
+    );
+    assert_eq!(complaint("error_text", b"{\"error\": \"busy\\nnow\"}"), "line 1, column 11: the node answered with an error: busy now");
+    assert_eq!(complaint("null", b"null"), "line 1, column 1: the node knows no such transaction: null");
     assert_eq!(complaint("hex", b"{\"transaction\": \"0x1234\"}"), "line 1, column 17: these bytes are no transaction");
     assert_eq!(complaint("deep", "[".repeat(1_000_000).as_bytes()), "line 1, column 65: nested over 64 levels");
     assert_eq!(complaint("neither", &[4, 0, 0, 0]), "neither the bytes of a transaction nor JSON");
     assert_eq!(complaint("empty", b""), "neither the bytes of a transaction nor JSON");
+}
+
+/// Verbosity 1 of `get_transaction` has the status alone.
+#[test]
+fn without_the_transaction() {
+    for (status, why) in [
+        ("pending", "the node was asked without the transaction; ask with verbosity 0 or 2"),
+        ("committed", "the node was asked without the transaction; ask with verbosity 0 or 2"),
+        ("unknown", "the node knows no such transaction: null"),
+        ("rejected", "the node knows no such transaction: null"),
+    ] {
+        let text = format!("{{\"transaction\": null, \"tx_status\": {{\"status\": \"{status}\"}}}}");
+        assert_eq!(complaint(status, text.as_bytes()), format!("line 1, column 17: {why}"));
+    }
 }
 
 /// What `case` says where the records are these.
@@ -245,7 +273,13 @@ fn records() {
     assert_eq!(records_of("live", &format!("[{live}]")), expected);
     assert_eq!(records_of("answer", &format!("[{{\"jsonrpc\": \"2.0\", \"result\": {live}, \"id\": 1}}]")), expected);
     // not live
-    for (name, entry) in [("null", "null"), ("unknown", "{\"cell\": null, \"status\": \"unknown\"}"), ("dead", "{\"status\": \"dead\"}")] {
+    for (name, entry) in [
+        ("null", "null"),
+        ("unknown", "{\"cell\": null, \"status\": \"unknown\"}"),
+        ("dead", "{\"status\": \"dead\"}"),
+        ("answer_null", "{\"jsonrpc\": \"2.0\", \"result\": null, \"id\": 1}"),
+        ("answer_dead", "{\"jsonrpc\": \"2.0\", \"result\": {\"cell\": null, \"status\": \"dead\"}, \"error\": null, \"id\": 1}"),
+    ] {
         assert_eq!(records_of(name, &format!("[{entry}]")), [None], "{name}");
     }
     // too few or too many are judged, and noted
@@ -254,6 +288,8 @@ fn records() {
     let made = with_records("many", "[null, null]");
     assert_eq!((made.status, made.err.as_str()), (0, "basinpantry: note: 1 input was added, and 2 records were given\n"));
 }
+
+const NODE_ERROR: &str = "\"error\": {\"code\": -301, \"message\": \"Database: closed\", \"data\": null}";
 
 #[test]
 fn bad_records() {
@@ -273,6 +309,22 @@ fn bad_records() {
             entry.replacen("\"0x88130000000000000000000000000000\"", "null", 1),
             "line 20, column 13: the cell's data is missing: ask the node for the cell with its data",
         ),
+        (
+            "error",
+            format!("[{{\"jsonrpc\": \"2.0\", \"result\": null, {NODE_ERROR}, \"id\": 1}}]"),
+            "line 1, column 46: the node answered with an error: -301: Database: closed",
+        ),
+        (
+            "failed",
+            format!("[{{\"jsonrpc\": \"2.0\", {NODE_ERROR}}}]"),
+            "line 1, column 30: the node answered with an error: -301: Database: closed",
+        ),
+        (
+            "failed_batch",
+            format!("{{\"jsonrpc\": \"2.0\", {NODE_ERROR}}}"),
+            "line 1, column 29: the node answered with an error: -301: Database: closed",
+        ),
+        ("no_result", "[{\"jsonrpc\": \"2.0\", \"id\": 1}]".to_string(), "line 1, column 2: the node answered without a \"result\""),
         ("capacity", entry.replacen("\"0x9502f9000\"", "\"0x1ffffffffffffffff\"", 1), "line 8, column 19: the number is over 64 bits"),
     ] {
         let made = with_records(name, &text);

@@ -36,7 +36,8 @@ pub struct Value {
 pub enum Kind {
     Null,
     Bool,
-    Number,
+    /// As it stands in the file.
+    Number(String),
     /// `plain` where it has no escapes, so that its characters stand in the file as they are.
     Text {
         text: String,
@@ -58,7 +59,7 @@ impl Kind {
         match self {
             Kind::Null => "null",
             Kind::Bool => "true or false",
-            Kind::Number => "a number without quotes",
+            Kind::Number(_) => "a number without quotes",
             Kind::Text { .. } => "a string",
             Kind::List(_) => "a list",
             Kind::Object(_) => "an object",
@@ -240,6 +241,7 @@ impl Reader<'_> {
     }
 
     fn number(&mut self) -> Result<Kind, Error> {
+        let start = self.at;
         self.pass('-');
         if !self.pass('0') {
             self.digits()?;
@@ -251,7 +253,7 @@ impl Reader<'_> {
             let _ = self.pass('+') || self.pass('-');
             self.digits()?;
         }
-        Ok(Kind::Number)
+        Ok(Kind::Number(self.source.text[start..self.at].to_string()))
     }
 
     /// A string, and whether it has no escapes.

@@ -53,8 +53,22 @@ fn transaction_fields(source: &Source, value: &Value) -> Result<Transaction, Err
     })
 }
 
+/// Fails where this is the answer of an RPC call that failed, with the node's code and message.
+fn failure(source: &Source, value: &Value) -> Result<(), Error> {
+    let Some(error) = value.field("error").filter(|error| error.kind != Kind::Null) else { return Ok(()) };
+    let mut why = "the node answered with an error".to_string();
+    for part in [Some(error), error.field("code"), error.field("message")].into_iter().flatten() {
+        if let Kind::Number(text) | Kind::Text { text, .. } = &part.kind {
+            why += ": ";
+            why.extend(text.chars().map(|c| if c.is_control() { ' ' } else { c }));
+        }
+    }
+    Err(source.error(error.at, why))
+}
+
 /// The answer of an RPC call without what stands around it.
 fn unwrapped<'v>(source: &Source, value: &'v Value) -> Result<&'v Value, Error> {
+    failure(source, value)?;
     if value.field("jsonrpc").is_none() {
         return Ok(value);
     }
@@ -64,16 +78,25 @@ fn unwrapped<'v>(source: &Source, value: &'v Value) -> Result<&'v Value, Error> 
     }
 }
 
+/// Why a transaction is null in the answer of `get_transaction`: with verbosity 1 it has only the status.
+fn why_null(source: &Source, answer: &Value) -> Result<&'static str, Error> {
+    let status = answer.field("tx_status").and_then(|status| status.field("status"));
+    Ok(match status.map(|status| source.text(status)).transpose()? {
+        None | Some("unknown" | "rejected") => "the node knows no such transaction: null",
+        Some(_) => "the node was asked without the transaction; ask with verbosity 0 or 2",
+    })
+}
+
 /// The bytes of a transaction: its fields, or what an RPC or ckb-cli puts around them, where it may also stand as hex.
 pub fn transaction(source: &Source, value: &Value) -> Result<Vec<u8>, Error> {
-    let value = unwrapped(source, value)?;
-    let value = value.field("transaction").unwrap_or(value);
+    let answer = unwrapped(source, value)?;
+    let value = answer.field("transaction").unwrap_or(answer);
     match &value.kind {
         Kind::Text { .. } => {
             let bytes = source.bytes(value)?;
             if basinpantry::is_transaction(&bytes) { Ok(bytes) } else { Err(source.error(value.at, "these bytes are no transaction")) }
         }
-        Kind::Null => Err(source.error(value.at, "the node knows no such transaction: null")),
+        Kind::Null => Err(source.error(value.at, why_null(source, answer)?)),
         _ => Ok(transaction_fields(source, value)?.to_bytes()),
     }
 }
@@ -109,6 +132,7 @@ fn cell(source: &Source, value: &Value) -> Result<Record, Error> {
     Ok(Record { at, out_point, cell: Some(cell) })
 }
 
+/// An entry of the records: null or a cell, or an answer of `get_live_cell`, which has to be one that succeeded.
 fn record(source: &Source, value: &Value) -> Result<Record, Error> {
     let at = value.at;
     let value = unwrapped(source, value)?;
@@ -130,5 +154,6 @@ fn record(source: &Source, value: &Value) -> Result<Record, Error> {
 
 /// The records of an update: a list with an entry for each added input.
 pub fn records(source: &Source, value: &Value) -> Result<Vec<Record>, Error> {
+    failure(source, value)?;
     all(source, value, record)
 }
