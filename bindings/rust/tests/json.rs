@@ -333,6 +333,23 @@ fn bad_records() {
     }
 }
 
+/// JSON where a case file is wanted, and a script where a transaction is.
+#[test]
+fn another_kind_of_file() {
+    for words in [&["check", "json/peer.json"][..], &["replay", "json/peer.json"], &["replay", "cases/first.case", "json/peer.json"]] {
+        let ran = run(words);
+        let why = "basinpantry: json/peer.json: this is JSON; make a case file of it with `basinpantry case`\n";
+        assert_eq!((ran.status, ran.out.as_str(), ran.err.as_str()), (2, "", why), "{words:?}");
+    }
+    assert_eq!(run(&["check", "--line", "json/peer.json"]).out, "3\n");
+    let ran = run(&["show", "json/funding_lock.json"]);
+    let why = "basinpantry: json/funding_lock.json: line 1, column 1: this is a script, not a transaction\n";
+    assert_eq!((ran.status, ran.out.as_str(), ran.err.as_str()), (2, "", why));
+    let path = file("another_kind.script", Script::default().to_bytes());
+    assert_eq!(run(&["show", &path]).err, format!("basinpantry: {path}: this is a script, not a transaction\n"));
+    assert_eq!(complaint("script", read("funding_lock.json").as_bytes()), "line 1, column 1: this is a script, not a transaction");
+}
+
 #[test]
 fn scripts() {
     let path = file("script.json", "{\"code_hash\": \"0x00\", \"hash_type\": \"type\", \"args\": \"0x\"}");

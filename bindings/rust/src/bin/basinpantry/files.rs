@@ -1,5 +1,5 @@
 //! Files in and out, and what goes wrong with them.
-use crate::json;
+use crate::json::{self, Source};
 use basinpantry::CaseFile;
 use std::ffi::OsStr;
 use std::io::Read;
@@ -33,7 +33,15 @@ impl Input {
 
     /// The case that it holds.
     pub fn case(&self) -> Result<CaseFile, Failure> {
-        CaseFile::from_bytes(&self.bytes).map_err(|why| Failure(format!("{}: no case file: {why}", self.name)))
+        CaseFile::from_bytes(&self.bytes).map_err(|why| match self.is_json() {
+            true => Failure(format!("{}: this is JSON; make a case file of it with `basinpantry case`", self.name)),
+            false => Failure(format!("{}: no case file: {why}", self.name)),
+        })
+    }
+
+    /// Whether all of it is JSON.
+    fn is_json(&self) -> bool {
+        Source::new(&self.name, &self.bytes).is_ok_and(|source| source.read().is_ok())
     }
 
     /// Whether it begins as JSON does. No transaction or script does: their first four bytes are their size.

@@ -96,6 +96,7 @@ pub fn transaction(source: &Source, value: &Value) -> Result<Vec<u8>, Error> {
             let bytes = source.bytes(value)?;
             if basinpantry::is_transaction(&bytes) { Ok(bytes) } else { Err(source.error(value.at, "these bytes are no transaction")) }
         }
+        _ if value.field("code_hash").is_some() => Err(source.error(value.at, "this is a script, not a transaction")),
         Kind::Null => Err(source.error(value.at, why_null(source, answer)?)),
         _ => Ok(transaction_fields(source, value)?.to_bytes()),
     }

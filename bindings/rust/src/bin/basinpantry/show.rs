@@ -4,7 +4,7 @@ use crate::json::Source;
 use crate::reason::{added_outputs, cell_of, is_of, ours_of};
 use crate::repeats::repeats;
 use crate::{node, table, words};
-use basinpantry::{CaseFile, CellOutput, ResolvedCell, Script, Sum, Transaction};
+use basinpantry::{CaseFile, CellOutput, ResolvedCell, Script, Sum, Transaction, is_script};
 
 /// What `show` prints of a file: of a transaction in Molecule or JSON, or of a case.
 pub fn show(file: &Input, full: bool) -> Result<String, Failure> {
@@ -15,6 +15,9 @@ pub fn show(file: &Input, full: bool) -> Result<String, Failure> {
         Ok(case) => return Ok(show_case(&case, full)),
         Err(why) => why,
     };
+    if is_script(&file.bytes) {
+        return Err(Failure(format!("{}: this is a script, not a transaction", file.name)));
+    }
     if !file.looks_like_json() {
         return Err(Failure(format!("{}: neither a transaction nor a case file; for a case file: {not_a_case}", file.name)));
     }
