@@ -72,3 +72,22 @@ fn an_input_listed_twice() {
     assert_eq!(make(&out, &[]).err, "");
     assert!(!run(&["show", &out]).out.contains("note:"));
 }
+
+/// The file that is written is none of those that are read, by whatever name; - is standard output.
+#[test]
+fn where_it_goes() {
+    let peer = file("own_input.json", read("peer.json"));
+    let folder = std::path::Path::new(&peer).parent().unwrap().to_str().unwrap();
+    for name in [peer.clone(), format!("{folder}/./own_input.json")] {
+        let made = make(&name, &[("--peer", &peer)]);
+        let why = "basinpantry: -o is the file of --peer, which would be overwritten; try: basinpantry case --help\n";
+        assert_eq!((made.status, made.out.as_str(), made.err.as_str()), (2, "", why), "{name}");
+    }
+    assert_eq!(std::fs::read_to_string(&peer).unwrap(), read("peer.json"));
+    let out = file("own_output.case", "");
+    assert_eq!(make(&out, &[("--peer", &peer)]).status, 0);
+    let made = make("-", &[("--peer", &peer)]);
+    assert_eq!((made.status, made.err.as_str()), (0, ""));
+    assert_eq!(made.out, String::from_utf8_lossy(&std::fs::read(&out).unwrap()));
+    assert!(!common::examples().join("-").exists());
+}

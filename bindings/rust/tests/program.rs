@@ -37,15 +37,30 @@ fn bad_usage() {
             "basinpantry: --rate is a number below 2^64, not 18446744073709551616; try: basinpantry case --help\n",
         ),
         (&["case", "--rate", "1"], "basinpantry: --peer is missing; try: basinpantry case --help\n"),
-        (&["case", "--rate"], "basinpantry: --rate has no value; try: basinpantry case --help\n"),
+        (&["case", "--rate"], "basinpantry: --rate needs a number; try: basinpantry case --help\n"),
         (&["case", "--rate", "1", "--rate", "2"], "basinpantry: --rate stands twice; try: basinpantry case --help\n"),
+        (&["case", "--ours", "--peer", "x"], "basinpantry: --ours needs a file; try: basinpantry case --help\n"),
+        (&["case", "--rate", "-o"], "basinpantry: --rate needs a number; try: basinpantry case --help\n"),
+        (&["case", "--peer", "--"], "basinpantry: --peer needs a file; try: basinpantry case --help\n"),
+        (
+            &["case", "--peer", "-", "--ours", "-"],
+            "basinpantry: - is named twice, and standard input can be read only once; try: basinpantry case --help\n",
+        ),
+        (
+            &["replay", "-", "cases/first.case", "-"],
+            "basinpantry: - is named twice, and standard input can be read only once; try: basinpantry replay --help\n",
+        ),
+        (&["check", "--", "--line"], "basinpantry: --line: No such file or directory (os error 2)\n"),
+        (&["check", "--", "--help"], "basinpantry: --help: No such file or directory (os error 2)\n"),
         (&["case", "a"], "basinpantry: a belongs to no option; try: basinpantry case --help\n"),
     ] {
         let ran = run(words);
         assert_eq!((ran.status, ran.out.as_str(), ran.err.as_str()), (2, "", why), "{words:?}");
     }
+    // no command at all: how it is used
     let ran = run(&[]);
-    assert_eq!((ran.status, ran.out.as_str()), (2, ""));
+    assert_eq!((ran.status, ran.out.as_str(), ran.err), (2, "", run(&["--help"]).out));
+    assert_eq!(run(&["check", "--line", "--", "cases/first.case"]).status, 0);
 }
 
 #[test]

@@ -1,0 +1,86 @@
+//! What `--help` prints.
+
+pub const HELP: &str = "\
+basinpantry judges the funding transactions that a peer proposes when a CKB payment channel is opened.
+
+  basinpantry check CASE          judge a case file, and say the verdict in a sentence
+  basinpantry case ... -o CASE    make a case file from what a node prints
+  basinpantry show FILE           show a transaction or a case as a table
+  basinpantry replay CASE...      judge a list of updates, and add up what they leave over
+
+basinpantry COMMAND --help says more. A FILE of - is standard input. After -- no word is an option.
+A case file may have any length; only check --line, as the proved program check_update, answers 3 to one of more than 65,536 bytes.
+Exit status: 0 accepted or done, 1 refused, 2 bad usage or a bad file.
+";
+
+pub const CHECK: &str = "\
+basinpantry check [--line] CASE
+
+Judges the update that a case file holds, and prints the verdict with its numbers.
+
+  --line    print the bare verdict line instead: 0 and the capacity surplus as 32 hex digits,
+            or the number of the refusal and its values; 3 for a file of more than 65,536 bytes, as the proved
+            program check_update has it
+
+Without --line a case file may have any length.
+
+Exit status: 0 accepted, 1 refused, 2 bad usage, or a file that is no case file (its line is 3).
+";
+
+pub const CASE: &str = "\
+basinpantry case --peer FILE --lock FILE --source FILE --rate N [--ours FILE] [--type FILE] [--records FILE] [-o CASE]
+
+Makes a case file: an update with everything that decides it.
+
+  --peer FILE      the peer's transaction
+  --ours FILE      our transaction in force; without it: none
+  --lock FILE      the expected funding lock, a script
+  --type FILE      the expected token type, a script; without it: untyped
+  --source FILE    our source lock, a script
+  --rate N         the fee rate in shannons per 1000 bytes, decimal or 0x and hex digits
+  --records FILE   the cells that the peer's added inputs spend, in their order; without it: none
+  -o CASE          where the case file goes, none of the files above; without it, or with -: standard output
+
+A transaction is JSON as CKB's RPC and ckb-cli print it (version, cell_deps, header_deps, inputs, outputs,
+outputs_data, witnesses; numbers and bytes as 0x and hex digits), also inside of an RPC's answer
+({\"transaction\": {...}, ...}), or its Molecule bytes. A script is JSON with code_hash, hash_type (data, type,
+data1, data2) and args, or its Molecule bytes.
+
+The records are a list in JSON. An entry is null for a cell that is not live, or has an output, its data,
+and, if it is to be compared with the input's, the out_point:
+
+  [{\"output\": {\"capacity\": \"0x2540be4cd\", \"lock\": {...}, \"type\": null}, \"data\": \"0x\"}, null]
+
+The answer of the RPC's get_live_cell with data may stand for an entry too.
+
+A case file may have any length. The proved program check_update and check --line answer 3 to one of more than
+65,536 bytes, which a note then says.
+";
+
+pub const SHOW: &str = "\
+basinpantry show [--full] FILE
+
+Prints a transaction (JSON or Molecule bytes) or a case file as a table. Of a case: inputs with the cells that
+they spend, outputs, what the peer puts in, the growth of output 0, what the peer takes back, the surplus, and
+the verdict. An input or output is shared (ours has the same), changed, or added; output 0 is the funding cell.
+
+  --full    whole hashes and args, not only their first and last bytes
+
+A case file may have any length.
+
+Exit status: 0 where it could be shown, whatever the verdict is; 2 bad usage or a bad file.
+";
+
+pub const REPLAY: &str = "\
+basinpantry replay CASE...
+
+Judges a list of updates, one in each case file, each against the transaction that the one before it left in
+force, and prints each verdict, the sums of what the accepted updates leave over, and what is then in force.
+
+The transaction of ours in the first file is the start. That of the later ones is not looked at and may be
+missing. All files have the same expected funding lock and token type; peer, records, source lock and fee
+rate are each file's own. The records of an update are one for each input that its transaction adds to the
+one that is in force by then. A case file may have any length.
+
+Exit status: 0 all accepted, 1 one was refused, 2 bad usage or a bad file.
+";
