@@ -134,6 +134,16 @@ refused (6): input 2, which the peer added, spends a cell under our own source l
     );
 }
 
+/// The count of added outputs is the one that the limit is about.
+#[test]
+fn show_an_opening() {
+    let shown = run(&["show", "cases/outputs_4.case"]).out;
+    assert!(shown.contains("\noutputs: 4, added 4 (output 0 is the funding cell)\n"), "{shown}");
+    assert!(shown.ends_with("it adds 4 outputs, and 3 are allowed\n"), "{shown}");
+    let shown = run(&["show", "cases/first.case"]).out;
+    assert!(shown.contains("\noutputs: 1, added 1 (output 0 is the funding cell)\n"), "{shown}");
+}
+
 /// The surplus in the table is the library's wherever it accepts.
 #[test]
 fn the_surplus_shown_is_the_one_judged() {

@@ -219,8 +219,10 @@ fn inputs(out: &mut String, case: &CaseFile, ours: &Transaction, peer: &Transact
 }
 
 fn outputs(out: &mut String, case: &CaseFile, ours: &Transaction, peer: &Transaction, full: bool) {
-    let added = added_outputs(ours, peer);
-    *out += &format!("\noutputs: {}, added {}\n", peer.outputs.len(), added.len());
+    // as the limit counts them: the funding cell of an opening is one of them
+    let added = peer.outputs.len().saturating_sub(ours.outputs.len());
+    let funding = if ours.outputs.is_empty() && added > 0 { " (output 0 is the funding cell)" } else { "" };
+    *out += &format!("\noutputs: {}, added {added}{funding}\n", peer.outputs.len());
     let mut rows = Vec::new();
     for (i, output) in peer.outputs.iter().enumerate() {
         let part = match ours.outputs.get(i) {
