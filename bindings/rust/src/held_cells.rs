@@ -88,7 +88,7 @@ impl HeldCells {
         &self.table
     }
 
-    /// The funding inputs that a holder holds now, in place of the ones that it held before. Refused: 14.
+    /// The funding inputs that a holder holds now, in place of the ones that it held before: an empty list releases the holder's cells. Refused: 14.
     ///
     /// ```
     /// use basinpantry::{HeldCells, OutPoint, Refusal};
@@ -100,6 +100,8 @@ impl HeldCells {
     /// assert_eq!(held.lock_held(0).unwrap(), [point(3)]);
     /// let many: Vec<OutPoint> = (0..256).map(point).collect();
     /// assert_eq!(held.hold_funding(8, &many), Err(Refusal::TooManyHolds));
+    /// held.hold_funding(7, &[]).unwrap();
+    /// assert!(held.lock_held(0).unwrap().is_empty());
     /// ```
     pub fn hold_funding(&mut self, holder: u64, cells: &[OutPoint]) -> Result<(), Refusal> {
         ffi::hold_funding(&mut self.table, holder, &write_out_points(cells))
