@@ -7,19 +7,19 @@ use crate::sum::Sum;
 ///
 /// ```
 /// let accepted = basinpantry::Accepted { capacity: 205, token: 0 };
-/// assert_eq!(accepted.to_string(), "205 shannons and 0 tokens");
+/// assert_eq!(accepted.to_string(), "a surplus of 205 shannons and 0 tokens");
 /// ```
 #[derive(Clone, Copy, Debug, Default, PartialEq, Eq, Hash)]
 pub struct Accepted {
-    /// In shannons; for an opening update this pays the fee.
+    /// The capacity surplus, in shannons; for an opening update this pays the fee.
     pub capacity: u128,
-    /// In the expected token, 0 where none is expected.
+    /// The token surplus, 0 where no token is expected.
     pub token: u128,
 }
 
 impl std::fmt::Display for Accepted {
     fn fmt(&self, f: &mut std::fmt::Formatter<'_>) -> std::fmt::Result {
-        write!(f, "{} shannons and {} tokens", self.capacity, self.token)
+        write!(f, "a surplus of {} shannons and {} tokens", self.capacity, self.token)
     }
 }
 
