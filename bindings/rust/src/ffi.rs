@@ -1,11 +1,14 @@
 //! The functions of the archive (bindings/c/basinpantry.h), each under a safe function of the same name. All `unsafe` of this crate is here.
 //!
-//! The proofs begin at slices; pointers and lengths are the host's word. Every call keeps it for the same four reasons:
+//! The proofs begin at slices; pointers and lengths are the host's word. Every call keeps it for the same five reasons:
 //! - pointer and length are of one Rust slice, so the bytes are there, initialised and lent while the call runs (where the length is 0 the pointer is not
 //!   used);
 //! - what a call writes to is a `&mut` slice, which overlaps nothing else that is lent to the call, and any bytes or words written are valid;
 //! - the functions keep no pointer, have no state of their own, call nothing back and don't unwind; it is proved of them that on any content they
 //!   return, and read and write nothing outside the lent slices;
+//! - the stack is enough: a call needs half a megabyte at most (bench/tables and bench/base measure the largest calls, tests/stack.rs makes some in a thread of
+//!   that size), and a thread of the standard library has two unless another size is asked for. With less a call ends the process and writes nowhere else: the
+//!   archive touches its frames page by page, so that it meets the guard page below the stack;
 //! - the types are those of the header (tests/header.rs compares them): `size_t` is `usize`, `bool` is `bool`, and a call answers 0 or 1 for one.
 //!
 //! No length has to be any particular one for that: a table of another length is refused (3), and so is a buffer that is too short (13).
@@ -192,22 +195,27 @@ mod c {
     }
 }
 
-/// Calls a function of the archive, with a variable that is a slice of bytes, or one that is a buffer to write to, as its pointer and its length.
+/// Calls a function of the archive, with a variable that is a slice of bytes, or one that is a buffer to write to, as its pointer and its length. Every argument
+/// is evaluated outside of the `unsafe` block, which has the call alone.
 macro_rules! call {
     ($name:ident ( $($arguments:tt)* )) => {
         call!(@spread $name () $($arguments)*,)
     };
-    (@spread $name:ident ($($done:expr,)*) bytes $slice:ident, $($rest:tt)*) => {
-        call!(@spread $name ($($done,)* $slice.as_ptr(), $slice.len(),) $($rest)*)
-    };
-    (@spread $name:ident ($($done:expr,)*) buffer $slice:ident, $($rest:tt)*) => {
-        call!(@spread $name ($($done,)* $slice.as_mut_ptr(), $slice.len(),) $($rest)*)
-    };
-    (@spread $name:ident ($($done:expr,)*) number $number:expr, $($rest:tt)*) => {
-        call!(@spread $name ($($done,)* $number,) $($rest)*)
-    };
+    (@spread $name:ident ($($done:ident,)*) bytes $slice:ident, $($rest:tt)*) => {{
+        let (start, length) = ($slice.as_ptr(), $slice.len());
+        call!(@spread $name ($($done,)* start, length,) $($rest)*)
+    }};
+    (@spread $name:ident ($($done:ident,)*) buffer $slice:ident, $($rest:tt)*) => {{
+        let length = $slice.len();
+        let start = $slice.as_mut_ptr();
+        call!(@spread $name ($($done,)* start, length,) $($rest)*)
+    }};
+    (@spread $name:ident ($($done:ident,)*) number $number:expr, $($rest:tt)*) => {{
+        let number = $number;
+        call!(@spread $name ($($done,)* number,) $($rest)*)
+    }};
     // SAFETY: as the head of this module says: pointers with lengths of lent slices, and only `&mut` slices are written to.
-    (@spread $name:ident ($($done:expr,)*)) => {
+    (@spread $name:ident ($($done:ident,)*)) => {
         unsafe { c::$name($($done),*) }
     };
 }

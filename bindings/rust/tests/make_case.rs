@@ -73,6 +73,18 @@ fn an_input_listed_twice() {
     assert!(!run(&["show", &out]).out.contains("note:"));
 }
 
+/// A transaction of 123 bytes begins with the byte of `{`, and is none the less read as what it is.
+#[test]
+fn bytes_that_begin_as_json() {
+    let bytes = basinpantry::Transaction { witnesses: vec![vec![7; 47]], ..Default::default() }.to_bytes();
+    assert_eq!(bytes[0], b'{');
+    let peer = file("begins.tx", &bytes);
+    assert!(run(&["show", &peer]).out.starts_with("a transaction of 123 bytes, version 0\n"));
+    let out = file("begins.case", "");
+    assert_eq!(make(&out, &[("--peer", &peer), ("--ours", ""), ("--records", "")]).status, 0);
+    assert_eq!(basinpantry::CaseFile::from_bytes(&std::fs::read(&out).unwrap()).unwrap().peer, bytes);
+}
+
 /// The file that is written is none of those that are read, by whatever name; - is standard output.
 #[test]
 fn where_it_goes() {

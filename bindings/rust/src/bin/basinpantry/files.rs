@@ -44,7 +44,8 @@ impl Input {
         Source::new(&self.name, &self.bytes).is_ok_and(|source| source.read().is_ok())
     }
 
-    /// Whether it begins as JSON does. No transaction or script does: their first four bytes are their size.
+    /// Whether it begins as JSON does. A transaction's or script's bytes may begin so too, as their first byte is the low one of their size: whether they are
+    /// one is asked before.
     pub fn looks_like_json(&self) -> bool {
         let start = self.bytes.iter().find(|b| !b.is_ascii_whitespace());
         matches!(start, Some(b'{' | b'[' | b'"' | b'n'))
