@@ -51,7 +51,10 @@ and, if it is to be compared with the input's, the out_point:
 
   [{\"output\": {\"capacity\": \"0x2540be4cd\", \"lock\": {...}, \"type\": null}, \"data\": \"0x\"}, null]
 
-The answer of the RPC's get_live_cell with data may stand for an entry too.
+The answer of the RPC's get_live_cell with data may stand for an entry too. One in which the node failed is an error.
+
+A note names an added input whose out point stands earlier among the peer's inputs: it is not refused, and its
+record is counted again.
 
 A case file may have any length. The proved program check_update and check --line answer 3 to one of more than
 65,536 bytes, which a note then says.
@@ -66,7 +69,8 @@ the verdict. An input or output is shared (ours has the same), changed, or added
 
   --full    whole hashes and args, not only their first and last bytes
 
-A case file may have any length.
+A note names an added input whose out point stands earlier among the peer's inputs: it is not refused, and its
+record is counted again. A case file may have any length.
 
 Exit status: 0 where it could be shown, whatever the verdict is; 2 bad usage or a bad file.
 ";

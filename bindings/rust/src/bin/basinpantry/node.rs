@@ -79,12 +79,14 @@ fn unwrapped<'v>(source: &Source, value: &'v Value) -> Result<&'v Value, Error> 
 }
 
 /// Why a transaction is null in the answer of `get_transaction`: with verbosity 1 it has only the status.
-fn why_null(source: &Source, answer: &Value) -> Result<&'static str, Error> {
+fn why_null(answer: &Value) -> &'static str {
     let status = answer.field("tx_status").and_then(|status| status.field("status"));
-    Ok(match status.map(|status| source.text(status)).transpose()? {
-        None | Some("unknown" | "rejected") => "the node knows no such transaction: null",
-        Some(_) => "the node was asked without the transaction; ask with verbosity 0 or 2",
-    })
+    match status.map(|status| &status.kind) {
+        Some(Kind::Text { text, .. }) if text != "unknown" && text != "rejected" => {
+            "the node was asked without the transaction; ask with verbosity 0 or 2"
+        }
+        _ => "the node knows no such transaction: null",
+    }
 }
 
 /// The bytes of a transaction: its fields, or what an RPC or ckb-cli puts around them, where it may also stand as hex.
@@ -97,7 +99,7 @@ pub fn transaction(source: &Source, value: &Value) -> Result<Vec<u8>, Error> {
             if basinpantry::is_transaction(&bytes) { Ok(bytes) } else { Err(source.error(value.at, "these bytes are no transaction")) }
         }
         _ if value.field("code_hash").is_some() => Err(source.error(value.at, "this is a script, not a transaction")),
-        Kind::Null => Err(source.error(value.at, why_null(source, answer)?)),
+        Kind::Null => Err(source.error(value.at, why_null(answer))),
         _ => Ok(transaction_fields(source, value)?.to_bytes()),
     }
 }
