@@ -37,8 +37,8 @@ pub(crate) fn whole(low: u64, high: u64) -> u128 {
 /// Judges the peer's transaction against ours (no bytes: none), under the expected funding lock, the expected token type (no bytes: untyped), our
 /// source lock and a fee rate in shannons per 1000 bytes, over one record for each input that the peer added.
 ///
-/// An added input whose out point stands earlier among the peer's inputs is not refused, and its record is counted again, as in the original: a caller who
-/// minds compares the out points.
+/// An added input whose out point stands earlier among the peer's inputs is not refused, and its record is counted again, as in the original, though the chain
+/// takes no such transaction.
 ///
 /// After an acceptance the peer's transaction is in force, after a refusal ours ([`Negotiation`] keeps it). Refused: 1 to 8.
 ///
