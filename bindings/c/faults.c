@@ -199,24 +199,23 @@ static void put_transaction(struct text *t) {
     put_header(t, from, outer, 2);
 }
 
-static void put_record(struct text *t) {
-    if (one_in(6)) return;
+/* A table of something and data. */
+static void put_with_data(struct text *t, void (*first)(struct text *)) {
     size_t from = t->len, ends[2];
-    put_output(t);
+    first(t);
     ends[0] = t->len;
     put_entry(t);
     ends[1] = t->len;
     put_header(t, from, ends, 2);
 }
 
-static void put_token_cell(struct text *t) {
-    size_t from = t->len, ends[2];
-    put_random(t, 36, 256);
-    ends[0] = t->len;
-    put_entry(t);
-    ends[1] = t->len;
-    put_header(t, from, ends, 2);
+static void put_point(struct text *t) { put_random(t, 36, 256); }
+
+static void put_record(struct text *t) {
+    if (!one_in(6)) put_with_data(t, put_output);
 }
+
+static void put_token_cell(struct text *t) { put_with_data(t, put_point); }
 
 static void put_update(struct text *t) {
     size_t from = t->len, ends[4];
