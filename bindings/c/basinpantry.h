@@ -137,7 +137,7 @@ uint32_t basinpantry_build_base(const uint8_t *ours, size_t ours_len, const uint
 
 /* ---- tables of cells: bytes that the caller keeps and lends to each call. All zeros are the empty table; any other content is safe.
    A table is a count (4 bytes), then places of 48 bytes: an out point or a hash with four bytes of 0 behind it (36), a kind (4), a number (8). The places
-   beyond the count mean nothing, and a call leaves them as they were. A table of another length is 3, before all else.
+   beyond the count mean nothing, and a call leaves them as they were; those that stand it writes anew in this form. A table of another length is 3, before all else.
    Lists of out points are written to the start of their buffer as they are read: a count of four bytes and 36 bytes for each. */
 
 /* Held cells: 256 places. Kind 0 is a funding, and the number its holder; any other kind the watchtower, and the number the end in milliseconds. */
