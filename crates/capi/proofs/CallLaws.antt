@@ -13,7 +13,7 @@ use Rattle.funding_cell.specs.FundingCell.{buildFundingCell}
 use Rattle.udt_cells.specs.Change.{Built, udtInputsOutputs}
 use Rattle.base_writer.specs.Answer.{written}
 use Rattle.funding_builder.specs.Base.{Lent, buildBase}
-use Rattle.capi.specs.Answers.{cellWords, pickWords, countWords}
+use Rattle.answer_words.specs.Answers.{cellWords, pickWords, countWords}
 
 pub cell-told : (ours udt : List ℕ) (request : FundingRequest) (words : List ℕ) {q : FundingRequest} {o : Outcome _} {r : ℕ × List ℕ} → q ≡ request → o ≡ buildFundingCell ours udt q
     → r ≡ inWords cellWords o words → r ≡ inWords cellWords (buildFundingCell ours udt request) words

@@ -1,8 +1,4 @@
-pub mod AnswerLaws
 pub mod CallLaws
-pub mod BufferLaws
-pub mod ReplayLaws
 pub mod TableLaws
 pub mod TableWays
-pub mod Capacities
 pub mod Ways

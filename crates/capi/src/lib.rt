@@ -1,9 +1,8 @@
 // What a host in Rust or C links: the library's functions under plain names. A slice crosses as a pointer and then a length.
-mod answers;
-mod buffers;
 mod replay;
 mod tables;
 
+use answer_words::buffers;
 use arithmetic::Amount;
 use units::Tokens;
 ghost use mathlib.Core.Path.{_≡_};
@@ -21,8 +20,8 @@ ghost use Rattle.base_writer.specs.Answer.{written};
 ghost use Rattle.funding_builder.specs.Base.{buildBase};
 ghost use Rattle.words.specs.Words.{inWords, writing, surplusWords};
 ghost use Rattle.transaction_lists.specs.Lists.{versionOf, listIn, itemIn};
-ghost use Rattle.capi.specs.Answers.{countWords, cellWords, pickWords, request};
-ghost use Rattle.capi.specs.Buffers.{bytesIf, lineFirst};
+ghost use Rattle.answer_words.specs.Answers.{countWords, cellWords, pickWords, request};
+ghost use Rattle.answer_words.specs.Buffers.{bytesIf, lineFirst};
 
 // Whether s is a transaction.
 #[no_mangle]
@@ -88,7 +87,7 @@ pub extern "C" fn basinpantry_item(
     }
     let item = transaction_lists::item(tx, list, i);
     let written = buffers::put_first(item, out);
-    answers::tell_written(written, values)
+    answer_words::tell_written(written, values)
 }
 
 // Writes a transaction from its fields.
@@ -119,7 +118,7 @@ pub extern "C" fn basinpantry_write_transaction(
         witnesses,
         out,
     );
-    answers::tell_written(written, values)
+    answer_words::tell_written(written, values)
 }
 
 // Reads the fields of a transaction and writes them again.
@@ -131,7 +130,7 @@ pub extern "C" fn basinpantry_rewrite(tx: &[u8], out: &mut [u8], values: &mut [u
         return words::TOO_FEW;
     }
     let written = transaction_writer::rewrite(tx, out);
-    answers::tell_written(written, values)
+    answer_words::tell_written(written, values)
 }
 
 // Judges a peer's update.
@@ -177,7 +176,7 @@ pub extern "C" fn basinpantry_build_funding_cell(
 ) -> u32
     ensures { λ r. ⌜ (r, now (values .exit)) ≡ inWords cellWords (buildFundingCell (now (ours .entry)) (now (udt .entry)) (request «local_low» «local_high» «local_reserved» «remote_low» «remote_high» «remote_reserved»)) (now (values .entry)) ⌝ }
 {
-    let request = answers::request(
+    let request = answer_words::request(
         local_low,
         local_high,
         local_reserved,
@@ -186,7 +185,7 @@ pub extern "C" fn basinpantry_build_funding_cell(
         remote_reserved,
     );
     let cell = funding_cell::build_funding_cell(ours, udt, request);
-    answers::tell_cell(cell, values)
+    answer_words::tell_cell(cell, values)
 }
 
 // The token cells that are picked for a wanted amount, and the change output.
@@ -210,7 +209,7 @@ pub extern "C" fn basinpantry_build_udt_inputs_outputs(
         high: wanted_high,
     });
     let pick = udt_cells::build_udt_inputs_outputs(cells, udt, source, wanted, out);
-    answers::tell_pick(pick, values)
+    answer_words::tell_pick(pick, values)
 }
 
 // The base transaction of a request.
@@ -238,7 +237,7 @@ pub extern "C" fn basinpantry_build_base<'a>(
     if values.len() < words::WORDS {
         return words::TOO_FEW;
     }
-    let request = answers::request(
+    let request = answer_words::request(
         local_low,
         local_high,
         local_reserved,
@@ -258,5 +257,5 @@ pub extern "C" fn basinpantry_build_base<'a>(
         request,
         out,
     );
-    answers::tell_written(written, values)
+    answer_words::tell_written(written, values)
 }

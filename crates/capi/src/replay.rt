@@ -1,24 +1,9 @@
 // A list of updates judged one after another, from C.
-use negotiation::Replayed;
 ghost use mathlib.Core.Path.{_≡_};
 ghost use lib.ListN.{length};
-ghost use Rattle.negotiation.specs.Replay.{replayOf, leaves, answered};
-ghost use Rattle.words.specs.Words.{inWords, writing};
-ghost use Rattle.capi.specs.Answers.{replayWords};
-
-// What a list of updates came to: how many they were, how many were accepted, and which transaction is then in force.
-fn tell_replayed(replayed: Replayed, words: &mut [u64]) -> u32
-    ensures { λ r. ⌜ (r, now (words .exit)) ≡ inWords replayWords (answered replayed) (now (words .entry)) ⌝ }
-{
-    match replayed {
-        Replayed::Done {
-            updates,
-            accepted,
-            at,
-        } => words::set_four(words, 0, updates as u64, accepted as u64, at as u64, 0),
-        Replayed::Refused(why) => words::tell_refusal(why, words),
-    }
-}
+ghost use Rattle.negotiation.specs.Replay.{replayOf, leaves};
+ghost use Rattle.words.specs.Words.{writing};
+ghost use Rattle.answer_words.specs.Answers.{replayWords};
 
 // Judges a list of updates, each against the transaction that the one before it left in force.
 #[no_mangle]
@@ -36,5 +21,5 @@ pub extern "C" fn basinpantry_replay<'a>(
         return words::TOO_FEW;
     }
     let replayed = negotiation::replay(start, lock, udt, updates, answers);
-    tell_replayed(replayed, values)
+    answer_words::tell_replayed(replayed, values)
 }

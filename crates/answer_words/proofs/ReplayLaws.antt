@@ -8,7 +8,7 @@ use Rattle.negotiation.specs.declared.Replayed.{Replayed}
 use Rattle.negotiation.specs.Replay.{answered}
 use Rattle.words.specs.Words.{setWords, numberOf, valuesOf, inWords}
 use Rattle.words.proofs.WordLaws.{refused-as}
-use Rattle.capi.specs.Answers.{replayWords}
+use Rattle.answer_words.specs.Answers.{replayWords}
 
 module _ (x : Replayed) (words : List ℕ) {r : ℕ × List ℕ} where
   pub replay-done : {updates accepted at : ℕ} → x ≡ Replayed.Done updates accepted at → r ≡ setWords 0 (updates ∷ accepted ∷ at ∷ 0 ∷ []) words

@@ -14,7 +14,7 @@ use Rattle.funding_cell.specs.FundingCell as cell
 use Rattle.udt_cells.specs.declared.UdtInputsOutputs.{UdtInputsOutputs}
 use Rattle.udt_cells.specs.Change.{answered}
 use Rattle.base_writer.specs.Answer as writer
-use Rattle.capi.specs.Answers.{countWords, cellWords, pickWords}
+use Rattle.answer_words.specs.Answers.{countWords, cellWords, pickWords}
 
 pub bytes-written : (w : Written) (words : List ℕ) {n : ℕ} {r : ℕ × List ℕ} → w ≡ Written.Wrote n → r ≡ setWords 0 (n ∷ 0 ∷ 0 ∷ 0 ∷ []) words → r ≡ inWords countWords (writer.told w) words
 unfolding setWords inWords numberOf valuesOf countWords

@@ -1,7 +1,11 @@
-// The answers of our own side as words, and the figures that come as words.
+// The answers of the library's calls as a number and four words, the figures that come as words, and what is put at the start of a lent buffer.
+// The update's own answer is in crate words, which the run over a list of updates needs too.
+pub mod buffers;
+
 use arithmetic::Amount;
 use funding_cell::FundingCell;
 use funding_cell::FundingRequest;
+use negotiation::Replayed;
 use transaction_writer::Written;
 use udt_cells::UdtInputsOutputs;
 ghost use mathlib.Core.Path.{_≡_};
@@ -9,10 +13,11 @@ ghost use Rattle.words.specs.Words.{inWords};
 ghost use Rattle.funding_cell.specs.FundingCell as funding;
 ghost use Rattle.udt_cells.specs.Change.{answered};
 ghost use Rattle.base_writer.specs.Answer as writer;
-ghost use Rattle.capi.specs.Answers.{countWords, cellWords, pickWords, request};
+ghost use Rattle.negotiation.specs.Replay as replay;
+ghost use Rattle.answer_words.specs.Answers.{countWords, cellWords, pickWords, replayWords, request};
 
 // The answer of a call that writes: how many bytes it wrote.
-pub(crate) fn tell_written(written: Written, words: &mut [u64]) -> u32
+pub fn tell_written(written: Written, words: &mut [u64]) -> u32
     ensures { λ r. ⌜ (r, now (words .exit)) ≡ inWords countWords (writer.told written) (now (words .entry)) ⌝ }
 {
     match written {
@@ -22,7 +27,7 @@ pub(crate) fn tell_written(written: Written, words: &mut [u64]) -> u32
 }
 
 // The funding cell: its capacity and its token amount.
-pub(crate) fn tell_cell(cell: FundingCell, words: &mut [u64]) -> u32
+pub fn tell_cell(cell: FundingCell, words: &mut [u64]) -> u32
     ensures { λ r. ⌜ (r, now (words .exit)) ≡ inWords cellWords (funding.told cell) (now (words .entry)) ⌝ }
 {
     match cell {
@@ -34,7 +39,7 @@ pub(crate) fn tell_cell(cell: FundingCell, words: &mut [u64]) -> u32
 }
 
 // The pick: how many cells, the change, and the capacity of its output.
-pub(crate) fn tell_pick(pick: UdtInputsOutputs, words: &mut [u64]) -> u32
+pub fn tell_pick(pick: UdtInputsOutputs, words: &mut [u64]) -> u32
     ensures { λ r. ⌜ (r, now (words .exit)) ≡ inWords pickWords (answered pick) (now (words .entry)) ⌝ }
 {
     match pick {
@@ -54,8 +59,22 @@ pub(crate) fn tell_pick(pick: UdtInputsOutputs, words: &mut [u64]) -> u32
     }
 }
 
+// What a list of updates came to: how many they were, how many were accepted, and which transaction is then in force.
+pub fn tell_replayed(replayed: Replayed, words: &mut [u64]) -> u32
+    ensures { λ r. ⌜ (r, now (words .exit)) ≡ inWords replayWords (replay.answered replayed) (now (words .entry)) ⌝ }
+{
+    match replayed {
+        Replayed::Done {
+            updates,
+            accepted,
+            at,
+        } => words::set_four(words, 0, updates as u64, accepted as u64, at as u64, 0),
+        Replayed::Refused(why) => words::tell_refusal(why, words),
+    }
+}
+
 // The figures of a request, which cross as words.
-pub(crate) fn request(
+pub fn request(
     local_low: u64,
     local_high: u64,
     local_reserved: u64,

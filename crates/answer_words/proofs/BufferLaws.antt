@@ -7,7 +7,7 @@ use native.Mathlib.Nat.{zero-add}
 use native.Mathlib.Omega.{arith}
 use borrow.Author.Tests.{le-leb, lt-leb}
 use lib.ListN.{length, take, drop}
-use lib.Seq.{take-at, length-take-le}
+use lib.Seq.{take-at, take-all, length-take-le}
 use Rattle.error.specs.declared.Refusal.{Refusal}
 use Rattle.error.specs.Refusal.{number, values}
 use Rattle.molecule.specs.Partial.{pick}
@@ -21,8 +21,8 @@ use Rattle.transaction_writer.specs.Written as tx
 use Rattle.base_writer.specs.Answer.{inRoom, leaves, written, told}
 use Rattle.words.specs.Words.{inWords, writing}
 use Rattle.words.proofs.WordLaws.{wrote}
-use Rattle.capi.specs.Answers.{countWords}
-use Rattle.capi.specs.Buffers.{bytesIf, lineFirst}
+use Rattle.answer_words.specs.Answers.{countWords}
+use Rattle.answer_words.specs.Buffers.{bytesIf, lineFirst}
 
 -- ---- bytes
 
@@ -79,14 +79,21 @@ pub line-none : (line out : List ℕ) → length out < 105 → (0, out) ≡ line
 unfolding lineFirst
 line-none line out h = rw (lt-leb 105 (length out) h)
 
-pub line-put : (made out : List ℕ) (n : ℕ) {after : List ℕ} {m : ℕ} → n ≤ length made → length made ≡ 105 → 105 ≤ length out
-    → after ≡ putAt out 0 (take (n - 0) made) → m ≡ putEnd out 0 (take (n - 0) made) → (m, after) ≡ lineFirst (take n made) out
+put-line : (line out : List ℕ) {after : List ℕ} {m : ℕ} → length line ≤ 105 → 105 ≤ length out → after ≡ putAt out 0 line → m ≡ putEnd out 0 line → (m, after) ≡ lineFirst line out
 unfolding lineFirst
-line-put made out n k l h p q =
-    let t : length (take n made) ≡ n = length-take-le n made k in
-    let z : n - 0 ≡ n = omega arith in
+put-line line out l h p q =
     rw (le-leb 105 (length out) h)
-    (ap₂ (λ (a : ℕ) (b : List ℕ). (a, b)) (rw z at q ∙ end-yes out 0 (take n made) (omega arith) ∙ zero-add _) (rw z at p ∙ put-yes out 0 (take n made) (omega arith) ∙ splice-zero out (take n made)))
+    (ap₂ (λ (a : ℕ) (b : List ℕ). (a, b)) (q ∙ end-yes out 0 line (omega arith) ∙ zero-add _) (p ∙ put-yes out 0 line (omega arith) ∙ splice-zero out line))
+
+module _ (made out : List ℕ) (n : ℕ) {after : List ℕ} {m : ℕ} where
+  pub line-put : n < 105 → length made ≡ 105 → 105 ≤ length out → after ≡ putAt out 0 (take (n - 0) made) → m ≡ putEnd out 0 (take (n - 0) made) → (m, after) ≡ lineFirst (take n made) out
+  line-put b l h p q =
+      let z : n - 0 ≡ n = omega arith in
+      let t : length (take n made) ≡ n = length-take-le n made (omega arith) in
+      put-line (take n made) out (omega arith) h (rw z at p) (rw z at q)
+
+  pub line-whole : 105 ≤ n → length made ≡ 105 → 105 ≤ length out → after ≡ putAt out 0 made → m ≡ putEnd out 0 made → (m, after) ≡ lineFirst (take n made) out
+  line-whole b l h p q = rw (take-all n made (omega arith)) (put-line made out (omega arith) h p q)
 
 pub line-told : (line zeros out : List ℕ) {made : List ℕ} {n : ℕ} {r : ℕ × List ℕ} → made ≡ splice zeros 0 line → n ≡ length line → r ≡ lineFirst (take n made) out → r ≡ lineFirst line out
 line-told line zeros out {n = n} e f k = k ∙ rw (e, splice-zero zeros line, take-at line (drop (length line) zeros) n (sym f))
