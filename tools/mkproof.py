@@ -44,7 +44,8 @@ def printed(lines):
 
 
 def short(crate, text, hint):
-    needs = re.search(r'tie\.spec\s+(.*?)\)\s*$', text, re.S).group(1).split()
+    spec = re.search(r'tie\.spec\s+(.*?)\)\s*$', text, re.S)
+    needs = spec.group(1).split() if spec else []  # a function that the borrow checker does not cover has none
     if not needs:
         return None
     binders = dict(re.findall(r'^(\S+) (c(?: κs)?) = ', text, re.M))

@@ -4,7 +4,7 @@ and `pub mod` lines. Run it in the repository's root; docs/SPECIFICATION.md quot
 import glob
 
 PARTS = {
-    'reading, writing, amounts and errors': 'arithmetic units error molecule transaction transaction_writer',
+    'reading, writing, amounts and errors': 'arithmetic units error molecule transaction reader transaction_writer',
     'the rules and demand 3': 'rules funding_tx lists comparison records contribution negotiation',
     'case files and their lines': 'case_file verdict_line',
     'out points and the tables of cells': 'out_points hold_records picks held_cells exclusions table_bytes held_bytes exclusion_bytes',
