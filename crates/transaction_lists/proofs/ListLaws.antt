@@ -6,12 +6,15 @@ use mathlib.Core.List.{List, [], _∷_, _++_}
 use native.Mathlib.Nat.{add-zero, zero-add, add-suc}
 use native.Mathlib.Omega.{arith}
 use borrow.Author.Tests.{le-leb, lt-leb, not-true, not-false}
+use Rattle.arithmetic.specs.LittleEndian.{u32At}
 use lib.ListN.{length, take, drop, getD, List·getD-eq-default}
 use Rattle.molecule.specs.Molecule.{readable}
 use Rattle.molecule.specs.Layout.{span, part, itemCount, itemOf, fixCount, fixItem, entryOf}
 use Rattle.molecule.proofs.Offsets.{span-length}
 use Rattle.transaction.specs.Ckb.{Transaction}
 use Rattle.transaction.specs.Tx.{Tx, txAt, rawField, witnessesOf}
+use Rattle.reader.specs.Places.{tableAt, fixvecAt, rawAt, witnessesAt}
+use Rattle.reader.proofs.TransactionLaws.{reads-version, reads-cell-deps, reads-header-deps, reads-inputs, reads-outputs, reads-outputs-data, reads-witnesses}
 use Rattle.transaction_lists.specs.Lists.{versionOf, listOf, listIn, itemIn}
 
 span-at : {A : Type 0} (f : ℕ → A) (none : A) (j i k : ℕ) → i < k → getD (span f j k) i none ≡ f (j + i)
@@ -25,15 +28,18 @@ module _ (tx : List ℕ) (list : ℕ) {r : Bool} (e : r ≡ readable Transaction
   unfolding versionOf
   version-none h = rw (← e, not-true r h)
 
-  pub version-some : {v : ℕ} → not r ≡ false → v ≡ txAt tx .version → v ≡ versionOf tx
+  pub version-some : {v : ℕ} → not r ≡ false → v ≡ u32At tx (rawAt tx 0) → v ≡ versionOf tx
   unfolding versionOf
-  version-some h k = rw (← e, not-false r h) k
+  version-some h k = rw (← e, not-false r h) (k ∙ reads-version tx (sym e ∙ not-false r h))
 
   pub count-none : not r ≡ true → 0 ≡ length (listIn tx list)
   unfolding listIn
   count-none h = rw (← e, not-true r h)
 
   module _ (h : not r ≡ false) where
+    reads : readable Transaction tx ≡ true
+    reads = sym e ∙ not-false r h
+
     is-there : listIn tx list ≡ listOf (txAt tx) list
     unfolding listIn
     is-there = rw (← e, not-false r h)
@@ -41,29 +47,29 @@ module _ (tx : List ℕ) (list : ℕ) {r : Bool} (e : r ≡ readable Transaction
     count-as : {n : ℕ} (k : ℕ) → list ≡ k → n ≡ length (listOf (txAt tx) k) → n ≡ length (listIn tx list)
     count-as k g q = q ∙ rw (is-there, g)
 
-    pub count-cell-deps : {n : ℕ} → list ≡ 0 → n ≡ fixCount (rawField tx 1) → n ≡ length (listIn tx list)
+    pub count-cell-deps : {n : ℕ} → list ≡ 0 → n ≡ u32At tx (rawAt tx 1) → n ≡ length (listIn tx list)
     unfolding listOf
-    count-cell-deps g q = count-as 0 g (q ∙ sym (span-length (fixItem (rawField tx 1) 37) 0 _))
+    count-cell-deps g q = count-as 0 g (q ∙ reads-cell-deps tx reads .count ∙ sym (span-length (fixItem (rawField tx 1) 37) 0 _))
 
-    pub count-header-deps : {n : ℕ} → list ≡ 1 → n ≡ fixCount (rawField tx 2) → n ≡ length (listIn tx list)
+    pub count-header-deps : {n : ℕ} → list ≡ 1 → n ≡ u32At tx (rawAt tx 2) → n ≡ length (listIn tx list)
     unfolding listOf
-    count-header-deps g q = count-as 1 g (q ∙ sym (span-length (fixItem (rawField tx 2) 32) 0 _))
+    count-header-deps g q = count-as 1 g (q ∙ reads-header-deps tx reads .count ∙ sym (span-length (fixItem (rawField tx 2) 32) 0 _))
 
-    pub count-inputs : {n : ℕ} → list ≡ 2 → n ≡ fixCount (rawField tx 3) → n ≡ length (listIn tx list)
+    pub count-inputs : {n : ℕ} → list ≡ 2 → n ≡ u32At tx (rawAt tx 3) → n ≡ length (listIn tx list)
     unfolding listOf
-    count-inputs g q = count-as 2 g (q ∙ sym (span-length (fixItem (rawField tx 3) 44) 0 _))
+    count-inputs g q = count-as 2 g (q ∙ reads-inputs tx reads .count ∙ sym (span-length (fixItem (rawField tx 3) 44) 0 _))
 
-    pub count-outputs : {n : ℕ} → list ≡ 3 → n ≡ itemCount (rawField tx 4) → n ≡ length (listIn tx list)
+    pub count-outputs : {n : ℕ} → list ≡ 3 → n ≡ itemCount (tableAt tx (rawAt tx 4)) → n ≡ length (listIn tx list)
     unfolding listOf
-    count-outputs g q = count-as 3 g (q ∙ sym (span-length (itemOf (rawField tx 4)) 0 _))
+    count-outputs g q = count-as 3 g (q ∙ ap itemCount (reads-outputs tx reads .list) ∙ sym (span-length (itemOf (rawField tx 4)) 0 _))
 
-    pub count-outputs-data : {n : ℕ} → list ≡ 4 → n ≡ itemCount (rawField tx 5) → n ≡ length (listIn tx list)
+    pub count-outputs-data : {n : ℕ} → list ≡ 4 → n ≡ itemCount (tableAt tx (rawAt tx 5)) → n ≡ length (listIn tx list)
     unfolding listOf
-    count-outputs-data g q = count-as 4 g (q ∙ sym (span-length (entryOf (rawField tx 5)) 0 _))
+    count-outputs-data g q = count-as 4 g (q ∙ ap itemCount (reads-outputs-data tx reads .list) ∙ sym (span-length (entryOf (rawField tx 5)) 0 _))
 
-    pub count-witnesses : {n : ℕ} → list ≡ 5 → n ≡ itemCount (witnessesOf tx) → n ≡ length (listIn tx list)
+    pub count-witnesses : {n : ℕ} → list ≡ 5 → n ≡ itemCount (tableAt tx (witnessesAt tx)) → n ≡ length (listIn tx list)
     unfolding listOf
-    count-witnesses g q = count-as 5 g (q ∙ sym (span-length (entryOf (witnessesOf tx)) 0 _))
+    count-witnesses g q = count-as 5 g (q ∙ ap itemCount (reads-witnesses tx reads .list) ∙ sym (span-length (entryOf (witnessesOf tx)) 0 _))
 
 beyond : (tx : Tx) (list : ℕ) → (list ≡ 0 → ⊥) → (list ≡ 1 → ⊥) → (list ≡ 2 → ⊥) → (list ≡ 3 → ⊥) → (list ≡ 4 → ⊥) → (list ≡ 5 → ⊥) → listOf tx list ≡ []
 unfolding listOf
@@ -88,36 +94,42 @@ module _ (tx : List ℕ) (list i : ℕ) {n : ℕ} (e : n ≡ length (listIn tx l
 
   module _ (h : i < n) where
     -- where there is an item, there is a transaction
-    some-there : (b : Bool) → readable Transaction tx ≡ b → listIn tx list ≡ listOf (txAt tx) list
+    pub reads-it : readable Transaction tx ≡ true
+    reads-it = by (readable Transaction tx) refl
+      where
+        by : (b : Bool) → readable Transaction tx ≡ b → b ≡ true
+        by true g = refl
+        by false g = absurd (let z : length (listIn tx list) ≡ 0 = unfold listIn in rw g in omega arith)
+
+    some-there : listIn tx list ≡ listOf (txAt tx) list
     unfolding listIn
-    some-there true g = rw g
-    some-there false g = absurd (let z : length (listIn tx list) ≡ 0 = unfold listIn in rw g in omega arith)
+    some-there = rw reads-it
 
     item-as : {x : List ℕ} (k : ℕ) (f : ℕ → List ℕ) (m : ℕ) → list ≡ k → listOf (txAt tx) k ≡ span f 0 m → x ≡ f i → x ≡ itemIn tx list i
     item-as k f m g s q =
-        let l : listIn tx list ≡ span f 0 m = some-there _ refl ∙ rw g s in
+        let l : listIn tx list ≡ span f 0 m = some-there ∙ rw g s in
         let w : i < m = omega (arith, ap length l, span-length f 0 m) in
         q ∙ sym (rw l (span-at f [] 0 i m w ∙ ap f (zero-add i)))
 
-    pub item-cell-dep : {x : List ℕ} → list ≡ 0 → x ≡ fixItem (rawField tx 1) 37 i → x ≡ itemIn tx list i
+    pub item-cell-dep : {x : List ℕ} → list ≡ 0 → x ≡ fixItem (fixvecAt tx (rawAt tx 1) 37) 37 i → x ≡ itemIn tx list i
     unfolding listOf
-    item-cell-dep g q = item-as 0 (fixItem (rawField tx 1) 37) _ g refl q
+    item-cell-dep g q = item-as 0 (fixItem (rawField tx 1) 37) _ g refl (rw (reads-cell-deps tx reads-it .list) at q)
 
-    pub item-header-dep : {x : List ℕ} → list ≡ 1 → x ≡ fixItem (rawField tx 2) 32 i → x ≡ itemIn tx list i
+    pub item-header-dep : {x : List ℕ} → list ≡ 1 → x ≡ fixItem (fixvecAt tx (rawAt tx 2) 32) 32 i → x ≡ itemIn tx list i
     unfolding listOf
-    item-header-dep g q = item-as 1 (fixItem (rawField tx 2) 32) _ g refl q
+    item-header-dep g q = item-as 1 (fixItem (rawField tx 2) 32) _ g refl (rw (reads-header-deps tx reads-it .list) at q)
 
-    pub item-input : {x : List ℕ} → list ≡ 2 → x ≡ fixItem (rawField tx 3) 44 i → x ≡ itemIn tx list i
+    pub item-input : {x : List ℕ} → list ≡ 2 → x ≡ fixItem (fixvecAt tx (rawAt tx 3) 44) 44 i → x ≡ itemIn tx list i
     unfolding listOf
-    item-input g q = item-as 2 (fixItem (rawField tx 3) 44) _ g refl q
+    item-input g q = item-as 2 (fixItem (rawField tx 3) 44) _ g refl (rw (reads-inputs tx reads-it .list) at q)
 
-    pub item-output : {x : List ℕ} → list ≡ 3 → x ≡ itemOf (rawField tx 4) i → x ≡ itemIn tx list i
+    pub item-output : {x : List ℕ} → list ≡ 3 → x ≡ itemOf (tableAt tx (rawAt tx 4)) i → x ≡ itemIn tx list i
     unfolding listOf
-    item-output g q = item-as 3 (itemOf (rawField tx 4)) _ g refl q
+    item-output g q = item-as 3 (itemOf (rawField tx 4)) _ g refl (rw (reads-outputs tx reads-it .list) at q)
 
-    pub item-output-data : {x : List ℕ} → list ≡ 4 → x ≡ entryOf (rawField tx 5) i → x ≡ itemIn tx list i
+    pub item-output-data : {x : List ℕ} → list ≡ 4 → x ≡ entryOf (tableAt tx (rawAt tx 5)) i → x ≡ itemIn tx list i
     unfolding listOf
-    item-output-data g q = item-as 4 (entryOf (rawField tx 5)) _ g refl q
+    item-output-data g q = item-as 4 (entryOf (rawField tx 5)) _ g refl (rw (reads-outputs-data tx reads-it .list) at q)
 
 -- the list that is left, of those that have items
 last-list : (tx : Tx) (list : ℕ) → 0 < length (listOf tx list) → (list ≡ 0 → ⊥) → (list ≡ 1 → ⊥) → (list ≡ 2 → ⊥) → (list ≡ 3 → ⊥) → (list ≡ 4 → ⊥) → list ≡ 5
@@ -133,10 +145,10 @@ last-list tx (suc (suc (suc (suc (suc (suc list)))))) h a b c d e = absurd (omeg
 pub left-is-witnesses : (tx : List ℕ) (list i : ℕ) {n : ℕ} → n ≡ length (listIn tx list) → i < n
     → (list ≡ 0 → ⊥) → (list ≡ 1 → ⊥) → (list ≡ 2 → ⊥) → (list ≡ 3 → ⊥) → (list ≡ 4 → ⊥) → list ≡ 5
 left-is-witnesses tx list i q h a b c d e =
-    let l = ap length (some-there tx list i q h _ refl) in
+    let l = ap length (some-there tx list i q h) in
     last-list (txAt tx) list (omega arith) a b c d e
 
 pub item-witness : (tx : List ℕ) (list i : ℕ) {n : ℕ} {x : List ℕ} → n ≡ length (listIn tx list) → i < n
-    → (list ≡ 0 → ⊥) → (list ≡ 1 → ⊥) → (list ≡ 2 → ⊥) → (list ≡ 3 → ⊥) → (list ≡ 4 → ⊥) → x ≡ entryOf (witnessesOf tx) i → x ≡ itemIn tx list i
+    → (list ≡ 0 → ⊥) → (list ≡ 1 → ⊥) → (list ≡ 2 → ⊥) → (list ≡ 3 → ⊥) → (list ≡ 4 → ⊥) → x ≡ entryOf (tableAt tx (witnessesAt tx)) i → x ≡ itemIn tx list i
 unfolding listOf
-item-witness tx list i q h a b c d e w = item-as tx list i q h 5 (entryOf (witnessesOf tx)) _ (left-is-witnesses tx list i q h a b c d e) refl w
+item-witness tx list i q h a b c d e w = item-as tx list i q h 5 (entryOf (witnessesOf tx)) _ (left-is-witnesses tx list i q h a b c d e) refl (rw (reads-witnesses tx (reads-it tx list i q h) .list) at w)

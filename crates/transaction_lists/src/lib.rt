@@ -1,5 +1,5 @@
 // What stands in a transaction, with its lists by number, for a caller that has no part of the bytes in hand. Each call reads whether the bytes are a transaction.
-use transaction::fields;
+use reader::lists;
 ghost use mathlib.Core.Path.{_≡_};
 ghost use lib.ListN.{length};
 ghost use Rattle.molecule.specs.Layout.{inside};
@@ -24,7 +24,7 @@ pub fn version(tx: &[u8]) -> u32
     if !transaction::is_transaction(tx) {
         return 0;
     }
-    fields::version(tx)
+    lists::version(tx)
 }
 
 // How many items a list has.
@@ -35,22 +35,22 @@ pub fn item_count(tx: &[u8], list: u32) -> u32
         return 0;
     }
     if list == CELL_DEPS {
-        return fields::cell_dep_count(tx);
+        return lists::cell_dep_count(tx);
     }
     if list == HEADER_DEPS {
-        return fields::header_dep_count(tx);
+        return lists::header_dep_count(tx);
     }
     if list == INPUTS {
-        return fields::input_count(tx);
+        return lists::input_count(tx);
     }
     if list == OUTPUTS {
-        return fields::output_count(tx);
+        return lists::output_count(tx);
     }
     if list == OUTPUTS_DATA {
-        return fields::output_data_count(tx);
+        return lists::output_data_count(tx);
     }
     if list == WITNESSES {
-        return fields::witness_count(tx);
+        return lists::witness_count(tx);
     }
     0
 }
@@ -65,20 +65,20 @@ pub fn item(tx: &[u8], list: u32, i: usize) -> &[u8]
         return molecule::part(tx, 0, 0);
     }
     if list == CELL_DEPS {
-        return fields::cell_dep(tx, i);
+        return lists::cell_dep(tx, i);
     }
     if list == HEADER_DEPS {
-        return fields::header_dep(tx, i);
+        return lists::header_dep(tx, i);
     }
     if list == INPUTS {
-        return fields::input(tx, i);
+        return lists::input(tx, i);
     }
     if list == OUTPUTS {
-        return fields::output(tx, i);
+        return lists::output(tx, i);
     }
     if list == OUTPUTS_DATA {
-        return fields::output_data(tx, i);
+        return lists::output_data(tx, i);
     }
     // the last of the lists, since an item is there
-    fields::witness(tx, i)
+    lists::witness(tx, i)
 }
