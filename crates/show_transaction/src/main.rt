@@ -1,6 +1,7 @@
 // Reads a transaction from standard input, at most 65,536 bytes, and prints what stands in it, or why it is refused.
 use libc::STDIN_FILENO;
 use libc::STDOUT_FILENO;
+use reader::lists;
 use transaction::fields;
 
 fn text(s: &[u8]) {
@@ -48,11 +49,11 @@ fn script(label: &[u8], s: &[u8]) {
 }
 
 fn show_cell_deps(s: &[u8]) {
-    let n = fields::cell_dep_count(s) as usize;
+    let n = lists::cell_dep_count(s) as usize;
     line(b"cell deps ", n as u64);
     let mut i = 0;
     while i < n {
-        let dep = fields::cell_dep(s, i);
+        let dep = lists::cell_dep(s, i);
         text(b"  ");
         out_point(fields::out_point(dep));
         line(b", dep type ", fields::dep_type(dep) as u64);
@@ -61,23 +62,23 @@ fn show_cell_deps(s: &[u8]) {
 }
 
 fn show_header_deps(s: &[u8]) {
-    let n = fields::header_dep_count(s) as usize;
+    let n = lists::header_dep_count(s) as usize;
     line(b"header deps ", n as u64);
     let mut i = 0;
     while i < n {
         text(b"  ");
-        hex(fields::header_dep(s, i));
+        hex(lists::header_dep(s, i));
         text(b"\n");
         i += 1;
     }
 }
 
 fn show_inputs(s: &[u8]) {
-    let n = fields::input_count(s) as usize;
+    let n = lists::input_count(s) as usize;
     line(b"inputs ", n as u64);
     let mut i = 0;
     while i < n {
-        let input = fields::input(s, i);
+        let input = lists::input(s, i);
         text(b"  ");
         out_point(fields::previous_output(input));
         line(b", since ", fields::since(input));
@@ -86,7 +87,7 @@ fn show_inputs(s: &[u8]) {
 }
 
 fn show_output(s: &[u8], i: usize) {
-    let output = fields::output(s, i);
+    let output = lists::output(s, i);
     let capacity = fields::capacity(output);
     line(b"  shannons ", capacity.0.low);
     script(b"    lock ", fields::lock(output));
@@ -95,12 +96,12 @@ fn show_output(s: &[u8], i: usize) {
         script(b"    type ", kind);
     }
     text(b"    data ");
-    hex(fields::output_data(s, i));
+    hex(lists::output_data(s, i));
     text(b"\n");
 }
 
 fn show_outputs(s: &[u8]) {
-    let n = fields::output_count(s) as usize;
+    let n = lists::output_count(s) as usize;
     line(b"outputs ", n as u64);
     let mut i = 0;
     while i < n {
@@ -110,12 +111,12 @@ fn show_outputs(s: &[u8]) {
 }
 
 fn show_witnesses(s: &[u8]) {
-    let n = fields::witness_count(s) as usize;
+    let n = lists::witness_count(s) as usize;
     line(b"witnesses ", n as u64);
     let mut i = 0;
     while i < n {
         text(b"  ");
-        hex(fields::witness(s, i));
+        hex(lists::witness(s, i));
         text(b"\n");
         i += 1;
     }
@@ -127,7 +128,7 @@ fn show(s: &[u8]) {
         return;
     }
     line(b"bytes ", s.len() as u64);
-    line(b"version ", fields::version(s) as u64);
+    line(b"version ", lists::version(s) as u64);
     show_cell_deps(s);
     show_header_deps(s);
     show_inputs(s);
