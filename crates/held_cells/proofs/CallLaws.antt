@@ -20,7 +20,7 @@ use Rattle.hold_records.specs.declared.{Owner.Owner, Hold.Hold, Held.Held, Rule
 use Rattle.hold_records.specs.Holds.{recordsOf, heldBy, cellsOf, atMost256, isUnnamed, renewAll, holdFunding, releaseForWatchtower, holdForWatchtower, lockHeld, isBusy, firsts, unavailable, ownerFor, takeCells}
 use Rattle.hold_records.specs.Rules.{isKept, putIf}
 use Rattle.hold_records.proofs.LoopLaws.{recorded}
-use Rattle.picks.specs.Places.{takeFrom}
+use Rattle.picks.specs.Places.{isAmong, takeFrom}
 
 abbrev After : Type 0
 After = Outcome Held (List Hold)
@@ -142,6 +142,6 @@ module _ (h : Held) (picked spent : List ℕ) (taker : Taker) (time : Millis) (o
     take-unspent t e = rw (e, ← ea, not-false a ta, ← eb, not-true b t)
 
     pub take-live : (k : Held) {owner : Owner} {o : After} {b₁ b₂ : List ℕ} → not b ≡ false → recordsOf k ≡ keep (isKept (Rule.Live time)) (recordsOf h) → owner ≡ ownerFor taker time
-        → (o, b₁, b₂) ≡ takeFrom h (recordsOf k) (points picked) (points spent) owner out₁ out₂ → (o, b₁, b₂) ≡ takeCells h picked spent taker time out₁ out₂
-    unfolding takeCells takeFrom isKept
+        → (o, b₁, b₂) ≡ takeFrom h (recordsOf k) (cellsOf (recordsOf k)) (points picked) (points spent) owner out₁ out₂ → (o, b₁, b₂) ≡ takeCells h picked spent taker time out₁ out₂
+    unfolding takeCells takeFrom isAmong isBusy isKept
     take-live k tb ek eo e = e ∙ rw (← ea, not-false a ta, ← eb, not-false b tb, ek, eo)

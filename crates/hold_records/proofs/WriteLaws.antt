@@ -1,6 +1,6 @@
 -- A list of out points written one by one, and the loop over a table's records that does it.
-use mathlib.Core.Path.{_≡_, refl, sym, ap, _∙_}
-use Prim.Native.Nat.{ℕ, suc, _+_, _-_, _*_, _≤_, _<_, min}
+use mathlib.Core.Path.{_≡_, refl, sym, ap, _∙_, subst}
+use Prim.Native.Nat.{ℕ, suc, _+_, _-_, _*_, _^_, _≤_, _<_, min}
 use native.Mathlib.Omega.{arith}
 use borrow.Author.Tests.{le-leb, lt-leb}
 use mathlib.Core.Bool.{true, false}
@@ -9,12 +9,14 @@ use lib.ListN.{length, getD, drop, length-append, length-map, length-take, lengt
 use lib.Seq.{append-snoc}
 use Rattle.arithmetic.specs.LittleEndian.{toLe}
 use Rattle.arithmetic.proofs.LittleEndianLaws.{length-toLe}
+use Rattle.molecule.specs.Partial.{All}
 use Rattle.molecule.specs.Write.{putAt, putEnd, Put}
 use Rattle.molecule.proofs.WriteLaws.{none, did, then, and-put, as-bytes, length-kept, splice-zero}
 use Rattle.out_points.specs.declared.{OutPoint.OutPoint}
-use Rattle.out_points.specs.OutPoints.{pointBytes, bytesOf, pointList}
+use Rattle.out_points.specs.OutPoints.{Fit, points, pointBytes, bytesOf, pointList}
 use Rattle.out_points.proofs.PointLaws.{length-point}
 use Rattle.out_points.proofs.ListLaws.{length-bytes, length-list}
+use Rattle.out_points.proofs.AgainLaws.{list-before}
 use Rattle.hold_records.specs.declared.{Hold.Hold, Held.Held}
 use Rattle.out_points.specs.Tables.{hasRoom, written}
 use Rattle.hold_records.specs.Holds.{recordsOf, cellsOf}
@@ -104,6 +106,7 @@ pub record Cells (h : Held) (from n i : ℕ) (out₀ : List ℕ) (at₀ : ℕ) (
   pub counted : n ≡ min (h .count) 256
   pub whole : length (h .records) ≡ 256
   pub listing : Listing (cellsOf (drop from (recordsOf h))) (cellsOf (drop i (recordsOf h))) out₀ at₀ out at
+  pub fit : All Fit (cellsOf (drop i (recordsOf h))) → All Fit (cellsOf (drop from (recordsOf h)))
 
 length-cells : (h : Held) (from : ℕ) → length (h .records) ≡ 256 → min (h .count) 256 - from ≡ length (cellsOf (drop from (recordsOf h)))
 unfolding recordsOf
@@ -111,20 +114,32 @@ length-cells h from w = simp (length-map, length-drop, length-take) (omega arith
 
 pub cells-start : (h : Held) (from : ℕ) (out : List ℕ) (at : ℕ) {n : ℕ} → at + 36 * (min (h .count) 256 - from) ≤ length out → n ≡ min (h .count) 256 → length (h .records) ≡ 256 → Cells h from n from out at out at
 cells-start h from out at room e w =
-    record { counted = e; whole = w; listing = list-start (cellsOf (drop from (recordsOf h))) out at (omega (arith, length-cells h from w)) }
+    record { counted = e; whole = w; listing = list-start (cellsOf (drop from (recordsOf h))) out at (omega (arith, length-cells h from w)); fit = λ f. f }
 
 module _ {h : Held} {from n i : ℕ} {out₀ : List ℕ} {at₀ : ℕ} {out : List ℕ} {at : ℕ} (k : Cells h from n i out₀ at₀ out at) where
-  pub cells-more : (d : Hold) {o : List ℕ} {a : ℕ} → i < n → o ≡ putAt out at (pointBytes (getD (h .records) i d .point)) → a ≡ putEnd out at (pointBytes (getD (h .records) i d .point)) → Cells h from n (i + 1) out₀ at₀ o a
-  cells-more d l e f =
+  pub cells-more : (d : Hold) {p : OutPoint} {o : List ℕ} {a : ℕ} → i < n → p ≡ getD (h .records) i d .point → Fit p → o ≡ putAt out at (pointBytes p) → a ≡ putEnd out at (pointBytes p)
+      → Cells h from n (i + 1) out₀ at₀ o a
+  cells-more d {p} l ep fp e f =
       let c = k .counted in
       let x : drop i (recordsOf h) ≡ getD (h .records) i d ∷ drop (i + 1) (recordsOf h) = drop-record h i d (k .whole) (omega arith) in
-      record { counted = c; whole = k .whole; listing = list-more (getD (h .records) i d .point) (rw x at (k .listing)) e f }
+      let q : Fit (getD (h .records) i d .point) = rw ep at fp in
+      record {
+        counted = c;
+        whole = k .whole;
+        listing = list-more (getD (h .records) i d .point) (rw x at (k .listing)) (rw ep at e) (rw ep at f);
+        fit = λ r. k .fit (subst (λ (y : List Hold). All Fit (cellsOf y)) (sym x) (q, r));
+      }
 
   pub cells-end : n ≤ i → Put out₀ at₀ (bytesOf (cellsOf (drop from (recordsOf h)))) out at
   cells-end l =
       let c = k .counted in
       let x : drop i (recordsOf h) ≡ [] = drop-none h i (k .whole) (omega arith) in
       list-end (rw x at (k .listing))
+
+  pub cells-fitting : n ≤ i → All Fit (cellsOf (drop from (recordsOf h)))
+  cells-fitting l =
+      let c = k .counted in
+      k .fit (subst (λ (y : List Hold). All Fit (cellsOf y)) (sym (drop-none h i (k .whole) (omega arith))) tt)
 
   pub cells-long : length out ≡ length out₀
   cells-long = list-long (k .listing)
@@ -152,3 +167,23 @@ module _ (h : Held) (from : ℕ) (out : List ℕ) {u n : ℕ} (eu : u ≡ min (h
       pub cells-written : {o₂ : List ℕ} {a : ℕ} → Put o at (bytesOf (cellsOf (drop from (recordsOf h)))) o₂ a → o₂ ≡ putIf (cellsOf (drop from (recordsOf h))) out
       cells-written p =
           list-put (cellsOf (drop from (recordsOf h))) out counted-cells room e f p ∙ sym (put-yes (cellsOf (drop from (recordsOf h))) out cells-fit)
+
+-- ---- list_cells
+
+pub fits-point : {p : OutPoint} → p .hash .a < 2 ^ 64 → p .hash .b < 2 ^ 64 → p .hash .c < 2 ^ 64 → p .hash .d < 2 ^ 64 → p .index < 2 ^ 32 → Fit p
+fits-point a b c d i = record { a-fits = a; b-fits = b; c-fits = c; d-fits = d; index-fits = i }
+
+module _ (h : Held) (out : List ℕ) {n : ℕ} (en : n ≡ min (h .count) 256) (w : length (h .records) ≡ 256) where
+  pub all-short : length out < 4 + 36 * n → (9220 ≤ length out → points out ≡ cellsOf (recordsOf h))
+  all-short s l = absurd (let m : min (h .count) 256 ≤ 256 = omega arith in let z : 9220 < 9220 = omega arith in omega arith)
+
+  pub all-room : {o : List ℕ} {at : ℕ} → 4 + 36 * n ≤ length out → o ≡ putAt out 0 (toLe 4 n) → at ≡ putEnd out 0 (toLe 4 n) → at + 36 * (min (h .count) 256 - 0) ≤ length o
+  all-room room e f = let b = behind-count out n (36 * n) room e f in omega arith
+
+  pub all-listed : {o o₂ : List ℕ} {at a : ℕ} → 4 + 36 * n ≤ length out → o ≡ putAt out 0 (toLe 4 n) → at ≡ putEnd out 0 (toLe 4 n) → Put o at (bytesOf (cellsOf (drop 0 (recordsOf h)))) o₂ a
+      → All Fit (cellsOf (drop 0 (recordsOf h))) → (9220 ≤ length out → points o₂ ≡ cellsOf (recordsOf h))
+  unfolding written
+  all-listed {o₂ = o₂} room e f p fits l =
+      let c : n ≡ length (cellsOf (recordsOf h)) = omega (arith, length-cells h 0 w) in
+      let q : o₂ ≡ written (cellsOf (recordsOf h)) out = list-put (cellsOf (recordsOf h)) out c room e f p in
+      ap points q ∙ list-before (cellsOf (recordsOf h)) _ (omega arith) fits

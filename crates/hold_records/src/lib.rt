@@ -11,11 +11,12 @@ ghost use mathlib.Core.List.{[]};
 ghost use Prim.Native.Nat.{_+_, _-_, _*_, _≤_, min};
 ghost use lib.ListN.{length, drop};
 ghost use Rattle.error.specs.declared.{Answer.Answer};
+ghost use Rattle.molecule.specs.Partial.{All};
 ghost use Rattle.molecule.specs.Write.{Put};
-ghost use Rattle.out_points.specs.OutPoints.{has, points, bytesOf};
+ghost use Rattle.out_points.specs.OutPoints.{Fit, points, bytesOf};
 ghost use Rattle.out_points.specs.Tables.{keep, told, hasRoom};
 ghost use Rattle.hold_records.specs.Rules.{isKept, putIf};
-ghost use Rattle.hold_records.specs.Holds.{recordsOf, cellsOf, isNotOf, isLive, isBusy};
+ghost use Rattle.hold_records.specs.Holds.{recordsOf, cellsOf, isNotOf, isLive};
 
 // The most records that a table holds.
 const MOST: usize = 256;
@@ -138,44 +139,26 @@ pub fn keep(h: Held, rule: Rule) -> Held
     g
 }
 
-// Whether some record holds p.
-fn holds_cell(h: Held, p: OutPoint) -> bool
-    ensures { λ r. ⌜ r ≡ has p (cellsOf (recordsOf h)) ⌝ }
+// The record's cell. Of a parameter it is known that its numbers fit their types.
+fn cell_of(r: Hold) -> OutPoint
+    ensures { λ p. ⌜ p ≡ r .point ⌝ }
+    ensures { λ p. ⌜ Fit p ⌝ }
 {
-    let n = used(h.count);
-    let mut i: usize = 0;
-    while i < n {
-        let x = h.records[i];
-        let q = x.point;
-        if out_points::same_point(p, q) {
-            return true;
-        }
-        i += 1;
-    }
-    false
-}
-
-// Whether p is held by anybody or spent.
-pub fn busy(h: Held, spent: &[u8], p: OutPoint) -> bool
-    ensures { λ r. ⌜ r ≡ isBusy (recordsOf h) (points (now (spent .entry))) p ⌝ }
-{
-    if holds_cell(h, p) {
-        return true;
-    }
-    out_points::has_point(spent, p)
+    r.point
 }
 
 // Puts the cells of the records from `from` on, one after the other from `at` on.
 fn put_points(h: Held, from: usize, out: &mut [u8], at: usize) -> usize
     requires { ⌜ at + 36 * (min (h .count) 256 - from) ≤ length (now out) ⌝ }
     ensures { λ r. ⌜ Put (now (out .entry)) at (bytesOf (cellsOf (drop from (recordsOf h)))) (now (out .exit)) r ⌝ }
+    ensures { λ _. ⌜ All Fit (cellsOf (drop from (recordsOf h))) ⌝ }
 {
     let n = used(h.count);
     let mut to = at;
     let mut i = from;
     while i < n {
         let x = h.records[i];
-        let p = x.point;
+        let p = cell_of(x);
         to = out_points::put_out_point(out, to, p);
         i += 1;
     }
@@ -204,6 +187,18 @@ pub fn put_cells(h: Held, from: usize, out: &mut [u8]) -> bool
     let at = write::put_u32(out, 0, n as u32);
     put_points(h, from, out, at);
     true
+}
+
+// Puts the list of all cells at the start of out, where there is room for it: a list in bytes can be lent to a call for each pick, a table would be copied.
+pub fn list_cells(h: Held, out: &mut [u8])
+    ensures { λ _. ⌜ (9220 ≤ length (now (out .entry)) → points (now (out .exit)) ≡ cellsOf (recordsOf h)) ⌝ }
+{
+    let n = used(h.count);
+    if out.len() < 4 + 36 * n {
+        return;
+    }
+    let at = write::put_u32(out, 0, n as u32);
+    put_points(h, 0, out, at);
 }
 
 pub fn done(held: Held) -> Holds

@@ -136,7 +136,7 @@ points-back s z i l n e f =
     s z i l n (e ∙ ap (λ (x : List ℕ). x ++ z) (bytes-flat l)) f
 
 -- whatever bytes follow
-list-before : (l : List OutPoint) (z : List ℕ) → length l < 2 ^ 32 → All Fit l → points (pointList l ++ z) ≡ l
+pub list-before : (l : List OutPoint) (z : List ℕ) → length l < 2 ^ 32 → All Fit l → points (pointList l ++ z) ≡ l
 unfolding pointList word
 list-before l z h f =
     let s : List ℕ = toLe 4 (length l) ++ bytesOf l ++ z in

@@ -13,8 +13,8 @@ use Rattle.molecule.specs.Write.{putAt, putEnd, Put}
 use Rattle.out_points.specs.declared.{OutPoint.OutPoint}
 use Rattle.out_points.specs.OutPoints.{has, pointOf, points, pointBytes, bytesOf}
 use Rattle.hold_records.specs.declared.{Held.Held}
-use Rattle.hold_records.specs.Holds.{recordsOf, isBusy, firsts}
-use Rattle.picks.specs.Places.{asked, isFirst, select}
+use Rattle.hold_records.specs.Holds.{recordsOf, cellsOf, isBusy, firsts}
+use Rattle.picks.specs.Places.{isAmong, asked, isFirst, select}
 use Rattle.out_points.specs.Tables.{hasRoom}
 use Rattle.hold_records.specs.Rules.{putIf}
 use Rattle.hold_records.proofs.WriteLaws.{Listing, list-start, list-more, list-end, list-long, room-no, room-yes, put-no, put-yes, list-put}
@@ -27,6 +27,15 @@ asked-yes {w} {b} {c} e t = e ∙ sym (ap (λ (x : Bool). asked x c) t)
 pub asked-no : {w b c : Bool} → b ≡ c → w ≡ false → not b ≡ asked w c
 unfolding asked
 asked-no {w} {b} {c} e t = ap not e ∙ sym (ap (λ (x : Bool). asked x c) t)
+
+module _ (cells spent : List OutPoint) (p : OutPoint) {a : Bool} (e : a ≡ has p cells) where
+  pub busy-held : a ≡ true → true ≡ isAmong cells spent p
+  unfolding isAmong
+  busy-held t = rw (← e, t)
+
+  pub busy-spent : {b : Bool} → a ≡ false → b ≡ has p spent → b ≡ isAmong cells spent p
+  unfolding isAmong
+  busy-spent t h = rw (← e, t) h
 
 module _ (f : OutPoint → Bool) (g : ℕ → OutPoint) (i : ℕ) {p : OutPoint} {a : Bool} (ep : p ≡ g i) (ea : a ≡ f p) where
   pub first-no : not a ≡ true → false ≡ isFirst f g i
@@ -111,32 +120,43 @@ module _ {f : OutPoint → Bool} {g : ℕ → OutPoint} {n m i : ℕ} {out₀ : 
   pub name-long : length out ≡ length out₀
   name-long = list-long (k .listing)
 
--- ---- put_unavailable
+-- ---- put_named
 
-module _ (h : Held) (picked spent out : List ℕ) {n : ℕ} (en : n ≡ length (select (λ p. asked true (isBusy (recordsOf h) (points spent) p)) (pointOf picked) 0 (fixCount picked))) where
+module _ (cells picked spent out : List ℕ) {n : ℕ} (en : n ≡ length (select (λ p. asked true (isAmong (points cells) (points spent) p)) (pointOf picked) 0 (fixCount picked))) where
   abbrev named : List OutPoint
-  named = firsts (isBusy (recordsOf h) (points spent)) [] (points picked)
+  named = firsts (isAmong (points cells) (points spent)) [] (points picked)
 
-  named-is : select (λ p. asked true (isBusy (recordsOf h) (points spent) p)) (pointOf picked) 0 (fixCount picked) ≡ named
+  named-is : select (λ p. asked true (isAmong (points cells) (points spent) p)) (pointOf picked) 0 (fixCount picked) ≡ named
   unfolding asked
-  named-is = sym (firsts-select (isBusy (recordsOf h) (points spent)) (pointOf picked) (fixCount picked))
+  named-is = sym (firsts-select (isAmong (points cells) (points spent)) (pointOf picked) (fixCount picked))
 
   counted : n ≡ length named
   counted = en ∙ ap length named-is
 
-  pub named-short : length out < 4 + 36 * n → false ≡ hasRoom (firsts (isBusy (recordsOf h) (points spent)) [] (points picked)) out
+  pub named-short : length out < 4 + 36 * n → false ≡ hasRoom (firsts (isAmong (points cells) (points spent)) [] (points picked)) out
   named-short s = room-no named out counted s
 
-  pub named-kept : length out < 4 + 36 * n → out ≡ putIf (firsts (isBusy (recordsOf h) (points spent)) [] (points picked)) out
+  pub named-kept : length out < 4 + 36 * n → out ≡ putIf (firsts (isAmong (points cells) (points spent)) [] (points picked)) out
   named-kept s = put-no named out (named-short s)
 
   module _ (room : 4 + 36 * n ≤ length out) where
-    pub named-fit : true ≡ hasRoom (firsts (isBusy (recordsOf h) (points spent)) [] (points picked)) out
+    pub named-fit : true ≡ hasRoom (firsts (isAmong (points cells) (points spent)) [] (points picked)) out
     named-fit = room-yes named out counted room
 
     pub named-written : {o₁ o₂ : List ℕ} {at c : ℕ} → o₁ ≡ putAt out 0 (toLe 4 n) → at ≡ putEnd out 0 (toLe 4 n)
-        → Put o₁ at (bytesOf (select (λ p. asked true (isBusy (recordsOf h) (points spent) p)) (pointOf picked) 0 (fixCount picked))) o₂ c
-        → o₂ ≡ putIf (firsts (isBusy (recordsOf h) (points spent)) [] (points picked)) out
+        → Put o₁ at (bytesOf (select (λ p. asked true (isAmong (points cells) (points spent) p)) (pointOf picked) 0 (fixCount picked))) o₂ c
+        → o₂ ≡ putIf (firsts (isAmong (points cells) (points spent)) [] (points picked)) out
     named-written {o₁} {o₂} {at} {c} e f p =
         let q : Put o₁ at (bytesOf named) o₂ c = rw named-is at p in
         list-put named out counted room e f q ∙ sym (put-yes named out named-fit)
+
+-- ---- put_unavailable
+
+module _ (h : Held) (cells picked spent out : List ℕ) {z : ℕ} (e : 9220 ≤ z → points cells ≡ cellsOf (recordsOf h)) (l : 9220 ≤ z) where
+  pub held-room : {b : Bool} → b ≡ hasRoom (firsts (isAmong (points cells) (points spent)) [] (points picked)) out → b ≡ hasRoom (firsts (isBusy (recordsOf h) (points spent)) [] (points picked)) out
+  unfolding isAmong isBusy
+  held-room f = f ∙ ap (λ (y : List OutPoint). hasRoom (firsts (isAmong y (points spent)) [] (points picked)) out) (e l)
+
+  pub held-put : {o : List ℕ} → o ≡ putIf (firsts (isAmong (points cells) (points spent)) [] (points picked)) out → o ≡ putIf (firsts (isBusy (recordsOf h) (points spent)) [] (points picked)) out
+  unfolding isAmong isBusy
+  held-put f = f ∙ ap (λ (y : List OutPoint). putIf (firsts (isAmong y (points spent)) [] (points picked)) out) (e l)

@@ -1,5 +1,5 @@
 -- What `take` records and writes.
-use mathlib.Core.Path.{_≡_, refl, sym, ap, ap₂, _∙_}
+use mathlib.Core.Path.{_≡_, refl, sym, ap, _∙_}
 use Prim.Native.Nat.{ℕ, zero, suc, _+_, _-_, _*_, _≤_, _<_, min}
 use native.Mathlib.Numerals.{add-one}
 use native.Mathlib.Omega.{arith}
@@ -32,8 +32,8 @@ pub record Tallying (owner : Owner) (f : OutPoint → Bool) (pt : ℕ → OutPoi
   pub added : min (h .count) 256 + count ≤ 256 → recordsOf g ++ map (heldBy owner) (select f pt i (n - i)) ≡ recordsOf h ++ map (heldBy owner) (select f pt 0 m)
 
 pub tally-start : (owner : Owner) (f : OutPoint → Bool) (pt : ℕ → OutPoint) {n m u : ℕ} (h : Held) → n ≡ m → u ≡ min (h .count) 256 → length (h .records) ≡ 256
-    → Tallying owner f pt m h (record { records = h .records; count = u }) n 0 0
-tally-start owner f pt {n} {m} h e b l =
+    → Tallying owner f pt m (record { records = h .records; count = u }) (record { records = h .records; count = u }) n 0 0
+tally-start owner f pt {n} {m} {u} h e b l =
     let q : select f pt 0 m ≡ select f pt 0 (n - 0) = ap (select f pt 0) (sym e) ∙ select-whole f pt n in
     record {
       within = omega arith;
@@ -42,7 +42,7 @@ tally-start owner f pt {n} {m} h e b l =
       total = omega (arith, ap length q);
       stands = omega arith;
       long = l;
-      added = λ _. ap₂ (λ (y : List Hold) (x : List OutPoint). y ++ map (heldBy owner) x) (trim-is h b l) (sym q);
+      added = λ _. ap (λ (x : List OutPoint). recordsOf (record { records = h .records; count = u }) ++ map (heldBy owner) x) (sym q);
     }
 
 module _ {owner : Owner} {f : OutPoint → Bool} {pt : ℕ → OutPoint} {m : ℕ} {h g : Held} {n i count : ℕ} (k : Tallying owner f pt m h g n i count) where
@@ -97,27 +97,20 @@ module _ {owner : Owner} {f : OutPoint → Bool} {pt : ℕ → OutPoint} {m : �
               ∙ k .added (omega arith));
         }
 
-  pub tally-end : n ≤ i → Tallied owner (select f pt 0 m) h g count
-  tally-end l =
-      let q = select-end f pt i n l in
-      let s = k .stands in
-      record {
-        whole = k .whole;
-        counted = omega (arith, k .total, ap length q);
-        stands = λ r. omega arith;
-        added = λ r. sym (append-nil (recordsOf g)) ∙ sym (ap (λ (x : List OutPoint). recordsOf g ++ map (heldBy owner) x) q) ∙ k .added r;
-      }
-
--- ---- the first of the cells from k on
-
-module _ (p : OutPoint) (h : Held) (k : ℕ) {n : ℕ} (en : n ≡ min (h .count) 256) (w : length (h .records) ≡ 256) where
-  pub cell-none : n ≤ k → false ≡ headIs p (cellsOf (drop k (recordsOf h)))
-  unfolding headIs
-  cell-none l = sym (ap (λ (x : List Hold). headIs p (cellsOf x)) (drop-none h k w (omega arith)))
-
-  pub cell-is : (d : Hold) {b : Bool} → k < n → b ≡ eqPoint p (getD (h .records) k d .point) → b ≡ headIs p (cellsOf (drop k (recordsOf h)))
-  unfolding headIs
-  cell-is d l e = e ∙ sym (ap (λ (x : List Hold). headIs p (cellsOf x)) (drop-record h k d w (omega arith)))
+-- the table that the loop begins with is h with its count cut to the array
+pub tally-end : {owner : Owner} {f : OutPoint → Bool} {pt : ℕ → OutPoint} {m : ℕ} (h : Held) {g : Held} {u n i count : ℕ} → u ≡ min (h .count) 256
+    → Tallying owner f pt m (record { records = h .records; count = u }) g n i count → n ≤ i → Tallied owner (select f pt 0 m) h g count
+tally-end {owner} {f} {pt} {m} h {g} {u} {n} {i} {count} b k l =
+    let q = select-end f pt i n l in
+    let s = k .stands in
+    record {
+      whole = k .whole;
+      counted = omega (arith, k .total, ap length q);
+      stands = λ r. omega arith;
+      added = λ r.
+          sym (append-nil (recordsOf g)) ∙ sym (ap (λ (x : List OutPoint). recordsOf g ++ map (heldBy owner) x) q) ∙ k .added (omega arith)
+          ∙ ap (λ (y : List Hold). y ++ map (heldBy owner) (select f pt 0 m)) (trim-is h b (k .whole));
+    }
 
 -- ---- the others written
 
@@ -127,41 +120,55 @@ cells-next [] (suc k) = refl
 cells-next (x ∷ l) zero = refl
 cells-next (x ∷ l) (suc k) = cells-next l k
 
-pub record Leaving (g : Held) (from : ℕ) (s : List ℕ) (n i k : ℕ) (out₀ : List ℕ) (at₀ : ℕ) (out : List ℕ) (at : ℕ) : Type 0 where
+pub record Leaving (g : Held) (from : ℕ) (s : List ℕ) (end n i k : ℕ) (out₀ : List ℕ) (at₀ : ℕ) (out : List ℕ) (at : ℕ) : Type 0 where
   pub within : i ≤ n
   pub near : k ≤ 256 + i
+  pub counted : end ≡ min (g .count) 256
+  pub whole : length (g .records) ≡ 256
   pub listing : Listing (unmatched (cellsOf (drop from (recordsOf g))) (points s)) (unmatched (cellsOf (drop k (recordsOf g))) (span (pointOf s) i (n - i))) out₀ at₀ out at
 
 relist : {x y all : List OutPoint} {o₀ o : List ℕ} {a₀ a : ℕ} → x ≡ y → Listing all x o₀ a₀ o a → Listing all y o₀ a₀ o a
 relist e l = rw e at l
 
-pub leave-start : (g : Held) (from : ℕ) (s : List ℕ) {n : ℕ} (out : List ℕ) (at : ℕ) → n ≡ fixCount s → from ≤ 256 → at + 36 * length (unmatched (cellsOf (drop from (recordsOf g))) (points s)) ≤ length out → Leaving g from s n 0 from out at out at
-leave-start g from s {n} out at e b room = record {
+pub leave-start : (g : Held) (from : ℕ) (s : List ℕ) {end n : ℕ} (out : List ℕ) (at : ℕ) → n ≡ fixCount s → end ≡ min (g .count) 256 → length (g .records) ≡ 256 → from ≤ 256 → at + 36 * length (unmatched (cellsOf (drop from (recordsOf g))) (points s)) ≤ length out → Leaving g from s end n 0 from out at out at
+leave-start g from s {end} {n} out at e c w b room = record {
   within = omega arith;
   near = omega arith;
+  counted = c;
+  whole = w;
   listing = relist (ap (unmatched (cellsOf (drop from (recordsOf g)))) (ap (span (pointOf s) 0) (sym e) ∙ span-whole (pointOf s) n)) (list-start (unmatched (cellsOf (drop from (recordsOf g))) (points s)) out at room);
 }
 
-module _ {g : Held} {from : ℕ} {s : List ℕ} {n i k : ℕ} {out₀ : List ℕ} {at₀ : ℕ} {out : List ℕ} {at : ℕ} (v : Leaving g from s n i k out₀ at₀ out at) where
-  module _ {p : OutPoint} {b : Bool} (l : i < n) (ep : p ≡ pointOf s i) (e : b ≡ headIs p (cellsOf (drop k (recordsOf g)))) where
-    head : {c : Bool} → b ≡ c → headIs (pointOf s i) (cellsOf (drop k (recordsOf g))) ≡ c
-    head t = ap (λ (x : OutPoint). headIs x (cellsOf (drop k (recordsOf g)))) (sym ep) ∙ sym e ∙ t
-
-    pub leave-match : b ≡ true → Leaving g from s n (i + 1) (k + 1) out₀ at₀ out at
+module _ {g : Held} {from : ℕ} {s : List ℕ} {end n i k : ℕ} {out₀ : List ℕ} {at₀ : ℕ} {out : List ℕ} {at : ℕ} (v : Leaving g from s end n i k out₀ at₀ out at) where
+  module _ {p : OutPoint} (l : i < n) (ep : p ≡ pointOf s i) where
+    -- p is not the next of the taken cells, and is put
+    putting : {o : List ℕ} {a : ℕ} → headIs p (cellsOf (drop k (recordsOf g))) ≡ false → o ≡ putAt out at (pointBytes p) → a ≡ putEnd out at (pointBytes p) → Leaving g from s end n (i + 1) k out₀ at₀ o a
     unfolding unmatched
-    leave-match t =
-        let c = v .near in
-        let q : unmatched (cellsOf (drop k (recordsOf g))) (span (pointOf s) i (n - i)) ≡ unmatched (cellsOf (drop (k + 1) (recordsOf g))) (span (pointOf s) (i + 1) (n - (i + 1))) =
-        ap (unmatched (cellsOf (drop k (recordsOf g)))) (span-on (pointOf s) i n l) ∙ rw (head t) (ap (λ (x : List OutPoint). unmatched x (span (pointOf s) (i + 1) (n - (i + 1)))) (cells-next (recordsOf g) k ∙ rw add-one)) in
-        record { within = omega arith; near = omega arith; listing = relist q (v .listing) }
-
-    pub leave-put : {o : List ℕ} {a : ℕ} → b ≡ false → o ≡ putAt out at (pointBytes p) → a ≡ putEnd out at (pointBytes p) → Leaving g from s n (i + 1) k out₀ at₀ o a
-    unfolding unmatched
-    leave-put t eo ea =
+    putting t eo ea =
         let c = v .near in
         let q : unmatched (cellsOf (drop k (recordsOf g))) (span (pointOf s) i (n - i)) ≡ pointOf s i ∷ unmatched (cellsOf (drop k (recordsOf g))) (span (pointOf s) (i + 1) (n - (i + 1))) =
-        ap (unmatched (cellsOf (drop k (recordsOf g)))) (span-on (pointOf s) i n l) ∙ rw (head t) in
-        record { within = omega arith; near = omega arith; listing = list-more (pointOf s i) (relist q (v .listing)) (rw ep at eo) (rw ep at ea) }
+        ap (unmatched (cellsOf (drop k (recordsOf g)))) (span-on (pointOf s) i n l) ∙ rw (rw ep at t) in
+        record { within = omega arith; near = omega arith; counted = v .counted; whole = v .whole; listing = list-more (pointOf s i) (relist q (v .listing)) (rw ep at eo) (rw ep at ea) }
+
+    pub leave-past : {o : List ℕ} {a : ℕ} → end ≤ k → o ≡ putAt out at (pointBytes p) → a ≡ putEnd out at (pointBytes p) → Leaving g from s end n (i + 1) k out₀ at₀ o a
+    unfolding headIs
+    leave-past h = let m = v .counted in putting (ap (λ (x : List Hold). headIs p (cellsOf x)) (drop-none g k (v .whole) (omega arith)))
+
+    module _ (d : Hold) {b : Bool} (h : k < end) (e : b ≡ eqPoint p (getD (g .records) k d .point)) where
+      head : headIs p (cellsOf (drop k (recordsOf g))) ≡ b
+      unfolding headIs
+      head = let m = v .counted in ap (λ (x : List Hold). headIs p (cellsOf x)) (drop-record g k d (v .whole) (omega arith)) ∙ sym e
+
+      pub leave-match : b ≡ true → Leaving g from s end n (i + 1) (k + 1) out₀ at₀ out at
+      unfolding unmatched
+      leave-match t =
+          let c = v .near in
+          let q : unmatched (cellsOf (drop k (recordsOf g))) (span (pointOf s) i (n - i)) ≡ unmatched (cellsOf (drop (k + 1) (recordsOf g))) (span (pointOf s) (i + 1) (n - (i + 1))) =
+          ap (unmatched (cellsOf (drop k (recordsOf g)))) (span-on (pointOf s) i n l) ∙ rw (rw ep at (head ∙ t)) (ap (λ (x : List OutPoint). unmatched x (span (pointOf s) (i + 1) (n - (i + 1)))) (cells-next (recordsOf g) k ∙ rw add-one)) in
+          record { within = omega arith; near = omega arith; counted = v .counted; whole = v .whole; listing = relist q (v .listing) }
+
+      pub leave-other : {o : List ℕ} {a : ℕ} → b ≡ false → o ≡ putAt out at (pointBytes p) → a ≡ putEnd out at (pointBytes p) → Leaving g from s end n (i + 1) k out₀ at₀ o a
+      leave-other t = putting (head ∙ t)
 
   pub leave-end : n ≤ i → Put out₀ at₀ (bytesOf (unmatched (cellsOf (drop from (recordsOf g))) (points s))) out at
   unfolding unmatched

@@ -15,8 +15,8 @@ use Rattle.out_points.specs.OutPoints.{pointOf, points, pointList}
 use Rattle.out_points.proofs.ListLaws.{length-points, length-list}
 use Rattle.out_points.specs.Tables.{Outcome, done, refused, told, hasRoom, written}
 use Rattle.hold_records.specs.declared.{Owner.Owner, Hold.Hold, Held.Held}
-use Rattle.hold_records.specs.Holds.{recordsOf, cellsOf, isBusy, firsts, others, heldBy}
-use Rattle.picks.specs.Places.{asked, select, Tallied, unmatched, takeFrom}
+use Rattle.hold_records.specs.Holds.{recordsOf, cellsOf, firsts, others, heldBy}
+use Rattle.picks.specs.Places.{isAmong, asked, select, Tallied, unmatched, takeFrom}
 use Rattle.hold_records.specs.Rules.{putIf}
 use Rattle.hold_records.proofs.LoopLaws.{stands}
 use Rattle.hold_records.proofs.WriteLaws.{room-yes, put-yes}
@@ -66,26 +66,26 @@ module _ (f : OutPoint → Bool) (picked : List ℕ) {owner : Owner} {k g : Held
     left-is e = let q = t .counted in omega (arith, both-are f picked, ap length rest-is)
 
 -- the free picks
-module _ (k : Held) (picked spent : List ℕ) where
+module _ (cells picked spent : List ℕ) where
   abbrev S : List OutPoint
-  S = select (λ p. asked false (isBusy (recordsOf k) (points spent) p)) (pointOf picked) 0 (fixCount picked)
+  S = select (λ p. asked false (isAmong (points cells) (points spent) p)) (pointOf picked) 0 (fixCount picked)
 
-  taken-is : S ≡ firsts (λ p. not (isBusy (recordsOf k) (points spent) p)) [] (points picked)
+  taken-is : S ≡ firsts (λ p. not (isAmong (points cells) (points spent) p)) [] (points picked)
   unfolding asked
-  taken-is = sym (firsts-select (λ p. not (isBusy (recordsOf k) (points spent) p)) (pointOf picked) (fixCount picked))
+  taken-is = sym (firsts-select (λ p. not (isAmong (points cells) (points spent) p)) (pointOf picked) (fixCount picked))
 
-  rests-are : others (λ p. asked false (isBusy (recordsOf k) (points spent) p)) [] (points picked) ≡ others (λ p. not (isBusy (recordsOf k) (points spent) p)) [] (points picked)
+  rests-are : others (λ p. asked false (isAmong (points cells) (points spent) p)) [] (points picked) ≡ others (λ p. not (isAmong (points cells) (points spent) p)) [] (points picked)
   unfolding asked
   rests-are = refl
 
 -- ---- the calls
 
-module _ (h k : Held) (picked spent : List ℕ) (owner : Owner) (out₁ out₂ : List ℕ) (g : Held) {c : ℕ} (t : Tallied owner (S k picked spent) k g c) {n : ℕ} (en : n ≡ fixCount picked) where
+module _ (h k : Held) (cells picked spent : List ℕ) (owner : Owner) (out₁ out₂ : List ℕ) (g : Held) {c : ℕ} (t : Tallied owner (S cells picked spent) k g c) {n : ℕ} (en : n ≡ fixCount picked) where
   T : List OutPoint
-  T = firsts (λ p. not (isBusy (recordsOf k) (points spent) p)) [] (points picked)
+  T = firsts (λ p. not (isAmong (points cells) (points spent) p)) [] (points picked)
 
   U : List OutPoint
-  U = others (λ p. not (isBusy (recordsOf k) (points spent) p)) [] (points picked)
+  U = others (λ p. not (isAmong (points cells) (points spent) p)) [] (points picked)
 
   end : Outcome Held (List Hold) × List ℕ × List ℕ
   end =
@@ -97,17 +97,17 @@ module _ (h k : Held) (picked spent : List ℕ) (owner : Owner) (out₁ out₂ :
       (refused 13 h, out₁, out₂))
       (refused 13 h, out₁, out₂)
 
-  end-is : end ≡ takeFrom h (recordsOf k) (points picked) (points spent) owner out₁ out₂
+  end-is : end ≡ takeFrom h (recordsOf k) (points cells) (points picked) (points spent) owner out₁ out₂
   unfolding takeFrom end T U
   end-is = refl
 
   T-long : length T ≡ c
   unfolding T
-  T-long = ap length (sym (taken-is k picked spent)) ∙ sym (t .counted)
+  T-long = ap length (sym (taken-is cells picked spent)) ∙ sym (t .counted)
 
   U-long : length U ≡ n - c
   unfolding U
-  U-long = let q = t .counted in omega (arith, both-are (λ p. asked false (isBusy (recordsOf k) (points spent) p)) picked, ap length (rests-are k picked spent))
+  U-long = let q = t .counted in omega (arith, both-are (λ p. asked false (isAmong (points cells) (points spent) p)) picked, ap length (rests-are cells picked spent))
 
   T-list : length (pointList T) ≡ 4 + 36 * c
   T-list = length-list T ∙ ap (λ (x : ℕ). 4 + 36 * x) T-long
@@ -115,17 +115,17 @@ module _ (h k : Held) (picked spent : List ℕ) (owner : Owner) (out₁ out₂ :
   U-list : length (pointList U) ≡ 4 + 36 * (n - c)
   U-list = length-list U ∙ ap (λ (x : ℕ). 4 + 36 * x) U-long
 
-  pub take-short : {o : Outcome Held (List Hold)} → length out₁ < 4 + 36 * c → o ≡ told recordsOf (Answer.Refused Refusal.BufferTooShort) h → (o, out₁, out₂) ≡ takeFrom h (recordsOf k) (points picked) (points spent) owner out₁ out₂
+  pub take-short : {o : Outcome Held (List Hold)} → length out₁ < 4 + 36 * c → o ≡ told recordsOf (Answer.Refused Refusal.BufferTooShort) h → (o, out₁, out₂) ≡ takeFrom h (recordsOf k) (points cells) (points picked) (points spent) owner out₁ out₂
   unfolding end hasRoom told number
   take-short s e = rw e (rw (lt-leb (length (pointList T)) (length out₁) (omega (arith, T-list))) at end-is)
 
   module _ (room₁ : 4 + 36 * c ≤ length out₁) where
-    pub take-short-rest : {o : Outcome Held (List Hold)} → length out₂ < 4 + 36 * (n - c) → o ≡ told recordsOf (Answer.Refused Refusal.BufferTooShort) h → (o, out₁, out₂) ≡ takeFrom h (recordsOf k) (points picked) (points spent) owner out₁ out₂
+    pub take-short-rest : {o : Outcome Held (List Hold)} → length out₂ < 4 + 36 * (n - c) → o ≡ told recordsOf (Answer.Refused Refusal.BufferTooShort) h → (o, out₁, out₂) ≡ takeFrom h (recordsOf k) (points cells) (points picked) (points spent) owner out₁ out₂
     unfolding end hasRoom told number
     take-short-rest s e = rw e (rw (le-leb (length (pointList T)) (length out₁) (omega (arith, T-list)), lt-leb (length (pointList U)) (length out₂) (omega (arith, U-list))) at end-is)
 
     module _ (room₂ : 4 + 36 * (n - c) ≤ length out₂) where
-      fits : cond (leb (length (recordsOf k) + length T) 256) (done (recordsOf k ++ map (heldBy owner) T), written T out₁, written U out₂) (refused 14 h, out₁, out₂) ≡ takeFrom h (recordsOf k) (points picked) (points spent) owner out₁ out₂
+      fits : cond (leb (length (recordsOf k) + length T) 256) (done (recordsOf k ++ map (heldBy owner) T), written T out₁, written U out₂) (refused 14 h, out₁, out₂) ≡ takeFrom h (recordsOf k) (points cells) (points picked) (points spent) owner out₁ out₂
       unfolding end hasRoom
       fits = rw (le-leb (length (pointList T)) (length out₁) (omega (arith, T-list)), le-leb (length (pointList U)) (length out₂) (omega (arith, U-list))) at end-is
 
@@ -133,18 +133,24 @@ module _ (h k : Held) (picked spent : List ℕ) (owner : Owner) (out₁ out₂ :
         all-long : length (recordsOf k) + length T ≡ from + c
         all-long = let a = stands k (t .whole) in let b = T-long in omega arith
 
-        pub take-full : {o : Outcome Held (List Hold)} → 256 - from < c → o ≡ told recordsOf (Answer.Refused Refusal.TooManyHolds) h → (o, out₁, out₂) ≡ takeFrom h (recordsOf k) (points picked) (points spent) owner out₁ out₂
+        pub take-full : {o : Outcome Held (List Hold)} → 256 - from < c → o ≡ told recordsOf (Answer.Refused Refusal.TooManyHolds) h → (o, out₁, out₂) ≡ takeFrom h (recordsOf k) (points cells) (points picked) (points spent) owner out₁ out₂
         unfolding told number
         take-full s e = rw e (rw (lt-leb (length (recordsOf k) + length T) 256 (omega (arith, all-long))) at fits)
 
         pub take-done : {o : Outcome Held (List Hold)} {b₁ b₂ : List ℕ} → c ≤ 256 - from → b₁ ≡ putIf (cellsOf (drop from (recordsOf g))) out₁
-            → b₂ ≡ written (unmatched (cellsOf (drop from (recordsOf g))) (points picked)) out₂ → o ≡ told recordsOf Answer.Done g → (o, b₁, b₂) ≡ takeFrom h (recordsOf k) (points picked) (points spent) owner out₁ out₂
+            → b₂ ≡ written (unmatched (cellsOf (drop from (recordsOf g))) (points picked)) out₂ → o ≡ told recordsOf Answer.Done g → (o, b₁, b₂) ≡ takeFrom h (recordsOf k) (points cells) (points picked) (points spent) owner out₁ out₂
         unfolding told T U
         take-done {o} {b₁} {b₂} s e₁ e₂ e =
-            let x : recordsOf g ≡ recordsOf k ++ map (heldBy owner) T = t .added (omega arith) ∙ ap (λ (y : List OutPoint). recordsOf k ++ map (heldBy owner) y) (taken-is k picked spent) in
-            let y : cellsOf (drop from (recordsOf g)) ≡ T = taken-cells t ef s ∙ taken-is k picked spent in
-            let z : unmatched (cellsOf (drop from (recordsOf g))) (points picked) ≡ U = rest-is (λ p. asked false (isBusy (recordsOf k) (points spent) p)) picked t ef s ∙ rests-are k picked spent in
+            let x : recordsOf g ≡ recordsOf k ++ map (heldBy owner) T = t .added (omega arith) ∙ ap (λ (y : List OutPoint). recordsOf k ++ map (heldBy owner) y) (taken-is cells picked spent) in
+            let y : cellsOf (drop from (recordsOf g)) ≡ T = taken-cells t ef s ∙ taken-is cells picked spent in
+            let z : unmatched (cellsOf (drop from (recordsOf g))) (points picked) ≡ U = rest-is (λ p. asked false (isAmong (points cells) (points spent) p)) picked t ef s ∙ rests-are cells picked spent in
             let v : o ≡ done (recordsOf k ++ map (heldBy owner) T) = e ∙ ap done x in
             let v₁ : b₁ ≡ written T out₁ = e₁ ∙ ap (λ (q : List OutPoint). putIf q out₁) y ∙ put-yes T out₁ (room-yes T out₁ (sym T-long) room₁) in
             let v₂ : b₂ ≡ written U out₂ = e₂ ∙ ap (λ (q : List OutPoint). written q out₂) z in
             rw (v, v₁, v₂) (rw (le-leb (length (recordsOf k) + length T) 256 (omega (arith, all-long))) at fits)
+
+-- what is taken by a list of cells is taken by the records that they are of
+pub take-among : (h k : Held) (cells picked spent : List ℕ) (owner : Owner) (out₁ out₂ : List ℕ) {z : ℕ} {x : Outcome Held (List Hold) × List ℕ × List ℕ} → (9220 ≤ z → points cells ≡ cellsOf (recordsOf k)) → 9220 ≤ z
+    → x ≡ takeFrom h (recordsOf k) (points cells) (points picked) (points spent) owner out₁ out₂
+    → x ≡ takeFrom h (recordsOf k) (cellsOf (recordsOf k)) (points picked) (points spent) owner out₁ out₂
+take-among h k cells picked spent owner out₁ out₂ e l f = f ∙ ap (λ (y : List OutPoint). takeFrom h (recordsOf k) y (points picked) (points spent) owner out₁ out₂) (e l)

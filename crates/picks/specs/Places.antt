@@ -10,7 +10,11 @@ use Rattle.out_points.specs.declared.{OutPoint.OutPoint}
 use Rattle.out_points.specs.OutPoints.{eqPoint, has}
 use Rattle.out_points.specs.Tables.{Outcome, done, refused, check, hasRoom, written}
 use Rattle.hold_records.specs.declared.{Owner.Owner, Hold.Hold, Held.Held}
-use Rattle.hold_records.specs.Holds.{recordsOf, heldBy, isBusy, firsts, others}
+use Rattle.hold_records.specs.Holds.{recordsOf, heldBy, firsts, others}
+
+-- p is among the cells that are held, or spent: `isBusy` of the list of the records' cells
+unfoldable pub isAmong : List OutPoint → List OutPoint → OutPoint → Bool
+isAmong cells spent p = cond (has p cells) true (has p spent)
 
 -- b, or its opposite
 unfoldable pub asked : Bool → Bool → Bool
@@ -43,11 +47,11 @@ unfoldable pub unmatched : List OutPoint → List OutPoint → List OutPoint
 unmatched taken [] = []
 unmatched taken (p ∷ l) = cond (headIs p taken) (unmatched (drop 1 taken) l) (p ∷ unmatched taken l)
 
--- `take` of readable lists, from the records left
-unfoldable pub takeFrom : Held → List Hold → List OutPoint → List OutPoint → Owner → List ℕ → List ℕ → Outcome Held (List Hold) × List ℕ × List ℕ
-takeFrom h left picks spent owner out₁ out₂ =
-    let taken = firsts (λ p. not (isBusy left spent p)) [] picks in
-    let rest = others (λ p. not (isBusy left spent p)) [] picks in
+-- `take` of readable lists, from the records left, whose cells are `cells`
+unfoldable pub takeFrom : Held → List Hold → List OutPoint → List OutPoint → List OutPoint → Owner → List ℕ → List ℕ → Outcome Held (List Hold) × List ℕ × List ℕ
+takeFrom h left cells picks spent owner out₁ out₂ =
+    let taken = firsts (λ p. not (isAmong cells spent p)) [] picks in
+    let rest = others (λ p. not (isAmong cells spent p)) [] picks in
     check (hasRoom taken out₁) (refused 13 h, out₁, out₂)
     (check (hasRoom rest out₂) (refused 13 h, out₁, out₂)
     (check (leb (length left + length taken) 256) (refused 14 h, out₁, out₂)

@@ -17,15 +17,28 @@ ghost use Rattle.out_points.specs.OutPoints.{pointOf, points, bytesOf};
 ghost use Rattle.out_points.specs.Tables.{told, hasRoom, written};
 ghost use Rattle.hold_records.specs.Holds.{recordsOf, cellsOf, isBusy, firsts};
 ghost use Rattle.hold_records.specs.Rules.{putIf};
-ghost use Rattle.picks.specs.Places.{asked, isFirst, select, Tallied, headIs, unmatched, takeFrom};
+ghost use Rattle.picks.specs.Places.{isAmong, asked, isFirst, select, Tallied, headIs, unmatched, takeFrom};
 
 const MOST: usize = 256;
 
-// Whether p is busy, or whether it is free, as wanted.
-fn passes(h: Held, spent: &[u8], want: bool, p: OutPoint) -> bool
-    ensures { λ r. ⌜ r ≡ asked want (isBusy (recordsOf h) (points (now (spent .entry))) p) ⌝ }
+// How many bytes the list of a table's cells has at most: a count and 256 out points.
+const CELLS_BYTES: usize = 9220;
+
+// Whether p is one of the cells, which are held, or spent.
+fn busy(cells: &[u8], spent: &[u8], p: OutPoint) -> bool
+    ensures { λ r. ⌜ r ≡ isAmong (points (now (cells .entry))) (points (now (spent .entry))) p ⌝ }
 {
-    let b = hold_records::busy(h, spent, p);
+    if out_points::has_point(cells, p) {
+        return true;
+    }
+    out_points::has_point(spent, p)
+}
+
+// Whether p is busy, or whether it is free, as wanted.
+fn passes(cells: &[u8], spent: &[u8], want: bool, p: OutPoint) -> bool
+    ensures { λ r. ⌜ r ≡ asked want (isAmong (points (now (cells .entry))) (points (now (spent .entry))) p) ⌝ }
+{
+    let b = busy(cells, spent, p);
     if want {
         return b;
     }
@@ -33,20 +46,20 @@ fn passes(h: Held, spent: &[u8], want: bool, p: OutPoint) -> bool
 }
 
 // Whether pick i passes, and no pick before it is the same.
-fn first(h: Held, picked: &[u8], spent: &[u8], want: bool, i: usize) -> bool
+fn first(cells: &[u8], picked: &[u8], spent: &[u8], want: bool, i: usize) -> bool
     requires { ⌜ i < fixCount (now picked) ⌝ }
-    ensures { λ r. ⌜ r ≡ isFirst (λ p. asked want (isBusy (recordsOf h) (points (now (spent .entry))) p)) (pointOf (now (picked .entry))) i ⌝ }
+    ensures { λ r. ⌜ r ≡ isFirst (λ p. asked want (isAmong (points (now (cells .entry))) (points (now (spent .entry))) p)) (pointOf (now (picked .entry))) i ⌝ }
 {
     let p = out_points::point_of(picked, i);
-    if !passes(h, spent, want, p) {
+    if !passes(cells, spent, want, p) {
         return false;
     }
     !out_points::has_before(picked, i, p)
 }
 
 // How many picks are busy, each counted once.
-fn count_busy(h: Held, picked: &[u8], spent: &[u8]) -> u32
-    ensures { λ r. ⌜ r ≡ length (select (λ p. asked true (isBusy (recordsOf h) (points (now (spent .entry))) p)) (pointOf (now (picked .entry))) 0 (fixCount (now (picked .entry)))) ⌝ }
+fn count_busy(cells: &[u8], picked: &[u8], spent: &[u8]) -> u32
+    ensures { λ r. ⌜ r ≡ length (select (λ p. asked true (isAmong (points (now (cells .entry))) (points (now (spent .entry))) p)) (pointOf (now (picked .entry))) 0 (fixCount (now (picked .entry)))) ⌝ }
 {
     let n = molecule::fix_count(picked) as usize;
     let mut count: u32 = 0;
@@ -54,7 +67,7 @@ fn count_busy(h: Held, picked: &[u8], spent: &[u8]) -> u32
     while i < n {
         let k = i;
         i += 1;
-        if first(h, picked, spent, true, k) {
+        if first(cells, picked, spent, true, k) {
             count += 1;
         }
     }
@@ -62,9 +75,9 @@ fn count_busy(h: Held, picked: &[u8], spent: &[u8]) -> u32
 }
 
 // Puts those picks, one after the other from `at` on.
-fn put_busy(h: Held, picked: &[u8], spent: &[u8], out: &mut [u8], at: usize) -> usize
-    requires { ⌜ at + 36 * length (select (λ p. asked true (isBusy (recordsOf h) (points (now spent)) p)) (pointOf (now picked)) 0 (fixCount (now picked))) ≤ length (now out) ⌝ }
-    ensures { λ r. ⌜ Put (now (out .entry)) at (bytesOf (select (λ p. asked true (isBusy (recordsOf h) (points (now (spent .entry))) p)) (pointOf (now (picked .entry))) 0 (fixCount (now (picked .entry))))) (now (out .exit)) r ⌝ }
+fn put_busy(cells: &[u8], picked: &[u8], spent: &[u8], out: &mut [u8], at: usize) -> usize
+    requires { ⌜ at + 36 * length (select (λ p. asked true (isAmong (points (now cells)) (points (now spent)) p)) (pointOf (now picked)) 0 (fixCount (now picked))) ≤ length (now out) ⌝ }
+    ensures { λ r. ⌜ Put (now (out .entry)) at (bytesOf (select (λ p. asked true (isAmong (points (now (cells .entry))) (points (now (spent .entry))) p)) (pointOf (now (picked .entry))) 0 (fixCount (now (picked .entry))))) (now (out .exit)) r ⌝ }
 {
     let n = molecule::fix_count(picked) as usize;
     let mut to = at;
@@ -72,7 +85,7 @@ fn put_busy(h: Held, picked: &[u8], spent: &[u8], out: &mut [u8], at: usize) -> 
     while i < n {
         let k = i;
         i += 1;
-        if first(h, picked, spent, true, k) {
+        if first(cells, picked, spent, true, k) {
             let p = out_points::point_of(picked, k);
             to = out_points::put_out_point(out, to, p);
         }
@@ -81,18 +94,28 @@ fn put_busy(h: Held, picked: &[u8], spent: &[u8], out: &mut [u8], at: usize) -> 
 }
 
 // Puts the list of the busy picks at the start of out, and answers whether there is room for all of it: else it puts nothing.
-pub fn put_unavailable(h: Held, picked: &[u8], spent: &[u8], out: &mut [u8]) -> bool
-    ensures { λ r. ⌜ r ≡ hasRoom (firsts (isBusy (recordsOf h) (points (now (spent .entry)))) [] (points (now (picked .entry)))) (now (out .entry)) ⌝ }
-    ensures { λ _. ⌜ now (out .exit) ≡ putIf (firsts (isBusy (recordsOf h) (points (now (spent .entry)))) [] (points (now (picked .entry)))) (now (out .entry)) ⌝ }
+fn put_named(cells: &[u8], picked: &[u8], spent: &[u8], out: &mut [u8]) -> bool
+    ensures { λ r. ⌜ r ≡ hasRoom (firsts (isAmong (points (now (cells .entry))) (points (now (spent .entry)))) [] (points (now (picked .entry)))) (now (out .entry)) ⌝ }
+    ensures { λ _. ⌜ now (out .exit) ≡ putIf (firsts (isAmong (points (now (cells .entry))) (points (now (spent .entry)))) [] (points (now (picked .entry)))) (now (out .entry)) ⌝ }
 {
-    let n = count_busy(h, picked, spent);
+    let n = count_busy(cells, picked, spent);
     let w = n as usize;
     if out.len() < 4 + 36 * w {
         return false;
     }
     let at = write::put_u32(out, 0, n);
-    put_busy(h, picked, spent, out, at);
+    put_busy(cells, picked, spent, out, at);
     true
+}
+
+// The same of the picks that a table holds, or that are spent.
+pub fn put_unavailable(h: Held, picked: &[u8], spent: &[u8], out: &mut [u8]) -> bool
+    ensures { λ r. ⌜ r ≡ hasRoom (firsts (isBusy (recordsOf h) (points (now (spent .entry)))) [] (points (now (picked .entry)))) (now (out .entry)) ⌝ }
+    ensures { λ _. ⌜ now (out .exit) ≡ putIf (firsts (isBusy (recordsOf h) (points (now (spent .entry)))) [] (points (now (picked .entry)))) (now (out .entry)) ⌝ }
+{
+    let mut cells = [0u8; CELLS_BYTES];
+    hold_records::list_cells(h, &mut cells);
+    put_named(&cells, picked, spent, out)
 }
 
 // How many picks are taken, and the table with a record for each, as far as there is room.
@@ -101,8 +124,8 @@ struct Taken {
     count: u32,
 }
 
-fn tally(h: Held, picked: &[u8], spent: &[u8], owner: Owner) -> Taken
-    ensures { λ r. ⌜ Tallied owner (select (λ p. asked false (isBusy (recordsOf h) (points (now (spent .entry))) p)) (pointOf (now (picked .entry))) 0 (fixCount (now (picked .entry)))) h (r .held) (r .count) ⌝ }
+fn tally(h: Held, cells: &[u8], picked: &[u8], spent: &[u8], owner: Owner) -> Taken
+    ensures { λ r. ⌜ Tallied owner (select (λ p. asked false (isAmong (points (now (cells .entry))) (points (now (spent .entry))) p)) (pointOf (now (picked .entry))) 0 (fixCount (now (picked .entry)))) h (r .held) (r .count) ⌝ }
 {
     let n = molecule::fix_count(picked) as usize;
     let from = hold_records::used(h.count);
@@ -113,7 +136,7 @@ fn tally(h: Held, picked: &[u8], spent: &[u8], owner: Owner) -> Taken
     while i < n {
         let k = i;
         i += 1;
-        if first(h, picked, spent, false, k) {
+        if first(cells, picked, spent, false, k) {
             count += 1;
             let last = g.count;
             if last < MOST {
@@ -126,33 +149,27 @@ fn tally(h: Held, picked: &[u8], spent: &[u8], owner: Owner) -> Taken
     Taken { held: g, count }
 }
 
-// Whether p is the cell of record k.
-fn is_cell(h: Held, k: usize, p: OutPoint) -> bool
-    ensures { λ r. ⌜ r ≡ headIs p (cellsOf (drop k (recordsOf h))) ⌝ }
-{
-    let n = hold_records::used(h.count);
-    if n <= k {
-        return false;
-    }
-    let x = h.records[k];
-    let q = x.point;
-    out_points::same_point(p, q)
-}
-
 // Puts the picks that were not taken, one after the other from `at` on: the records from `from` on are the taken ones, in pick order.
 fn put_rest(g: Held, from: usize, picked: &[u8], out: &mut [u8], at: usize) -> usize
     requires { ⌜ (from ≤ 256) × (at + 36 * length (unmatched (cellsOf (drop from (recordsOf g))) (points (now picked))) ≤ length (now out)) ⌝ }
     ensures { λ r. ⌜ Put (now (out .entry)) at (bytesOf (unmatched (cellsOf (drop from (recordsOf g))) (points (now (picked .entry))))) (now (out .exit)) r ⌝ }
 {
     let n = molecule::fix_count(picked) as usize;
+    let end = hold_records::used(g.count);
     let mut to = at;
     let mut k = from;
     let mut i: usize = 0;
     while i < n {
         let p = out_points::point_of(picked, i);
         i += 1;
-        if is_cell(g, k, p) {
-            k += 1;
+        if k < end {
+            let x = g.records[k];
+            let q = x.point;
+            if out_points::same_point(p, q) {
+                k += 1;
+            } else {
+                to = out_points::put_out_point(out, to, p);
+            }
         } else {
             to = out_points::put_out_point(out, to, p);
         }
@@ -179,19 +196,20 @@ fn put_both(g: Held, from: usize, picked: &[u8], n: u32, taken: &mut [u8], refus
     put_others(g, from, picked, n, refused);
 }
 
-// Takes the picks from the records of `live`; a refusal hands back `held`.
-pub fn take_from(
+// Takes the picks that are not among the cells of `live`; a refusal hands back `held`.
+fn take_free(
     held: Held,
     live: Held,
+    cells: &[u8],
     picked: &[u8],
     spent: &[u8],
     owner: Owner,
     taken: &mut [u8],
     refused: &mut [u8],
 ) -> Holds
-    ensures { λ r. ⌜ (told recordsOf (r .answer) (r .held), now (taken .exit), now (refused .exit)) ≡ takeFrom held (recordsOf live) (points (now (picked .entry))) (points (now (spent .entry))) owner (now (taken .entry)) (now (refused .entry)) ⌝ }
+    ensures { λ r. ⌜ (told recordsOf (r .answer) (r .held), now (taken .exit), now (refused .exit)) ≡ takeFrom held (recordsOf live) (points (now (cells .entry))) (points (now (picked .entry))) (points (now (spent .entry))) owner (now (taken .entry)) (now (refused .entry)) ⌝ }
 {
-    let t = tally(live, picked, spent, owner);
+    let t = tally(live, cells, picked, spent, owner);
     let count = t.count;
     let n = molecule::fix_count(picked);
     let rest = n - count;
@@ -208,4 +226,21 @@ pub fn take_from(
     let after = t.held;
     put_both(after, from, picked, rest, taken, refused);
     hold_records::done(after)
+}
+
+// Takes the picks that no record of `live` holds; a refusal hands back `held`.
+pub fn take_from(
+    held: Held,
+    live: Held,
+    picked: &[u8],
+    spent: &[u8],
+    owner: Owner,
+    taken: &mut [u8],
+    refused: &mut [u8],
+) -> Holds
+    ensures { λ r. ⌜ (told recordsOf (r .answer) (r .held), now (taken .exit), now (refused .exit)) ≡ takeFrom held (recordsOf live) (cellsOf (recordsOf live)) (points (now (picked .entry))) (points (now (spent .entry))) owner (now (taken .entry)) (now (refused .entry)) ⌝ }
+{
+    let mut cells = [0u8; CELLS_BYTES];
+    hold_records::list_cells(live, &mut cells);
+    take_free(held, live, &cells, picked, spent, owner, taken, refused)
 }

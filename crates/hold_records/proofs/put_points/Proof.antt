@@ -20,6 +20,7 @@ put-points-spec =
     (λ c. search ways)  -- loop-holds
     (λ c. search ways)  -- mul-x
     (λ c. search ways)  -- element-copy-out-x
+    (λ c κs. search ways)  -- cell-of-requires
     (λ c κs. search ways)  -- put-out-point-requires
     (λ c. search ways)  -- add-i
     (λ c. search ways)  -- loop-less

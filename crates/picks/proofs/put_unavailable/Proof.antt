@@ -1,3 +1,5 @@
+use native.Mathlib.Omega.{arith}
+use Rattle.picks.proofs.PickLaws.{held-room, held-put}
 use Rattle.picks.proofs.Ways.{ways}
 use Rattle.picks.proofs.put_unavailable.Statement.{statement}
 use Rattle.picks.proofs.put_unavailable.Tie as tie
@@ -6,12 +8,9 @@ pub put-unavailable-spec : {M : Type 1} → statement M
 put-unavailable-spec =
     tie.close
     (tie.spec
-    (λ c κs. search ways)  -- count-busy-requires
-    (λ c. search ways)  -- cast-w
-    (λ c. search ways)  -- mul-if1
-    (λ c. search ways)  -- add-if1
-    (λ c. search ways)  -- returns
-    (λ c κs. search ways)  -- put-u32-requires
-    (λ c κs. search ways)  -- put-busy-requires
+    (λ c. search ways)  -- slice-aggregate-list-cells
+    (λ c κs. search ways)  -- list-cells-requires
+    (λ c. search ways)  -- slice-aggregate-put-named
+    (λ c κs. search ways)  -- put-named-requires
     (λ c. search ways)  -- same-length
-    (λ c. search ways))  -- returns-2
+    (λ c. let e = c .before .before .before .before .before .before .list-cells .ensures in let f = c .before .before .put-named .ensures in (held-room _ _ _ _ _ e (omega arith) (f .0), held-put _ _ _ _ _ e (omega arith) (f .1))))  -- returns

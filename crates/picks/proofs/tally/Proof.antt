@@ -2,18 +2,17 @@ use Prim.Native.Nat.{_-_}
 use mathlib.Core.Bool.{true, false}
 use Rattle.molecule.specs.Layout.{fixCount}
 use Rattle.out_points.specs.OutPoints.{pointOf, points}
-use Rattle.hold_records.specs.Holds.{recordsOf, isBusy}
-use Rattle.picks.specs.Places.{asked}
+use Rattle.picks.specs.Places.{isAmong, asked}
 use Rattle.picks.proofs.TakeLaws.{Tallying}
 use Rattle.picks.proofs.Ways.{ways}
 use Rattle.picks.proofs.tally.Statement.{statement}
 use Rattle.picks.proofs.tally.Tie as tie
 
 abbrev Inv-loop : tie.InvT-loop
-Inv-loop h picked spent owner n from g₀ count₀ i₀ g count i = Tallying owner (λ p. asked false (isBusy (recordsOf h) (points spent) p)) (pointOf picked) (fixCount picked) h g n i count
+Inv-loop cells picked spent owner n from g₀ count₀ i₀ g count i = Tallying owner (λ p. asked false (isAmong (points cells) (points spent) p)) (pointOf picked) (fixCount picked) g₀ g n i count
 
 abbrev μ-loop : tie.MeasureT-loop
-μ-loop h picked spent owner n from g₀ count₀ i₀ g count i = n - i
+μ-loop cells picked spent owner n from g₀ count₀ i₀ g count i = n - i
 
 pub tally-spec : {M : Type 1} → statement M
 tally-spec =
@@ -29,7 +28,7 @@ tally-spec =
     (λ c κs. search ways)  -- first-requires
     (λ c. search ways)  -- add-count
     (λ c κs. search ways)  -- point-of-requires
-    (λ c. search ways)  -- mul-t18
+    (λ c. search ways)  -- mul-t19
     (λ c. search ways)  -- element-set-from-g
     (λ c. search ways)  -- add-g
     (λ c. search ways)  -- loop-less

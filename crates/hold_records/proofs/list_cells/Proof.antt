@@ -1,0 +1,17 @@
+use Rattle.hold_records.proofs.Ways.{ways}
+use Rattle.hold_records.proofs.list_cells.Statement.{statement}
+use Rattle.hold_records.proofs.list_cells.Tie as tie
+
+pub list-cells-spec : {M : Type 1} → statement M
+list-cells-spec =
+    tie.close
+    (tie.spec
+    (λ c κs. search ways)  -- used-requires
+    (λ c. search ways)  -- mul-if1
+    (λ c. search ways)  -- add-if1
+    (λ c. search ways)  -- returns
+    (λ c. search ways)  -- cast-put-u32
+    (λ c κs. search ways)  -- put-u32-requires
+    (λ c κs. search ways)  -- put-points-requires
+    (λ c. search ways)  -- same-length
+    (λ c. search ways))  -- returns-2

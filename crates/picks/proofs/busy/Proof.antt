@@ -1,0 +1,12 @@
+use Rattle.picks.proofs.Ways.{ways}
+use Rattle.picks.proofs.busy.Statement.{statement}
+use Rattle.picks.proofs.busy.Tie as tie
+
+pub busy-spec : {M : Type 1} → statement M
+busy-spec =
+    tie.close
+    (tie.spec
+    (λ c κs. search ways)  -- has-point-requires
+    (λ c. search ways)  -- returns
+    (λ c κs. search ways)  -- has-point-requires-2
+    (λ c. search ways))  -- returns-2
