@@ -3,7 +3,6 @@ use mathlib.Core.Path.{_≡_, refl, sym, ap, ap₂, _∙_}
 use Prim.Native.Nat.{ℕ, zero, suc, _+_, _-_, _*_, _/_, _%_, _^_, _≤_, _<_, min}
 use mathlib.Core.Bool.{Bool, true, false, not, cond}
 use mathlib.Core.List.{List, [], _∷_, _++_, flatten, append-assoc}
-use native.Mathlib.Nat.{mul-comm, mul-assoc, pow-suc}
 use native.Mathlib.Omega.{arith}
 use mir.Syntax.{w32}
 use mir.Val.{Fits}
@@ -21,6 +20,7 @@ use Rattle.list_writer.specs.Around.{fitsAt, Room}
 use Rattle.list_writer.proofs.SpanLaws.{flatten-append, body, body-next}
 use Rattle.list_writer.proofs.LoopLaws.{Sizing, size-more, size-end, Writing, write-none, write-room, write-then, write-end}
 use Rattle.list_writer.proofs.AnswerLaws.{fit-room}
+use Rattle.list_writer.proofs.CountLaws.{wrapped}
 use Rattle.list_writer.specs.ListWriter.{fixList}
 use Rattle.base_inputs.specs.BaseInputs.{pickedInput, picked, inputList, inputsSize}
 
@@ -104,19 +104,6 @@ unfolding body
 picked-eights cells n = eights cells n
 
 -- ---- the whole
-
--- four bytes hold a number modulo 2^32
-low-bytes : (w x y : ℕ) → toLe w (x + 256 ^ w * y) ≡ toLe w x
-unfolding toLe
-low-bytes zero x y = refl
-low-bytes (suc w) x y =
-    let p : 256 ^ suc w * y ≡ 256 * (256 ^ w * y) = ap (λ (n : ℕ). n * y) (pow-suc 256 w ∙ mul-comm (256 ^ w) 256) ∙ mul-assoc 256 (256 ^ w) y in
-    ap₂ _∷_ (omega arith) (ap (toLe w) (omega arith) ∙ low-bytes w (x / 256) y)
-
-wrapped : (n : ℕ) → toLe 4 (n % 2 ^ 32) ≡ toLe 4 n
-wrapped n =
-    let e : n % 2 ^ 32 + 256 ^ 4 * (n / 2 ^ 32) ≡ n = omega arith in
-    sym (low-bytes 4 (n % 2 ^ 32) (n / 2 ^ 32)) ∙ ap (toLe 4) e
 
 pub count-put : (n : ℕ) (run : List ℕ) {out o₁ o₂ : List ℕ} {at n₁ n₂ : ℕ} → at + 4 + length run ≤ length out → o₁ ≡ putAt out at (toLe 4 n)
     → n₁ ≡ putEnd out at (toLe 4 n) → o₂ ≡ putAt o₁ n₁ run → n₂ ≡ putEnd o₁ n₁ run → Put out at (toLe 4 n ++ run) o₂ n₂
