@@ -22,7 +22,6 @@ use Rattle.rules.specs.Surplus.{isEmpty}
 use Rattle.list_writer.specs.ListWriter.{fixList}
 use Rattle.base_inputs.specs.BaseInputs.{inputList}
 use Rattle.base_lists.specs.BaseLists.{outputList, dataList, witnessList}
-use Rattle.cell_deps.specs.declared.Chosen.{Chosen}
 use Rattle.cell_deps.specs.CellDeps.{depsAt}
 use Rattle.base_writer.specs.declared.{Plan.Plan, Sizes.Sizes}
 use Rattle.base_writer.specs.Answer.{inRoom, leaves, written, told}
@@ -147,7 +146,7 @@ module _ (version : ℕ) (z : Sizes) (x : Lists) (out : List ℕ) where
           rw (le-leb _ _ a, le-leb _ _ b)
 
 -- of the lists that a call is lent
-module _ (version : ℕ) (deps headers inputs outputs datas lock udt source cells udtDeps lockDep extraDeps : List ℕ) (k : Chosen) (p : Plan) (z : Sizes) (out : List ℕ)
+module _ (version : ℕ) (deps headers inputs outputs datas lock udt source cells udtDeps lockDep extraDeps : List ℕ) (k : List ℕ) (p : Plan) (z : Sizes) (out : List ℕ)
     (g : Fitting z (listsOf (record { deps = deps; headers = headers; inputs = inputs; outputs = outputs; datas = datas }) (record { lock = lock; udt = udt; source = source; cells = cells; udtDeps = udtDeps; lockDep = lockDep; extraDeps = extraDeps }) k p) out) where
   abbrev first₁ : List ℕ
   first₁ = fixList (depsAt deps udtDeps lockDep extraDeps k)

@@ -17,7 +17,6 @@ use Rattle.rules.proofs.CellLaws.{empty-is}
 use Rattle.base_inputs.specs.BaseInputs.{inputList}
 use Rattle.base_lists.specs.BaseLists.{outputList, dataList, witnessList}
 use Rattle.list_writer.specs.ListWriter.{fixList}
-use Rattle.cell_deps.specs.declared.Chosen.{Chosen}
 use Rattle.cell_deps.specs.CellDeps.{depsAt}
 use Rattle.base_writer.specs.declared.{Plan.Plan, Sizes.Sizes}
 use Rattle.base_writer.specs.Lists.{orEmpty, Present, Beside, listsOf, Capped}
@@ -58,7 +57,7 @@ module _ (out : List ℕ) (at : ℕ) (s : List ℕ) where
 typed-is : (s : List ℕ) → not (eqb (length s) 0) ≡ not (isEmpty s)
 typed-is s = ap not (sym (empty-is s))
 
-pub sized : (t : Present) (l : Beside) (x : Chosen) (p : Plan) {later present d h i o a w : ℕ} → later ≡ itemCount (t .outputs) - 1 → present ≡ fixCount (t .inputs)
+pub sized : (t : Present) (l : Beside) (x : List ℕ) (p : Plan) {later present d h i o a w : ℕ} → later ≡ itemCount (t .outputs) - 1 → present ≡ fixCount (t .inputs)
     → d ≡ min (length (fixList (depsAt (t .deps) (l .udtDeps) (l .lockDep) (l .extraDeps) x))) 133117
     → h ≡ min (length (orEmpty (t .headers))) 133117
     → i ≡ min (length (fixList (inputList (t .inputs) (l .cells) (p .taken)))) 133117

@@ -13,7 +13,6 @@ use Rattle.transaction_writer.specs.Written.{txBytes, txHead}
 use Rattle.base_inputs.specs.BaseInputs.{inputList}
 use Rattle.base_lists.specs.BaseLists.{outputList, dataList, witnessList}
 use Rattle.list_writer.specs.ListWriter.{fixList}
-use Rattle.cell_deps.specs.declared.Chosen.{Chosen}
 use Rattle.cell_deps.specs.CellDeps.{depsAt}
 use Rattle.base_writer.specs.declared.{Plan.Plan, Sizes.Sizes}
 
@@ -49,7 +48,7 @@ pub record Lists : Type 0 where
   pub datas : List ℕ
   pub witnesses : List ℕ
 
-unfoldable pub listsOf : Present → Beside → Chosen → Plan → Lists
+unfoldable pub listsOf : Present → Beside → List ℕ → Plan → Lists
 listsOf t l x p = record {
   deps = fixList (depsAt (t .deps) (l .udtDeps) (l .lockDep) (l .extraDeps) x);
   headers = orEmpty (t .headers);

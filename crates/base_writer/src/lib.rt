@@ -1,5 +1,4 @@
 // Writes a base transaction into a lent buffer: from the lists of the present one, the lent lists, and the figures.
-use cell_deps::Chosen;
 use error::Refusal;
 use molecule::write;
 use transaction_writer::Written;
@@ -91,10 +90,10 @@ fn measure<'a>(
     udt: &[u8],
     source: &[u8],
     cells: &[u8],
-    chosen: Chosen,
+    chosen: &[usize],
     plan: Plan,
 ) -> Sizes
-    ensures { λ r. ⌜ Capped r (listsOf (record { deps = now (deps .entry); headers = now (headers .entry); inputs = now (inputs .entry); outputs = now (outputs .entry); datas = now (datas .entry) }) (record { lock = now (lock .entry); udt = now (udt .entry); source = now (source .entry); cells = now (cells .entry); udtDeps = now («udt_deps» .entry); lockDep = now («lock_dep» .entry); extraDeps = now («extra_deps» .entry) }) chosen plan) ⌝ }
+    ensures { λ r. ⌜ Capped r (listsOf (record { deps = now (deps .entry); headers = now (headers .entry); inputs = now (inputs .entry); outputs = now (outputs .entry); datas = now (datas .entry) }) (record { lock = now (lock .entry); udt = now (udt .entry); source = now (source .entry); cells = now (cells .entry); udtDeps = now («udt_deps» .entry); lockDep = now («lock_dep» .entry); extraDeps = now («extra_deps» .entry) }) (now (chosen .entry)) plan) ⌝ }
 {
     let later = later_count(outputs);
     let typed = udt.len() != 0;
@@ -126,12 +125,12 @@ fn put_front<'a>(
     headers: &[u8],
     inputs: &[u8],
     cells: &[u8],
-    chosen: Chosen,
+    chosen: &[usize],
     plan: Plan,
     z: Sizes,
 ) -> usize
-    requires { ⌜ FrontFits z (fixList (depsAt (now deps) (now «udt_deps») (now «lock_dep») (now «extra_deps») chosen)) (orEmpty (now headers)) (fixList (inputList (now inputs) (now cells) (plan .taken))) (now out) ⌝ }
-    ensures { λ r. ⌜ Put (now (out .entry)) 0 (front version z (fixList (depsAt (now (deps .entry)) (now («udt_deps» .entry)) (now («lock_dep» .entry)) (now («extra_deps» .entry)) chosen)) (orEmpty (now (headers .entry))) (fixList (inputList (now (inputs .entry)) (now (cells .entry)) (plan .taken)))) (now (out .exit)) r ⌝ }
+    requires { ⌜ FrontFits z (fixList (depsAt (now deps) (now «udt_deps») (now «lock_dep») (now «extra_deps») (now chosen))) (orEmpty (now headers)) (fixList (inputList (now inputs) (now cells) (plan .taken))) (now out) ⌝ }
+    ensures { λ r. ⌜ Put (now (out .entry)) 0 (front version z (fixList (depsAt (now (deps .entry)) (now («udt_deps» .entry)) (now («lock_dep» .entry)) (now («extra_deps» .entry)) (now (chosen .entry)))) (orEmpty (now (headers .entry))) (fixList (inputList (now (inputs .entry)) (now (cells .entry)) (plan .taken)))) (now (out .exit)) r ⌝ }
 {
     let at = transaction_writer::put_head(
         out,
@@ -213,12 +212,12 @@ fn put_lists<'a>(
     udt: &[u8],
     source: &[u8],
     cells: &[u8],
-    chosen: Chosen,
+    chosen: &[usize],
     plan: Plan,
     z: Sizes,
 ) -> usize
-    requires { ⌜ Fitting z (listsOf (record { deps = now deps; headers = now headers; inputs = now inputs; outputs = now outputs; datas = now datas }) (record { lock = now lock; udt = now udt; source = now source; cells = now cells; udtDeps = now «udt_deps»; lockDep = now «lock_dep»; extraDeps = now «extra_deps» }) chosen plan) (now out) ⌝ }
-    ensures { λ r. ⌜ Put (now (out .entry)) 0 (bytesOf version (listsOf (record { deps = now (deps .entry); headers = now (headers .entry); inputs = now (inputs .entry); outputs = now (outputs .entry); datas = now (datas .entry) }) (record { lock = now (lock .entry); udt = now (udt .entry); source = now (source .entry); cells = now (cells .entry); udtDeps = now («udt_deps» .entry); lockDep = now («lock_dep» .entry); extraDeps = now («extra_deps» .entry) }) chosen plan)) (now (out .exit)) r ⌝ }
+    requires { ⌜ Fitting z (listsOf (record { deps = now deps; headers = now headers; inputs = now inputs; outputs = now outputs; datas = now datas }) (record { lock = now lock; udt = now udt; source = now source; cells = now cells; udtDeps = now «udt_deps»; lockDep = now «lock_dep»; extraDeps = now «extra_deps» }) (now chosen) plan) (now out) ⌝ }
+    ensures { λ r. ⌜ Put (now (out .entry)) 0 (bytesOf version (listsOf (record { deps = now (deps .entry); headers = now (headers .entry); inputs = now (inputs .entry); outputs = now (outputs .entry); datas = now (datas .entry) }) (record { lock = now (lock .entry); udt = now (udt .entry); source = now (source .entry); cells = now (cells .entry); udtDeps = now («udt_deps» .entry); lockDep = now («lock_dep» .entry); extraDeps = now («extra_deps» .entry) }) (now (chosen .entry)) plan)) (now (out .exit)) r ⌝ }
 {
     let at = put_front(
         out,
@@ -252,11 +251,11 @@ pub fn write_base<'a>(
     udt: &[u8],
     source: &[u8],
     cells: &[u8],
-    chosen: Chosen,
+    chosen: &[usize],
     plan: Plan,
     out: &mut [u8],
 ) -> Written
-    ensures { λ r. ⌜ (told r, now (out .exit)) ≡ written (fine (bytesOf version (listsOf (record { deps = now (deps .entry); headers = now (headers .entry); inputs = now (inputs .entry); outputs = now (outputs .entry); datas = now (datas .entry) }) (record { lock = now (lock .entry); udt = now (udt .entry); source = now (source .entry); cells = now (cells .entry); udtDeps = now («udt_deps» .entry); lockDep = now («lock_dep» .entry); extraDeps = now («extra_deps» .entry) }) chosen plan))) (now (out .entry)) ⌝ }
+    ensures { λ r. ⌜ (told r, now (out .exit)) ≡ written (fine (bytesOf version (listsOf (record { deps = now (deps .entry); headers = now (headers .entry); inputs = now (inputs .entry); outputs = now (outputs .entry); datas = now (datas .entry) }) (record { lock = now (lock .entry); udt = now (udt .entry); source = now (source .entry); cells = now (cells .entry); udtDeps = now («udt_deps» .entry); lockDep = now («lock_dep» .entry); extraDeps = now («extra_deps» .entry) }) (now (chosen .entry)) plan))) (now (out .entry)) ⌝ }
 {
     let z = measure(
         deps,

@@ -3,26 +3,14 @@ use mathlib.Core.Path.{_≡_, refl, sym, ap, ap₂, _∙_}
 use Prim.Native.Nat.{ℕ, zero, suc, _+_, _-_, _≤_, _<_, min}
 use mathlib.Core.Bool.{Bool, true, false, cond}
 use mathlib.Core.List.{List, [], _∷_, _++_, map, append-assoc}
-use native.Mathlib.Nat.{le-of-suc-le-suc, zero-min, suc-min-suc}
+use native.Mathlib.Nat.{le-of-suc-le-suc}
 use native.Mathlib.Omega.{arith}
 use borrow.Author.Tests.{lt-ltb, le-ltb}
 use lib.ListN.{length, getD, take}
-use lib.Seq.{take-nil}
 use lib.Dec.{ltb}
 use Rattle.molecule.specs.Layout.{span, fixCount, fixItem, fixItems}
 use Rattle.list_writer.specs.ListWriter.{ifAny}
-use Rattle.cell_deps.specs.declared.Chosen.{Chosen}
-use Rattle.cell_deps.specs.CellDeps.{before, anyCount, lastDepAt, ownDepAt, depAt, depCount, allDeps, depsAt}
-
--- ---- the front of a list
-
-take-min : {A : Type 0} (n : ℕ) (l : List A) → take (min n (length l)) l ≡ take n l
-take-min zero l = ap (λ (k : ℕ). take k l) (zero-min (length l))
-take-min (suc n) [] = take-nil (min (suc n) 0)
-take-min (suc n) (x ∷ l) = ap (λ (k : ℕ). take k (x ∷ l)) (suc-min-suc n (length l)) ∙ ap (λ t. x ∷ t) (take-min n l)
-
-pub take-used : {A : Type 0} (l : List A) (i n m : ℕ) → length l ≡ m → i ≡ min n m → take i l ≡ take n l
-take-used l i n m e h = rw (h, ← e) (take-min n l)
+use Rattle.cell_deps.specs.CellDeps.{before, anyCount, lastDepAt, ownDepAt, depAt, depCount, allDeps}
 
 -- ---- one dep
 

@@ -13,13 +13,14 @@ use Rattle.molecule.specs.Molecule.{Ty, option, size, sizes, readable}
 use Rattle.molecule.specs.Layout.{fixItems, span, word}
 use Rattle.molecule.proofs.Valid.{fixed, allFixed}
 use Rattle.molecule.proofs.ChunksLaws.{Long, length-all}
+use Rattle.molecule.proofs.Offsets.{span-length}
 use Rattle.molecule.proofs.ReadableLaws.{readable-option, readable-fixed}
 use Rattle.transaction.specs.Ckb.{CellDep, CellDeps}
 use Rattle.lists.specs.Lists.{contains}
 use Rattle.list_writer.specs.ListWriter.{fixList, ifAny}
 use Rattle.list_writer.proofs.AgainLaws.{items-long}
-use Rattle.cell_deps.specs.declared.Chosen.{Chosen}
-use Rattle.cell_deps.specs.CellDeps.{pushed, pushAll, allDeps, cellDeps, Chooses}
+use Rattle.cell_deps.specs.CellDeps.{pushed, pushAll, allDeps, cellDeps, depAt, depCount}
+use Rattle.cell_deps.proofs.DepLaws.{all-spans}
 
 -- ---- lists of items of one length
 
@@ -100,8 +101,24 @@ module _ (a b c d : List ℕ) (ha : readable (option CellDeps) a ≡ true) (hb :
       let r = long-append 37 (fixItems 37 a ++ fixItems 37 b ++ ifAny c) (fixItems 37 d) q (optional-long d hd) in
       all-long 37 [] (allDeps a b c d) tt r
 
-  -- where there are more than are chosen, the list does not fit a transaction
-  pub too-many : (x : Chosen) → Chooses a b c d x → 3597 < x .count → 133116 < length (fixList (cellDeps a b c d))
-  too-many x h k =
-      let n = h .number in
-      omega (arith, list-long 37 (cellDeps a b c d) cell-deps-long)
+  -- more than 3,597 do not fit a transaction
+  pub too-many : 3597 < length (cellDeps a b c d) → 133116 < length (fixList (cellDeps a b c d))
+  too-many h = omega (arith, list-long 37 (cellDeps a b c d) cell-deps-long)
+
+-- each dep once is at most as many as there are
+pushed-most : (deps : List (List ℕ)) (x : List ℕ) → length (pushed deps x) ≤ length deps + 1
+unfolding pushed
+pushed-most deps x = by (contains x deps)
+  where
+    by : (b : Bool) → length (cond b deps (deps ++ (x ∷ []))) ≤ length deps + 1
+    by true = omega arith
+    by false = rw length-append (omega arith)
+
+all-most : (deps xs : List (List ℕ)) → length (pushAll deps xs) ≤ length deps + length xs
+unfolding pushAll
+all-most deps [] = omega arith
+all-most deps (x ∷ xs) = let a = pushed-most deps x in let b = all-most (pushed deps x) xs in omega arith
+
+pub deps-most : (a b c d : List ℕ) → length (cellDeps a b c d) ≤ depCount a b c d
+unfolding cellDeps
+deps-most a b c d = omega (arith, all-most [] (allDeps a b c d), ap length (all-spans a b c d), span-length (depAt a b c d) 0 (depCount a b c d))

@@ -97,8 +97,8 @@ eq-sym : (x y : List ℕ) → eqBytes y x ≡ false → eqBytes x y ≡ false
 eq-sym x y e = false-if (eqBytes x y) (λ t. false≢true (sym e ∙ ap (eqBytes y) (eq-true x y t) ∙ eq-refl y))
 
 module _ (f : ℕ → List ℕ) (n : ℕ) (x : List ℕ) {at : ℕ} (k : Lower f n x at) where
-  pub find-none : n ≤ at → Sought f n x (record { at = at; there = false })
-  find-none h = record {
+  sought-none : n ≤ at → Sought f n x (record { at = at; there = false })
+  sought-none h = record {
     there = sym (none-there x f 0 n (λ i p q. eq-sym x (f i) (before-differs (f i) x (k .below i (omega arith)))));
     within = k .within;
     below = k .below;
@@ -128,9 +128,13 @@ module _ (f : ℕ → List ℕ) (n : ℕ) (x : List ℕ) {at : ℕ} (k : Lower f
     sought-at : Sought f n x (record { at = at; there = r })
     sought-at = record { there = is-there r refl; within = k .within; below = k .below; above = all-above }
 
-pub find-at : (a b c d s : List ℕ) (n : ℕ) (x : List ℕ) {at : ℕ} → Lower (placedAt a b c d s) n x at → Ordered (placedAt a b c d s) n → at < n → {y : List ℕ}
-    → y ≡ depAt a b c d (getD s at 0) → {r : Bool} → r ≡ eqBytes x y → Sought (placedAt a b c d s) n x (record { at = at; there = r })
-find-at a b c d s n x {at} k o h ey er = sought-at (placedAt a b c d s) n x k o h (is-placed a b c d s at ey) er
+module _ (a b c d s : List ℕ) (n i : ℕ) {x : List ℕ} (ex : x ≡ depAt a b c d i) {at : ℕ} (k : Lower (placedAt a b c d s) n x at) where
+  pub find-none : n ≤ at → Sought (placedAt a b c d s) n (depAt a b c d i) (record { at = at; there = false })
+  find-none h = rw ex at (sought-none (placedAt a b c d s) n x k h)
+
+  pub find-at : Ordered (placedAt a b c d s) n → at < n → {y : List ℕ} → y ≡ depAt a b c d (getD s at 0) → {r : Bool} → r ≡ eqBytes x y
+      → Sought (placedAt a b c d s) n (depAt a b c d i) (record { at = at; there = r })
+  find-at o h ey er = rw ex at (sought-at (placedAt a b c d s) n x k o h (is-placed a b c d s at ey) er)
 
 -- ---- one put in
 

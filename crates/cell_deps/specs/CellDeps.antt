@@ -1,7 +1,7 @@
 -- The cell deps of a base transaction (01-scope.md, "Our own side": "present, token's and lock's if tokens were picked, extra; first occurrence
 -- only").
 use mathlib.Core.Path.{_≡_}
-use Prim.Native.Nat.{ℕ, _+_, _-_, _<_, min}
+use Prim.Native.Nat.{ℕ, _+_, _-_, _≤_, min}
 use mathlib.Core.Bool.{Bool, cond}
 use mathlib.Core.List.{List, [], _∷_, _++_, map}
 use lib.ListN.{length, take}
@@ -9,7 +9,6 @@ use lib.Dec.{ltb}
 use Rattle.lists.specs.Lists.{contains}
 use Rattle.molecule.specs.Layout.{fixCount, fixItem, fixItems}
 use Rattle.list_writer.specs.ListWriter.{ifAny}
-use Rattle.cell_deps.specs.declared.Chosen.{Chosen}
 
 -- each dep once, where it first stands: a dep that is there already is not pushed again
 unfoldable pub pushed : List (List ℕ) → List ℕ → List (List ℕ)
@@ -48,11 +47,11 @@ depAt a b c d = before (fixCount a) (fixItem a 37) (ownDepAt b c d)
 abbrev pub depCount : List ℕ → List ℕ → List ℕ → List ℕ → ℕ
 depCount a b c d = fixCount a + (fixCount b + (anyCount c + fixCount d))
 
--- the deps at the chosen places
-unfoldable pub depsAt : List ℕ → List ℕ → List ℕ → List ℕ → Chosen → List (List ℕ)
-depsAt a b c d x = map (depAt a b c d) (take (x .count) (x .places))
+-- the deps at these places
+unfoldable pub depsAt : List ℕ → List ℕ → List ℕ → List ℕ → List ℕ → List (List ℕ)
+depsAt a b c d places = map (depAt a b c d) places
 
--- the choice: places of these deps, in their order, or 3,598 for more of them than a transaction has room for
-pub record Chooses (a b c d : List ℕ) (x : Chosen) : Type 0 where
-  pub number : x .count ≡ min (length (cellDeps a b c d)) 3598
-  pub chosen : x .count < 3598 → depsAt a b c d x ≡ cellDeps a b c d
+-- the choice: the first r are places of these deps, in their order; one more than there is room for where there are more deps
+pub record Chooses (a b c d : List ℕ) (room : ℕ) (places : List ℕ) (r : ℕ) : Type 0 where
+  pub number : r ≡ min (length (cellDeps a b c d)) (room + 1)
+  pub chosen : r ≤ room → depsAt a b c d (take r places) ≡ cellDeps a b c d

@@ -3,7 +3,7 @@ use molecule::write;
 ghost use mathlib.Core.Path.{_≡_};
 ghost use Prim.Native.Nat.{_+_, _*_, _≤_, _<_, min};
 ghost use mathlib.Core.List.{flatten};
-ghost use lib.ListN.{length, take};
+ghost use lib.ListN.{length, set};
 ghost use Rattle.molecule.specs.Write.{Put};
 ghost use Rattle.list_writer.specs.ListWriter.{fixList, putList, putListEnd};
 ghost use Rattle.cell_deps.specs.CellDeps.{anyCount, lastDepAt, ownDepAt, depAt, depCount, depsAt, Chooses};
@@ -11,15 +11,6 @@ ghost use Rattle.cell_deps.specs.Sorted.{isBefore, placedAt, Ordered, Lo
 
 // How many bytes a cell dep has: an out point and the dep type.
 const CELL_DEP_BYTES: u32 = 37;
-
-// How many cell deps 133,116 bytes have room for. No more are looked for, so that the time has a bound.
-const MOST_DEPS: usize = 3597;
-
-// The places of cell deps in four lists, one after the other: the first `count`; 3,598 where there are more than fit a transaction.
-pub struct Chosen {
-    pub places: [usize; 3597],
-    pub count: usize,
-}
 
 // Where a dep stands among sorted ones, or where it is to be put.
 struct Found {
@@ -77,14 +68,10 @@ fn dep_at<'a>(
     own_dep_at(udt, lock, extra, i - n)
 }
 
-// How many places stand.
-fn used(count: usize) -> usize
-    ensures { λ r. ⌜ r ≡ min count 3597 ⌝ }
+fn lesser(a: usize, b: usize) -> usize
+    ensures { λ r. ⌜ r ≡ min a b ⌝ }
 {
-    if count < MOST_DEPS {
-        return count;
-    }
-    MOST_DEPS
+    if a < b { a } else { b }
 }
 
 // Whether a comes before b in the order of their bytes.
@@ -116,11 +103,11 @@ fn lower_bound<'a>(
     udt: &'a [u8],
     lock: &'a [u8],
     extra: &'a [u8],
-    sorted: &[usize; 3597],
+    sorted: &[usize],
     n: usize,
     x: &[u8],
 ) -> usize
-    requires { ⌜ n ≤ 3597 ⌝ }
+    requires { ⌜ n ≤ length (now sorted) ⌝ }
     requires { ⌜ Ordered (placedAt (now present) (now udt) (now lock) (now extra) (now sorted)) n ⌝ }
     ensures { λ r. ⌜ Lower (placedAt (now (present .entry)) (now (udt .entry)) (now (lock .entry)) (now (extra .entry)) (now (sorted .entry))) n (now (x .entry)) r ⌝ }
 {
@@ -139,20 +126,21 @@ fn lower_bound<'a>(
     low
 }
 
-// Looks x up among the deps at the first n places, which are in the order of their deps.
+// Looks the dep at a place up among those at the first n places, which are in the order of their deps.
 fn find<'a>(
     present: &'a [u8],
     udt: &'a [u8],
     lock: &'a [u8],
     extra: &'a [u8],
-    sorted: &[usize; 3597],
+    sorted: &[usize],
     n: usize,
-    x: &[u8],
+    i: usize,
 ) -> Found
-    requires { ⌜ n ≤ 3597 ⌝ }
+    requires { ⌜ n ≤ length (now sorted) ⌝ }
     requires { ⌜ Ordered (placedAt (now present) (now udt) (now lock) (now extra) (now sorted)) n ⌝ }
-    ensures { λ r. ⌜ Sought (placedAt (now (present .entry)) (now (udt .entry)) (now (lock .entry)) (now (extra .entry)) (now (sorted .entry))) n (now (x .entry)) r ⌝ }
+    ensures { λ r. ⌜ Sought (placedAt (now (present .entry)) (now (udt .entry)) (now (lock .entry)) (now (extra .entry)) (now (sorted .entry))) n (depAt (now (present .entry)) (now (udt .entry)) (now (lock .entry)) (now (extra .entry)) i) r ⌝ }
 {
+    let x = dep_at(present, udt, lock, extra, i);
     let at = lower_bound(present, udt, lock, extra, sorted, n, x);
     if n <= at {
         return Found { at, there: false };
@@ -179,8 +167,20 @@ fn insert(sorted: &mut [usize], n: usize, at: usize, place: usize)
     }
 }
 
+// Puts a place after the first n of `places`, and at `at` among the first n of `sorted`.
+fn put_place(places: &mut [usize], sorted: &mut [usize], n: usize, at: usize, place: usize)
+    requires { ⌜ at ≤ n ⌝ }
+    requires { ⌜ n < length (now places) ⌝ }
+    requires { ⌜ n < length (now sorted) ⌝ }
+    ensures { λ _. ⌜ now (places .exit) ≡ set (now (places .entry)) n place ⌝ }
+    ensures { λ _. ⌜ Inserted (now (sorted .entry)) n at place (now (sorted .exit)) ⌝ }
+{
+    insert(sorted, n, at, place);
+    places[n] = place;
+}
+
 // How many deps the four lists have.
-fn dep_count(present: &[u8], udt: &[u8], lock: &[u8], extra: &[u8]) -> usize
+pub fn dep_count(present: &[u8], udt: &[u8], lock: &[u8], extra: &[u8]) -> usize
     ensures { λ r. ⌜ r ≡ depCount (now (present .entry)) (now (udt .entry)) (now (lock .entry)) (now (extra .entry)) ⌝ }
 {
     let a = molecule::fix_count(present) as usize;
@@ -189,34 +189,36 @@ fn dep_count(present: &[u8], udt: &[u8], lock: &[u8], extra: &[u8]) -> usize
     a + b + any_count(lock) + d
 }
 
-// The places of the deps, each where it first stands. Beside them the same places in the order of their deps, so that one more is looked up in twelve steps.
-pub fn choose<'a>(present: &'a [u8], udt: &'a [u8], lock: &'a [u8], extra: &'a [u8]) -> Chosen
-    ensures { λ r. ⌜ Chooses (now (present .entry)) (now (udt .entry)) (now (lock .entry)) (now (extra .entry)) r ⌝ }
+// Puts the places of the deps, each where it first stands, at the start of `places`, and returns how many there are; where there are more than the two slices have
+// room for, one more than that. In `sorted` the same places are kept in the order of their deps, so that one more is looked up by halves.
+pub fn choose<'a>(
+    present: &'a [u8],
+    udt: &'a [u8],
+    lock: &'a [u8],
+    extra: &'a [u8],
+    places: &mut [usize],
+    sorted: &mut [usize],
+) -> usize
+    ensures { λ r. ⌜ Chooses (now (present .entry)) (now (udt .entry)) (now (lock .entry)) (now (extra .entry)) (min (length (now (places .entry))) (length (now (sorted .entry)))) (now (places .exit)) r ⌝ }
 {
     let n = dep_count(present, udt, lock, extra);
-    let mut chosen = Chosen {
-        places: [0; 3597],
-        count: 0,
-    };
-    let mut sorted = [0usize; 3597];
+    let room = lesser(places.len(), sorted.len());
+    let mut count: usize = 0;
     let mut i: usize = 0;
     while i < n {
-        let x = dep_at(present, udt, lock, extra, i);
-        let k = i;
+        let place = i;
         i += 1;
-        let last = chosen.count;
-        let found = find(present, udt, lock, extra, &sorted, last, x);
+        let last = count;
+        let found = find(present, udt, lock, extra, sorted, last, place);
         if !found.there {
-            if MOST_DEPS <= last {
-                chosen.count = MOST_DEPS + 1;
-                return chosen;
+            if room <= last {
+                return room + 1;
             }
-            insert(&mut sorted, last, found.at, k);
-            chosen.places[last] = k;
-            chosen.count = last + 1;
+            put_place(places, sorted, last, found.at, place);
+            count = last + 1;
         }
     }
-    chosen
+    count
 }
 
 // How long the list of the chosen deps is; 133,117 for all that is longer.
@@ -225,15 +227,14 @@ pub fn deps_size<'a>(
     udt: &'a [u8],
     lock: &'a [u8],
     extra: &'a [u8],
-    chosen: Chosen,
+    chosen: &[usize],
 ) -> usize
-    ensures { λ r. ⌜ r ≡ min (length (fixList (depsAt (now (present .entry)) (now (udt .entry)) (now (lock .entry)) (now (extra .entry)) chosen))) 133117 ⌝ }
+    ensures { λ r. ⌜ r ≡ min (length (fixList (depsAt (now (present .entry)) (now (udt .entry)) (now (lock .entry)) (now (extra .entry)) (now (chosen .entry))))) 133117 ⌝ }
 {
-    let n = used(chosen.count);
     let mut size: usize = 0;
     let mut j: usize = 0;
-    while j < n {
-        let place = chosen.places[j];
+    while j < chosen.len() {
+        let place = chosen[j];
         let x = dep_at(present, udt, lock, extra, place);
         size = list_writer::capped(size, x.len());
         j += 1;
@@ -249,16 +250,15 @@ fn put_places<'a>(
     udt: &'a [u8],
     lock: &'a [u8],
     extra: &'a [u8],
-    chosen: Chosen,
+    chosen: &[usize],
 ) -> usize
-    requires { ⌜ at + length (flatten (depsAt (now present) (now udt) (now lock) (now extra) chosen)) ≤ length (now out) ⌝ }
-    ensures { λ r. ⌜ Put (now (out .entry)) at (flatten (depsAt (now (present .entry)) (now (udt .entry)) (now (lock .entry)) (now (extra .entry)) chosen)) (now (out .exit)) r ⌝ }
+    requires { ⌜ at + length (flatten (depsAt (now present) (now udt) (now lock) (now extra) (now chosen))) ≤ length (now out) ⌝ }
+    ensures { λ r. ⌜ Put (now (out .entry)) at (flatten (depsAt (now (present .entry)) (now (udt .entry)) (now (lock .entry)) (now (extra .entry)) (now (chosen .entry)))) (now (out .exit)) r ⌝ }
 {
-    let n = used(chosen.count);
     let mut to = at;
     let mut j: usize = 0;
-    while j < n {
-        let place = chosen.places[j];
+    while j < chosen.len() {
+        let place = chosen[j];
         let x = dep_at(present, udt, lock, extra, place);
         to = write::put(out, to, x);
         j += 1;
@@ -266,7 +266,7 @@ fn put_places<'a>(
     to
 }
 
-// Puts the list of the chosen deps at `at`: nothing where it is over 133,116 bytes or over out.
+// Puts the list of the chosen deps at `at`: nothing where it is over 133,116 bytes or over out. Its count is modulo 2^32, as four bytes hold it.
 pub fn put_deps<'a>(
     out: &mut [u8],
     at: usize,
@@ -274,16 +274,16 @@ pub fn put_deps<'a>(
     udt: &'a [u8],
     lock: &'a [u8],
     extra: &'a [u8],
-    chosen: Chosen,
+    chosen: &[usize],
 ) -> usize
-    ensures { λ _. ⌜ now (out .exit) ≡ putList (now (out .entry)) at (fixList (depsAt (now (present .entry)) (now (udt .entry)) (now (lock .entry)) (now (extra .entry)) chosen)) ⌝ }
-    ensures { λ r. ⌜ r ≡ putListEnd (now (out .entry)) at (fixList (depsAt (now (present .entry)) (now (udt .entry)) (now (lock .entry)) (now (extra .entry)) chosen)) ⌝ }
+    ensures { λ _. ⌜ now (out .exit) ≡ putList (now (out .entry)) at (fixList (depsAt (now (present .entry)) (now (udt .entry)) (now (lock .entry)) (now (extra .entry)) (now (chosen .entry)))) ⌝ }
+    ensures { λ r. ⌜ r ≡ putListEnd (now (out .entry)) at (fixList (depsAt (now (present .entry)) (now (udt .entry)) (now (lock .entry)) (now (extra .entry)) (now (chosen .entry)))) ⌝ }
 {
     let size = deps_size(present, udt, lock, extra, chosen);
     if !list_writer::fits(size, at, out.len()) {
         return at;
     }
-    let n = used(chosen.count);
+    let n = chosen.len() % 4_294_967_296;
     let at = write::put_u32(out, at, n as u32);
     put_places(out, at, present, udt, lock, extra, chosen)
 }

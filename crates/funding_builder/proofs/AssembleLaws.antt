@@ -1,11 +1,11 @@
 -- What is written is the transaction of the definition.
 use mathlib.Core.Path.{_≡_, refl, sym, ap, ap₂, _∙_}
-use Prim.Native.Nat.{ℕ, zero, suc, _+_, _-_, _≤_, _<_, _^_}
+use Prim.Native.Nat.{ℕ, zero, suc, _+_, _-_, _≤_, _<_, _^_, min}
 use mathlib.Core.Bool.{Bool, true, false}
 use mathlib.Core.List.{List, [], _∷_, _++_}
 use native.Mathlib.Omega.{arith}
 use borrow.Author.Tests.{lt-leb}
-use lib.ListN.{length}
+use lib.ListN.{length, take}
 use Rattle.arithmetic.specs.LittleEndian.{AllBytes}
 use Rattle.error.specs.declared.Refusal.{Refusal}
 use Rattle.error.specs.Refusal.{number, values}
@@ -23,14 +23,13 @@ use Rattle.transaction_writer.specs.declared.Written.{Written}
 use Rattle.transaction_writer.specs.Written.{txBytes, fits}
 use Rattle.transaction_writer.proofs.PutLaws.{tx-length}
 use Rattle.list_writer.specs.ListWriter.{fixList, ifPositive}
-use Rattle.cell_deps.specs.declared.Chosen.{Chosen}
-use Rattle.cell_deps.specs.CellDeps.{cellDeps, depsAt, Chooses}
-use Rattle.cell_deps.proofs.LongLaws.{too-many}
+use Rattle.cell_deps.specs.CellDeps.{cellDeps, depCount, depsAt, Chooses}
+use Rattle.cell_deps.proofs.LongLaws.{too-many, deps-most}
 use Rattle.base_writer.specs.declared.Plan.{Plan}
 use Rattle.base_writer.specs.Answer.{inRoom, leaves, written, told}
 use Rattle.base_writer.specs.Lists.{listsOf, bytesOf}
 use Rattle.funding_builder.specs.Base.{Lent, Packed, packed, baseTx}
-use Rattle.funding_builder.specs.Steps.{Ready, Planned, cellOf, pickOf}
+use Rattle.funding_builder.specs.Steps.{Ready, Roomy, Planned, cellOf, pickOf}
 use Rattle.funding_builder.proofs.PresentLaws.{deps-readable, headers-again, option-of}
 
 if-readable : (n : ℕ) (s : List ℕ) → readable (option CellDeps) s ≡ true → readable (option CellDeps) (ifPositive n s) ≡ true
@@ -55,7 +54,7 @@ module _ (ours lock udt source cells udtDeps lockDep extraDeps : List ℕ) (capa
   abbrev base : List ℕ
   base = packed (baseTx l (cellOf capacity token) (pickOf taken change))
 
-  module _ (ready : Ready l capacity) {x : Chosen} (choice : Chooses (rawField ours 1) (ifPositive taken udtDeps) (ifPositive taken lockDep) extraDeps x) where
+  module _ (ready : Ready l capacity) {l₁ l₂ r : ℕ} (roomy : Roomy l taken l₁ l₂) {p : List ℕ} (choice : Chooses (rawField ours 1) (ifPositive taken udtDeps) (ifPositive taken lockDep) extraDeps (min l₁ l₂) p r) where
     abbrev list : List (List ℕ)
     list = cellDeps (rawField ours 1) (ifPositive taken udtDeps) (ifPositive taken lockDep) extraDeps
 
@@ -64,33 +63,38 @@ module _ (ours lock udt source cells udtDeps lockDep extraDeps : List ℕ) (capa
     same-deps = refl
 
     -- more deps than fit
-    pub over-deps : 3597 < x .count → (told (Written.Refused Refusal.BufferTooShort), out) ≡ written (fine base) out
+    pub over-deps : l₁ < r → (told (Written.Refused Refusal.BufferTooShort), out) ≡ written (fine base) out
     unfolding inRoom leaves check checkWith _>>=_ _>>_ number values fits
     over-deps h =
+        let e = roomy .same in
+        let n = choice .number in
+        let most = roomy .enough (omega arith) in
         let far : 133116 < length (fixList list)
-        = too-many (rawField ours 1) (ifPositive taken udtDeps) (ifPositive taken lockDep) extraDeps (deps-readable ours (ready .lent .ours)) (if-readable taken udtDeps (ready .lent .udtDeps)) (if-dep taken lockDep (ready .lent .lockDep)) (option-of CellDeps extraDeps (ready .lent .extraDeps)) x choice h in
+        = too-many (rawField ours 1) (ifPositive taken udtDeps) (ifPositive taken lockDep) extraDeps (deps-readable ours (ready .lent .ours)) (if-readable taken udtDeps (ready .lent .udtDeps)) (if-dep taken lockDep (ready .lent .lockDep)) (option-of CellDeps extraDeps (ready .lent .extraDeps)) (omega arith) in
         let long : 133116 < length base = omega (arith, packed-long (baseTx l (cellOf capacity token) (pickOf taken change)), ap (λ (ds : List (List ℕ)). length (fixList ds)) same-deps) in
         rw (lt-leb (length base) 133116 long)
 
-    module _ (p : Plan) (plan : Planned p capacity token taken change source udt) (b : AllBytes ours) where
-      same : x .count ≤ 3597 → bytesOf (txAt ours .version) (listsOf (record { deps = rawField ours 1; headers = rawField ours 2; inputs = rawField ours 3; outputs = rawField ours 4; datas = rawField ours 5 })
-          (record { lock = lock; udt = udt; source = source; cells = cells; udtDeps = ifPositive (p .taken) udtDeps; lockDep = ifPositive (p .taken) lockDep; extraDeps = extraDeps }) x p) ≡ base
+    module _ (f : Plan) (plan : Planned f capacity token taken change source udt) (b : AllBytes ours) where
+      -- `take (r - 0) p` is what `&places[0..count]` gives
+      same : r ≤ l₁ → bytesOf (txAt ours .version) (listsOf (record { deps = rawField ours 1; headers = rawField ours 2; inputs = rawField ours 3; outputs = rawField ours 4; datas = rawField ours 5 })
+          (record { lock = lock; udt = udt; source = source; cells = cells; udtDeps = ifPositive (f .taken) udtDeps; lockDep = ifPositive (f .taken) lockDep; extraDeps = extraDeps }) (take (r - 0) p) f) ≡ base
       unfolding bytesOf listsOf packed baseTx
       same h =
+          let e = roomy .same in
+          let whole : r - 0 ≡ r = omega arith in
           let many : length (txAt ours .outputs) ≡ itemCount (rawField ours 4) = span-length (itemOf (rawField ours 4)) 0 (itemCount (rawField ours 4)) in
           let ins : length (txAt ours .inputs) ≡ fixCount (rawField ours 3) = span-length (fixItem (rawField ours 3) 44) 0 (fixCount (rawField ours 3)) in
-          let dep : depsAt (rawField ours 1) (ifPositive taken udtDeps) (ifPositive taken lockDep) extraDeps x ≡ list
-          = choice .chosen (omega arith) in
-          rw (plan .cell, plan .tokens, plan .picked, plan .left, plan .back, dep, many, ins, ← headers-again ours (ready .lent .ours) b)
+          let dep : depsAt (rawField ours 1) (ifPositive taken udtDeps) (ifPositive taken lockDep) extraDeps (take r p) ≡ list = choice .chosen (omega arith) in
+          rw (plan .cell, plan .tokens, plan .picked, plan .left, plan .back, whole, dep, many, ins, ← headers-again ours (ready .lent .ours) b)
 
-      pub assembled : {y : Outcome ℕ × List ℕ} → x .count ≤ 3597
+      pub assembled : {y : Outcome ℕ × List ℕ} → r ≤ l₁
           → y ≡ written (fine (bytesOf (txAt ours .version) (listsOf (record { deps = rawField ours 1; headers = rawField ours 2; inputs = rawField ours 3; outputs = rawField ours 4; datas = rawField ours 5 })
-          (record { lock = lock; udt = udt; source = source; cells = cells; udtDeps = ifPositive (p .taken) udtDeps; lockDep = ifPositive (p .taken) lockDep; extraDeps = extraDeps }) x p))) out
+          (record { lock = lock; udt = udt; source = source; cells = cells; udtDeps = ifPositive (f .taken) udtDeps; lockDep = ifPositive (f .taken) lockDep; extraDeps = extraDeps }) (take (r - 0) p) f))) out
           → y ≡ written (fine base) out
       assembled h e = e ∙ ap (λ (t : List ℕ). written (fine t) out) (same h)
 
 -- the lists of the present transaction, each read by its accessor
-pub read-lists : (ours lock udt source cells udtDeps lockDep extraDeps out : List ℕ) (x : Chosen) (p : Plan) {version : ℕ} {deps headers inputs outputs datas : List ℕ} {y : Outcome ℕ × List ℕ}
+pub read-lists : (ours lock udt source cells udtDeps lockDep extraDeps out : List ℕ) (x : List ℕ) (p : Plan) {version : ℕ} {deps headers inputs outputs datas : List ℕ} {y : Outcome ℕ × List ℕ}
     → version ≡ txAt ours .version → deps ≡ rawField ours 1 → headers ≡ rawField ours 2 → inputs ≡ rawField ours 3 → outputs ≡ rawField ours 4 → datas ≡ rawField ours 5
     → y ≡ written (fine (bytesOf version (listsOf (record { deps = deps; headers = headers; inputs = inputs; outputs = outputs; datas = datas })
     (record { lock = lock; udt = udt; source = source; cells = cells; udtDeps = udtDeps; lockDep = lockDep; extraDeps = extraDeps }) x p))) out
@@ -98,7 +102,7 @@ pub read-lists : (ours lock udt source cells udtDeps lockDep extraDeps out : Lis
     (record { lock = lock; udt = udt; source = source; cells = cells; udtDeps = udtDeps; lockDep = lockDep; extraDeps = extraDeps }) x p))) out
 read-lists ours lock udt source cells udtDeps lockDep extraDeps out x p ev ed eh ei eo ea e = e ∙ rw (ev, ed, eh, ei, eo, ea)
 
-pub read-picked : (ours lock udt source cells udtDeps lockDep extraDeps out : List ℕ) (x : Chosen) (p : Plan) {u k : List ℕ} {y : Outcome ℕ × List ℕ}
+pub read-picked : (ours lock udt source cells udtDeps lockDep extraDeps out : List ℕ) (x : List ℕ) (p : Plan) {u k : List ℕ} {y : Outcome ℕ × List ℕ}
     → u ≡ ifPositive (p .taken) udtDeps → k ≡ ifPositive (p .taken) lockDep
     → y ≡ written (fine (bytesOf (txAt ours .version) (listsOf (record { deps = rawField ours 1; headers = rawField ours 2; inputs = rawField ours 3; outputs = rawField ours 4; datas = rawField ours 5 })
     (record { lock = lock; udt = udt; source = source; cells = cells; udtDeps = u; lockDep = k; extraDeps = extraDeps }) x p))) out
@@ -106,6 +110,21 @@ pub read-picked : (ours lock udt source cells udtDeps lockDep extraDeps out : Li
     (record { lock = lock; udt = udt; source = source; cells = cells; udtDeps = ifPositive (p .taken) udtDeps; lockDep = ifPositive (p .taken) lockDep; extraDeps = extraDeps }) x p))) out
 read-picked ours lock udt source cells udtDeps lockDep extraDeps out x p eu ek e = e ∙ rw (eu, ek)
 
-pub choice-is : (ours udtDeps lockDep extraDeps : List ℕ) (taken : ℕ) {deps u k : List ℕ} {x : Chosen} → deps ≡ rawField ours 1 → u ≡ ifPositive taken udtDeps → k ≡ ifPositive taken lockDep
-    → Chooses deps u k extraDeps x → Chooses (rawField ours 1) (ifPositive taken udtDeps) (ifPositive taken lockDep) extraDeps x
-choice-is ours udtDeps lockDep extraDeps taken ed eu ek c = rw (ed, eu, ek) at c
+module _ (ours udtDeps lockDep extraDeps : List ℕ) (taken : ℕ) {deps u k : List ℕ} (ed : deps ≡ rawField ours 1) (eu : u ≡ ifPositive taken udtDeps) (ek : k ≡ ifPositive taken lockDep) where
+  pub choice-is : {room : ℕ} {p : List ℕ} {r : ℕ} → Chooses deps u k extraDeps room p r → Chooses (rawField ours 1) (ifPositive taken udtDeps) (ifPositive taken lockDep) extraDeps room p r
+  choice-is c = rw (ed, eu, ek) at c
+
+  pub count-is : {n : ℕ} → n ≡ depCount deps u k extraDeps → n ≡ depCount (rawField ours 1) (ifPositive taken udtDeps) (ifPositive taken lockDep) extraDeps
+  count-is c = rw (ed, eu, ek) at c
+
+-- ---- room for the places
+
+pub room-few : (t : Lent) (taken : ℕ) {n l m : ℕ} → n ≡ depCount (rawField (t .ours) 1) (ifPositive taken (t .udtDeps)) (ifPositive taken (t .lockDep)) (t .extraDeps) → n ≤ 64
+    → l ≡ 64 → m ≡ 64 → Roomy t taken l m
+room-few t taken e h el em = record {
+  same = el ∙ sym em;
+  enough = λ k. absurd (omega (arith, deps-most (rawField (t .ours) 1) (ifPositive taken (t .udtDeps)) (ifPositive taken (t .lockDep)) (t .extraDeps)));
+}
+
+pub room-most : (t : Lent) (taken : ℕ) {l m : ℕ} → l ≡ 3597 → m ≡ 3597 → Roomy t taken l m
+room-most t taken el em = record { same = el ∙ sym em; enough = λ k. omega arith }

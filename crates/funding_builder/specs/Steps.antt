@@ -1,14 +1,17 @@
 -- What the functions inside promise one another; no public contract cites it.
 use mathlib.Core.Path.{_≡_}
-use Prim.Native.Nat.{_^_, _<_}
+use Prim.Native.Nat.{ℕ, _^_, _≤_, _<_}
 use mathlib.Core.Bool.{true}
 use mathlib.Core.List.{List}
-use Prim.Native.Nat.{ℕ}
+use lib.ListN.{length}
 use Rattle.units.specs.Units.{shannonCount, tokenCount}
 use Rattle.units.specs.declared.{Shannons.Shannons, Tokens.Tokens}
 use Rattle.molecule.specs.Molecule.{readable, option}
 use Rattle.transaction.specs.Ckb.{Script, CellDep, CellDeps, Transaction}
+use Rattle.transaction.specs.Tx.{rawField}
 use Rattle.rules.specs.Judge.{Figures}
+use Rattle.list_writer.specs.ListWriter.{ifPositive}
+use Rattle.cell_deps.specs.CellDeps.{cellDeps}
 use Rattle.udt_cells.specs.Pick.{Pick}
 use Rattle.base_writer.specs.declared.Plan.{Plan}
 use Rattle.funding_builder.specs.Base.{Lent, changeCapacity}
@@ -25,6 +28,11 @@ pub record Readable (l : Lent) : Type 0 where
 pub record Ready (l : Lent) (capacity : Shannons) : Type 0 where
   pub lent : Readable l
   pub low : shannonCount capacity < 2 ^ 64
+
+-- there is room for l places and for m: of all deps, or of as many as fit a transaction
+pub record Roomy (t : Lent) (taken l m : ℕ) : Type 0 where
+  pub same : l ≡ m
+  pub enough : l < length (cellDeps (rawField (t .ours) 1) (ifPositive taken (t .udtDeps)) (ifPositive taken (t .lockDep)) (t .extraDeps)) → 3597 ≤ l
 
 -- the figures that are written are those of the cell, the pick and the change
 pub record Planned (p : Plan) (capacity : Shannons) (token : Tokens) (taken : ℕ) (change : Tokens) (source udt : List ℕ) : Type 0 where

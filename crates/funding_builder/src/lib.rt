@@ -1,6 +1,5 @@
 // The base transaction of our own side: the funding cell, the tokens that we bring, and what the present transaction has already.
 use base_writer::Plan;
-use cell_deps::Chosen;
 use error::Refusal;
 use funding_cell::FundingCell;
 use funding_cell::FundingRequest;
@@ -12,7 +11,8 @@ use units::Shannons;
 use units::Tokens;
 ghost use mathlib.Core.Path.{_≡_};
 ghost use mathlib.Core.Bool.{true};
-ghost use Prim.Native.Nat.{_^_, _<_};
+ghost use Prim.Native.Nat.{_^_, _<_, min};
+ghost use lib.ListN.{length};
 ghost use Rattle.arithmetic.specs.LittleEndian.{AllBytes};
 ghost use Rattle.units.specs.Units.{shannonCount, tokenCount};
 ghost use Rattle.molecule.specs.Molecule.{readable, option};
@@ -20,14 +20,14 @@ ghost use Rattle.transaction.specs.Ckb.{Script, CellDep, CellDeps};
 ghost use Rattle.rules.specs.Outcome.{fine, check};
 ghost use Rattle.list_writer.specs.ListWriter.{ifPositive};
 ghost use Rattle.transaction.specs.Tx.{txAt, rawField};
-ghost use Rattle.cell_deps.specs.CellDeps.{Chooses};
+ghost use Rattle.cell_deps.specs.CellDeps.{depCount, Chooses};
 ghost use Rattle.base_writer.specs.Answer.{written, told};
 ghost use Rattle.base_writer.specs.Lists.{listsOf, bytesOf};
 ghost use Rattle.funding_builder.specs.Base.{changeCapacity, lists, supplied, packed, baseTx, withPick, withCell, withRequest, buildBase};
-ghost use Rattle.funding_builder.specs.Steps.{Readable, Ready, Planned, cellOf, pickOf};
+ghost use Rattle.funding_builder.specs.Steps.{Readable, Ready, Roomy, Planned, cellOf, pickOf};
 
-// How many cell deps 133,116 bytes have room for.
-const MOST_DEPS: usize = 3597;
+// So many cell deps or fewer, as nearly all transactions have, need only a little room for their places.
+const FEW_DEPS: usize = 64;
 
 // Whether the bytes are a list of cell deps, or nothing.
 fn is_optional_cell_deps(s: &[u8]) -> bool
@@ -118,11 +118,11 @@ fn write_plan<'a>(
     udt_deps: &'a [u8],
     lock_dep: &'a [u8],
     extra_deps: &'a [u8],
-    chosen: Chosen,
+    chosen: &[usize],
     plan: Plan,
     out: &mut [u8],
 ) -> Written
-    ensures { λ r. ⌜ (told r, now (out .exit)) ≡ written (fine (bytesOf (txAt (now (ours .entry)) .version) (listsOf (record { deps = rawField (now (ours .entry)) 1; headers = rawField (now (ours .entry)) 2; inputs = rawField (now (ours .entry)) 3; outputs = rawField (now (ours .entry)) 4; datas = rawField (now (ours .entry)) 5 }) (record { lock = now (lock .entry); udt = now (udt .entry); source = now (source .entry); cells = now (cells .entry); udtDeps = now («udt_deps» .entry); lockDep = now («lock_dep» .entry); extraDeps = now («extra_deps» .entry) }) chosen plan))) (now (out .entry)) ⌝ }
+    ensures { λ r. ⌜ (told r, now (out .exit)) ≡ written (fine (bytesOf (txAt (now (ours .entry)) .version) (listsOf (record { deps = rawField (now (ours .entry)) 1; headers = rawField (now (ours .entry)) 2; inputs = rawField (now (ours .entry)) 3; outputs = rawField (now (ours .entry)) 4; datas = rawField (now (ours .entry)) 5 }) (record { lock = now (lock .entry); udt = now (udt .entry); source = now (source .entry); cells = now (cells .entry); udtDeps = now («udt_deps» .entry); lockDep = now («lock_dep» .entry); extraDeps = now («extra_deps» .entry) }) (now (chosen .entry)) plan))) (now (out .entry)) ⌝ }
 {
     let deps = fields::cell_deps(ours);
     let headers = fields::header_deps(ours);
@@ -159,11 +159,11 @@ fn write_picked<'a>(
     udt_deps: &'a [u8],
     lock_dep: &'a [u8],
     extra_deps: &'a [u8],
-    chosen: Chosen,
+    chosen: &[usize],
     plan: Plan,
     out: &mut [u8],
 ) -> Written
-    ensures { λ r. ⌜ (told r, now (out .exit)) ≡ written (fine (bytesOf (txAt (now (ours .entry)) .version) (listsOf (record { deps = rawField (now (ours .entry)) 1; headers = rawField (now (ours .entry)) 2; inputs = rawField (now (ours .entry)) 3; outputs = rawField (now (ours .entry)) 4; datas = rawField (now (ours .entry)) 5 }) (record { lock = now (lock .entry); udt = now (udt .entry); source = now (source .entry); cells = now (cells .entry); udtDeps = ifPositive (plan .taken) (now («udt_deps» .entry)); lockDep = ifPositive (plan .taken) (now («lock_dep» .entry)); extraDeps = now («extra_deps» .entry) }) chosen plan))) (now (out .entry)) ⌝ }
+    ensures { λ r. ⌜ (told r, now (out .exit)) ≡ written (fine (bytesOf (txAt (now (ours .entry)) .version) (listsOf (record { deps = rawField (now (ours .entry)) 1; headers = rawField (now (ours .entry)) 2; inputs = rawField (now (ours .entry)) 3; outputs = rawField (now (ours .entry)) 4; datas = rawField (now (ours .entry)) 5 }) (record { lock = now (lock .entry); udt = now (udt .entry); source = now (source .entry); cells = now (cells .entry); udtDeps = ifPositive (plan .taken) (now («udt_deps» .entry)); lockDep = ifPositive (plan .taken) (now («lock_dep» .entry)); extraDeps = now («extra_deps» .entry) }) (now (chosen .entry)) plan))) (now (out .entry)) ⌝ }
 {
     let udt_used = if_picked(plan.taken, udt_deps);
     let lock_used = if_picked(plan.taken, lock_dep);
@@ -182,22 +182,40 @@ fn write_picked<'a>(
     )
 }
 
-// The cell deps, each where it first stands. That our bytes are below 256 is told by the way.
+// How many cell deps there are, repeats among them.
+fn dep_count(
+    ours: &[u8],
+    udt_deps: &[u8],
+    lock_dep: &[u8],
+    extra_deps: &[u8],
+    taken: usize,
+) -> usize
+    ensures { λ r. ⌜ r ≡ depCount (rawField (now (ours .entry)) 1) (ifPositive taken (now («udt_deps» .entry))) (ifPositive taken (now («lock_dep» .entry))) (now («extra_deps» .entry)) ⌝ }
+{
+    let deps = fields::cell_deps(ours);
+    let udt_used = if_picked(taken, udt_deps);
+    let lock_used = if_picked(taken, lock_dep);
+    cell_deps::dep_count(deps, udt_used, lock_used, extra_deps)
+}
+
+// The places of the cell deps, each where it first stands. That our bytes are below 256 is told by the way.
 fn choose_deps<'a>(
     ours: &'a [u8],
     udt_deps: &'a [u8],
     lock_dep: &'a [u8],
     extra_deps: &'a [u8],
     taken: usize,
-) -> Chosen
-    ensures { λ r. ⌜ Chooses (rawField (now (ours .entry)) 1) (ifPositive taken (now («udt_deps» .entry))) (ifPositive taken (now («lock_dep» .entry))) (now («extra_deps» .entry)) r ⌝ }
+    places: &mut [usize],
+    sorted: &mut [usize],
+) -> usize
+    ensures { λ r. ⌜ Chooses (rawField (now (ours .entry)) 1) (ifPositive taken (now («udt_deps» .entry))) (ifPositive taken (now («lock_dep» .entry))) (now («extra_deps» .entry)) (min (length (now (places .entry))) (length (now (sorted .entry)))) (now (places .exit)) r ⌝ }
     ensures { λ _. ⌜ AllBytes (now (ours .entry)) ⌝ }
 {
     transaction_writer::are_bytes(ours);
     let deps = fields::cell_deps(ours);
     let udt_used = if_picked(taken, udt_deps);
     let lock_used = if_picked(taken, lock_dep);
-    cell_deps::choose(deps, udt_used, lock_used, extra_deps)
+    cell_deps::choose(deps, udt_used, lock_used, extra_deps, places, sorted)
 }
 
 // The figures that are written.
@@ -223,7 +241,51 @@ fn make_plan(
     }
 }
 
-// Writes the base transaction of these figures to the start of out.
+// Writes the base transaction of these figures to the start of out, with the places of its deps in what is lent for them.
+fn assemble_with<'a>(
+    ours: &'a [u8],
+    lock: &[u8],
+    udt: &[u8],
+    source: &[u8],
+    cells: &[u8],
+    udt_deps: &'a [u8],
+    lock_dep: &'a [u8],
+    extra_deps: &'a [u8],
+    capacity: Shannons,
+    token: Tokens,
+    taken: usize,
+    change: Tokens,
+    places: &mut [usize],
+    sorted: &mut [usize],
+    out: &mut [u8],
+) -> Written
+    requires { ⌜ Ready (record { ours = now ours; lock = now lock; udt = now udt; source = now source; cells = now cells; udtDeps = now «udt_deps»; lockDep = now «lock_dep»; extraDeps = now «extra_deps» }) capacity ⌝ }
+    requires { ⌜ Roomy (record { ours = now ours; lock = now lock; udt = now udt; source = now source; cells = now cells; udtDeps = now «udt_deps»; lockDep = now «lock_dep»; extraDeps = now «extra_deps» }) taken (length (now places)) (length (now sorted)) ⌝ }
+    ensures { λ r. ⌜ (told r, now (out .exit)) ≡ written (fine (packed (baseTx (record { ours = now (ours .entry); lock = now (lock .entry); udt = now (udt .entry); source = now (source .entry); cells = now (cells .entry); udtDeps = now («udt_deps» .entry); lockDep = now («lock_dep» .entry); extraDeps = now («extra_deps» .entry) }) (cellOf capacity token) (pickOf taken change)))) (now (out .entry)) ⌝ }
+{
+    let room = places.len();
+    let count = choose_deps(ours, udt_deps, lock_dep, extra_deps, taken, places, sorted);
+    if room < count {
+        return Written::Refused(Refusal::BufferTooShort);
+    }
+    let plan = make_plan(capacity, token, taken, change, source, udt);
+    let chosen = &places[0..count];
+    write_picked(
+        ours,
+        lock,
+        udt,
+        source,
+        cells,
+        udt_deps,
+        lock_dep,
+        extra_deps,
+        chosen,
+        plan,
+        out,
+    )
+}
+
+// The same, with room for the places of all deps where they are few, and else of 3,597: more do not fit 133,116 bytes.
 fn assemble_base_tx<'a>(
     ours: &'a [u8],
     lock: &[u8],
@@ -242,12 +304,30 @@ fn assemble_base_tx<'a>(
     requires { ⌜ Ready (record { ours = now ours; lock = now lock; udt = now udt; source = now source; cells = now cells; udtDeps = now «udt_deps»; lockDep = now «lock_dep»; extraDeps = now «extra_deps» }) capacity ⌝ }
     ensures { λ r. ⌜ (told r, now (out .exit)) ≡ written (fine (packed (baseTx (record { ours = now (ours .entry); lock = now (lock .entry); udt = now (udt .entry); source = now (source .entry); cells = now (cells .entry); udtDeps = now («udt_deps» .entry); lockDep = now («lock_dep» .entry); extraDeps = now («extra_deps» .entry) }) (cellOf capacity token) (pickOf taken change)))) (now (out .entry)) ⌝ }
 {
-    let chosen = choose_deps(ours, udt_deps, lock_dep, extra_deps, taken);
-    if MOST_DEPS < chosen.count {
-        return Written::Refused(Refusal::BufferTooShort);
+    if dep_count(ours, udt_deps, lock_dep, extra_deps, taken) <= FEW_DEPS {
+        let mut places = [0usize; 64];
+        let mut sorted = [0usize; 64];
+        return assemble_with(
+            ours,
+            lock,
+            udt,
+            source,
+            cells,
+            udt_deps,
+            lock_dep,
+            extra_deps,
+            capacity,
+            token,
+            taken,
+            change,
+            &mut places,
+            &mut sorted,
+            out,
+        );
     }
-    let plan = make_plan(capacity, token, taken, change, source, udt);
-    write_picked(
+    let mut places = [0usize; 3597];
+    let mut sorted = [0usize; 3597];
+    assemble_with(
         ours,
         lock,
         udt,
@@ -256,8 +336,12 @@ fn assemble_base_tx<'a>(
         udt_deps,
         lock_dep,
         extra_deps,
-        chosen,
-        plan,
+        capacity,
+        token,
+        taken,
+        change,
+        &mut places,
+        &mut sorted,
         out,
     )
 }

@@ -1,4 +1,5 @@
 use Prim.Native.Nat.{_-_}
+use lib.ListN.{length}
 use Rattle.list_writer.proofs.LoopLaws.{Sizing}
 use Rattle.cell_deps.proofs.PutLaws.{nth}
 use Rattle.cell_deps.proofs.Ways.{ways}
@@ -6,10 +7,10 @@ use Rattle.cell_deps.proofs.deps_size.Statement.{statement}
 use Rattle.cell_deps.proofs.deps_size.Tie as tie
 
 abbrev Inv-loop : tie.InvT-loop
-Inv-loop present udt lock extra chosen n size₀ j₀ size j = Sizing (nth present udt lock extra chosen) 0 n j size
+Inv-loop present udt lock extra chosen size₀ j₀ size j = Sizing (nth present udt lock extra chosen) 0 (length chosen) j size
 
 abbrev μ-loop : tie.MeasureT-loop
-μ-loop present udt lock extra chosen n size₀ j₀ size j = n - j
+μ-loop present udt lock extra chosen size₀ j₀ size j = length chosen - j
 
 pub deps-size-spec : {M : Type 1} → statement M
 deps-size-spec =
@@ -17,10 +18,9 @@ deps-size-spec =
     (tie.spec
     Inv-loop
     μ-loop
-    (λ c κs. search ways)  -- used-requires
     (λ c. search ways)  -- loop-holds
     (λ c. search ways)  -- mul-place
-    (λ c. search ways)  -- element-copy-out-place
+    (λ c. search ways)  -- shared-slice-read-place
     (λ c κs. search ways)  -- dep-at-requires
     (λ c κs. search ways)  -- capped-requires
     (λ c. search ways)  -- add-j

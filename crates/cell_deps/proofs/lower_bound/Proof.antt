@@ -21,7 +21,7 @@ lower-bound-spec =
     (λ c. search ways)  -- sub-mid
     (λ c. search ways)  -- add-mid
     (λ c. search ways)  -- mul-place
-    (λ c. search ways)  -- element-copy-out-place
+    (λ c. search ways)  -- shared-slice-read-place
     (λ c κs. search ways)  -- dep-at-requires
     (λ c κs. search ways)  -- precedes-requires
     (λ c. search ways)  -- add-low

@@ -9,7 +9,6 @@ put-deps-spec =
     (λ c κs. search ways)  -- deps-size-requires
     (λ c κs. search ways)  -- fits-requires
     (λ c. search ways)  -- returns
-    (λ c κs. search ways)  -- used-requires
     (λ c. search ways)  -- cast-put-u32
     (λ c κs. search ways)  -- put-u32-requires
     (λ c κs. search ways)  -- put-places-requires

@@ -1,4 +1,5 @@
 use Prim.Native.Nat.{_-_}
+use lib.ListN.{length}
 use Rattle.list_writer.proofs.LoopLaws.{Writing}
 use Rattle.cell_deps.proofs.PutLaws.{nth}
 use Rattle.cell_deps.proofs.Ways.{ways}
@@ -6,10 +7,10 @@ use Rattle.cell_deps.proofs.put_places.Statement.{statement}
 use Rattle.cell_deps.proofs.put_places.Tie as tie
 
 abbrev Inv-loop : tie.InvT-loop
-Inv-loop out₀ at present udt lock extra chosen n to₀ j₀ out to j = Writing (nth present udt lock extra chosen) 0 out₀ at n j out to
+Inv-loop out₀ at present udt lock extra chosen to₀ j₀ out to j = Writing (nth present udt lock extra chosen) 0 out₀ at (length chosen) j out to
 
 abbrev μ-loop : tie.MeasureT-loop
-μ-loop out₀ at present udt lock extra chosen n to₀ j₀ out to j = n - j
+μ-loop out₀ at present udt lock extra chosen to₀ j₀ out to j = length chosen - j
 
 pub put-places-spec : {M : Type 1} → statement M
 put-places-spec =
@@ -17,10 +18,9 @@ put-places-spec =
     (tie.spec
     Inv-loop
     μ-loop
-    (λ c κs. search ways)  -- used-requires
     (λ c. search ways)  -- loop-holds
     (λ c. search ways)  -- mul-place
-    (λ c. search ways)  -- element-copy-out-place
+    (λ c. search ways)  -- shared-slice-read-place
     (λ c κs. search ways)  -- dep-at-requires
     (λ c κs. search ways)  -- put-requires
     (λ c. search ways)  -- add-j

@@ -11,4 +11,6 @@ choose-deps-spec =
     (λ c κs. search ways)  -- if-picked-requires
     (λ c κs. search ways)  -- if-picked-requires-2
     (λ c κs. search ways)  -- choose-requires
+    (λ c. search ways)  -- same-length
+    (λ c. search ways)  -- same-length-2
     (λ c. search ways))  -- returns
