@@ -1,13 +1,13 @@
 -- Strings in the order of their bytes: it is strict and total; one law for each way out of the function that compares.
 use mathlib.Core.Path.{_≡_, refl, sym, ap, _∙_}
-use Prim.Native.Nat.{ℕ, _+_, _≤_, _<_}
-use mathlib.Core.Bool.{Bool, true, false, cond, false≢true}
+use Prim.Native.Nat.{ℕ, zero, suc, _+_, _≤_, _<_}
+use mathlib.Core.Bool.{Bool, true, false, not, cond, false≢true}
 use mathlib.Core.List.{List, [], _∷_}
 use native.Mathlib.Numerals.{add-one}
 use native.Mathlib.Omega.{arith}
-use borrow.Author.Tests.{ltb-true, ltb-false, lt-ltb, le-ltb, eq-eqb, ne-eqb}
-use lib.Dec.{ltb}
-use lib.ListN.{length, drop, getD, drop-of-length-le}
+use borrow.Author.Tests.{ltb-true, ltb-false, lt-ltb, le-ltb, eq-eqb, ne-eqb, eqb-true, not-false}
+use lib.Dec.{ltb, eqb}
+use lib.ListN.{length, take, drop, getD, drop-of-length-le}
 use lib.Seq.{drop-cons}
 use Rattle.lists.specs.Lists.{eqBytes}
 use Rattle.cell_deps.specs.Sorted.{isBefore}
@@ -86,14 +86,32 @@ before-other (a ∷ xs) (b ∷ ys) p q = three a b
     (λ h. before-same a b xs ys h ∙ before-other xs ys (sym (before-same b a ys xs (sym h)) ∙ p) (rw (eq-eqb a b h) at q))
     (λ h. absurd (false≢true (sym p ∙ before-less b a ys xs h)))
 
+-- ---- a front that is the same decides nothing
+
+past-front : (k : ℕ) (x y : List ℕ) → eqBytes (take k x) (take k y) ≡ true → isBefore x y ≡ isBefore (drop k x) (drop k y)
+unfolding eqBytes
+past-front zero x y e = refl
+past-front (suc k) [] [] e = refl
+past-front (suc k) [] (b ∷ ys) e = absurd (false≢true e)
+past-front (suc k) (a ∷ xs) [] e = absurd (false≢true e)
+past-front (suc k) (a ∷ xs) (b ∷ ys) e = by (eqb a b) refl (past-front k xs ys)
+  where
+    by : (c : Bool) → eqb a b ≡ c → (eqBytes (take k xs) (take k ys) ≡ true → isBefore xs ys ≡ isBefore (drop k xs) (drop k ys))
+        → isBefore (a ∷ xs) (b ∷ ys) ≡ isBefore (drop k xs) (drop k ys)
+    by true q on = before-same a b xs ys (eqb-true a b q) ∙ on (rw q at e)
+    by false q on = absurd (false≢true (rw q at e))
+
+pub front-same : (a b : List ℕ) {r : Bool} → r ≡ eqBytes (take 32 (drop 0 a)) (take 32 (drop 0 b)) → not r ≡ false → isBefore a b ≡ isBefore (drop 32 a) (drop 32 b)
+front-same a b {r} e h = past-front 32 a b (sym e ∙ not-false r h)
+
 -- ---- what the loop that compares knows: the bytes that follow decide
 
 pub record Comparing (a b : List ℕ) (i : ℕ) : Type 0 where
   pub within : i ≤ length a
   pub rest : isBefore a b ≡ isBefore (drop i a) (drop i b)
 
-pub compare-start : (a b : List ℕ) → Comparing a b 0
-compare-start a b = record { within = omega arith; rest = refl }
+pub compare-start : (a b : List ℕ) {i : ℕ} → i ≤ length a → isBefore a b ≡ isBefore (drop i a) (drop i b) → Comparing a b i
+compare-start a b h e = record { within = h; rest = e }
 
 module _ {a b : List ℕ} {i : ℕ} (k : Comparing a b i) where
   pub compare-short : i < length a → length b ≤ i → false ≡ isBefore a b

@@ -3,14 +3,18 @@ use molecule::write;
 ghost use mathlib.Core.Path.{_≡_};
 ghost use Prim.Native.Nat.{_+_, _*_, _≤_, _<_, min};
 ghost use mathlib.Core.List.{flatten};
-ghost use lib.ListN.{length, set};
+ghost use lib.ListN.{length, take, drop, set};
 ghost use Rattle.molecule.specs.Write.{Put};
+ghost use Rattle.lists.specs.Lists.{eqBytes};
 ghost use Rattle.list_writer.specs.ListWriter.{fixList, putList, putListEnd};
 ghost use Rattle.cell_deps.specs.CellDeps.{anyCount, lastDepAt, ownDepAt, depAt, depCount, depsAt, Chooses};
 ghost use Rattle.cell_deps.specs.Sorted.{isBefore, placedAt, Ordered, Lower, Sought, Inserted};
 
 // How many bytes a cell dep has: an out point and the dep type.
 const CELL_DEP_BYTES: u32 = 37;
+
+// It begins with a transaction's hash, which deps on one transaction share.
+const HASH_BYTES: usize = 32;
 
 // Where a dep stands among sorted ones, or where it is to be put.
 struct Found {
@@ -74,11 +78,48 @@ fn lesser(a: usize, b: usize) -> usize
     if a < b { a } else { b }
 }
 
+// Whether 32 bytes from `at` on are the same. The loop's length is known and it has no early exit, so that it is compiled to wide comparisons.
+fn same_hash(a: &[u8], b: &[u8], at: usize) -> bool
+    requires { ⌜ at + 32 ≤ length (now a) ⌝ }
+    requires { ⌜ at + 32 ≤ length (now b) ⌝ }
+    ensures { λ r. ⌜ r ≡ eqBytes (take 32 (drop at (now (a .entry)))) (take 32 (drop at (now (b .entry)))) ⌝ }
+{
+    let mut ok = true;
+    let mut i = 0;
+    while i < HASH_BYTES {
+        if a[at + i] != b[at + i] {
+            ok = false;
+        }
+        i += 1;
+    }
+    ok
+}
+
+// How many bytes at the front need not be looked at for the order, since they are the same: a hash, or none. Most hashes differ in their first byte.
+fn same_front(a: &[u8], b: &[u8]) -> usize
+    ensures { λ r. ⌜ r ≤ length (now (a .entry)) ⌝ }
+    ensures { λ r. ⌜ isBefore (now (a .entry)) (now (b .entry)) ≡ isBefore (drop r (now (a .entry))) (drop r (now (b .entry))) ⌝ }
+{
+    if a.len() < HASH_BYTES {
+        return 0;
+    }
+    if b.len() < HASH_BYTES {
+        return 0;
+    }
+    if a[0] != b[0] {
+        return 0;
+    }
+    if !same_hash(a, b, 0) {
+        return 0;
+    }
+    HASH_BYTES
+}
+
 // Whether a comes before b in the order of their bytes.
 fn precedes(a: &[u8], b: &[u8]) -> bool
     ensures { λ r. ⌜ r ≡ isBefore (now (a .entry)) (now (b .entry)) ⌝ }
 {
-    let mut i: usize = 0;
+    let mut i = same_front(a, b);
     while i < a.len() {
         if b.len() <= i {
             return false;

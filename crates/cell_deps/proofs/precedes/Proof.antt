@@ -17,6 +17,7 @@ precedes-spec =
     (tie.spec
     Inv-loop
     μ-loop
+    (λ c κs. search ways)  -- same-front-requires
     (λ c. search ways)  -- loop-holds
     (λ c. search ways)  -- returns
     (λ c. search ways)  -- shared-slice-read-if2
