@@ -26,7 +26,10 @@ ghost use Rattle.base_writer.specs.Lists.{listsOf, bytesOf};
 ghost use Rattle.funding_builder.specs.Base.{changeCapacity, lists, supplied, packed, baseTx, withPick, withCell, withRequest, buildBase};
 ghost use Rattle.funding_builder.specs.Steps.{Readable, Ready, Roomy, Planned, cellOf, pickOf};
 
-// So many cell deps or fewer, as nearly all transactions have, need only a little room for their places.
+// How many cell deps 133,116 bytes have room for.
+const MOST_DEPS: usize = 3597;
+
+// Nearly all transactions have no more, and need only a little room for their places.
 const FEW_DEPS: usize = 64;
 
 // Whether the bytes are a list of cell deps, or nothing.
@@ -285,7 +288,7 @@ fn assemble_with<'a>(
     )
 }
 
-// The same, with room for the places of all deps where they are few, and else of 3,597: more do not fit 133,116 bytes.
+// The same, with room for the places of all deps where they are few, and else of as many as fit a transaction.
 fn assemble_base_tx<'a>(
     ours: &'a [u8],
     lock: &[u8],
@@ -305,8 +308,8 @@ fn assemble_base_tx<'a>(
     ensures { λ r. ⌜ (told r, now (out .exit)) ≡ written (fine (packed (baseTx (record { ours = now (ours .entry); lock = now (lock .entry); udt = now (udt .entry); source = now (source .entry); cells = now (cells .entry); udtDeps = now («udt_deps» .entry); lockDep = now («lock_dep» .entry); extraDeps = now («extra_deps» .entry) }) (cellOf capacity token) (pickOf taken change)))) (now (out .entry)) ⌝ }
 {
     if dep_count(ours, udt_deps, lock_dep, extra_deps, taken) <= FEW_DEPS {
-        let mut places = [0usize; 64];
-        let mut sorted = [0usize; 64];
+        let mut places = [0usize; FEW_DEPS];
+        let mut sorted = [0usize; FEW_DEPS];
         return assemble_with(
             ours,
             lock,
@@ -325,8 +328,8 @@ fn assemble_base_tx<'a>(
             out,
         );
     }
-    let mut places = [0usize; 3597];
-    let mut sorted = [0usize; 3597];
+    let mut places = [0usize; MOST_DEPS];
+    let mut sorted = [0usize; MOST_DEPS];
     assemble_with(
         ours,
         lock,
