@@ -73,7 +73,7 @@ def verdict(folder, crate):
     failed = [f for f in re.findall(r'^fn (\S+): (?:not proved$|no proof)', said, re.M) if f.startswith(crate)]
     if failed:
         return 'refused', ', '.join(failed)
-    return 'no program', next((l for l in said.splitlines() if 'error' in l), said[-200:]).split('error', 1)[-1][:100]
+    return 'no program', next((l.split('error', 1)[1] for l in said.splitlines() if re.search(r'error(\[|: )', l)), said[-100:])[:100]
 
 
 def main():
