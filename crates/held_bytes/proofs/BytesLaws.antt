@@ -1,5 +1,5 @@
 -- The table of holds read and written: one law for each way out of the functions.
-use mathlib.Core.Path.{_≡_, refl, ap}
+use mathlib.Core.Path.{_≡_, refl, ap, _∙_}
 use Prim.Native.Nat.{ℕ, _+_, _*_, _^_, _≤_, _<_, min}
 use mathlib.Core.Bool.{Bool, true, false, cond}
 use mathlib.Core.List.{List, [], _++_, map}
@@ -16,10 +16,12 @@ use Rattle.out_points.specs.OutPoints.{Fit}
 use Rattle.hold_records.specs.declared.{Owner.Owner, Hold.Hold, Held.Held}
 use Rattle.hold_records.specs.Holds.{recordsOf}
 use Rattle.hold_records.proofs.LoopLaws.{stands}
+use Rattle.arithmetic.proofs.LittleEndianLaws.{length-toLe}
+use Rattle.molecule.proofs.WriteLaws.{did, length-kept}
 use Rattle.table_bytes.specs.declared.{Place.Place}
 use Rattle.table_bytes.specs.Places.{FitPlace, places, placesBytes}
 use Rattle.table_bytes.proofs.AgainLaws.{count-zero}
-use Rattle.table_bytes.proofs.LoopLaws.{Reading, read-end, Putting, put-end, put-fit}
+use Rattle.table_bytes.proofs.LoopLaws.{Reading, read-end, Putting, put-end, put-fit, put-long}
 use Rattle.table_bytes.proofs.TableLaws.{table-short, table-room, table-put, records-back, records-put, records-again}
 use Rattle.held_bytes.specs.HeldBytes.{ownerOf, holdOf, heldOf, heldAt, kindOf, numberOf, placeFor, heldBytes}
 
@@ -63,11 +65,11 @@ unfolding heldOf
 held-read r h e = rw (read-end r h, e)
 
 module _ {h : Held} {n : ℕ} {out : List ℕ} {at i : ℕ} {after : List ℕ} {next : ℕ} (w : Putting placeFor (h .records) (h .count) n out at i after next) (l : n ≤ i) where
-  pub held-end : Put out at (placesBytes (map placeFor (recordsOf h))) after next
+  held-end : Put out at (placesBytes (map placeFor (recordsOf h))) after next
   unfolding recordsOf
   held-end = put-end w l
 
-  pub held-fit : All FitPlace (map placeFor (recordsOf h))
+  held-fit : All FitPlace (map placeFor (recordsOf h))
   unfolding recordsOf
   held-fit = put-fit w l
 
@@ -86,14 +88,17 @@ module _ (h : Held) (out : List ℕ) {n : ℕ} (e : n ≡ min (h .count) 256) (w
     pub held-room : at + 48 * min (h .count) 256 ≤ length o
     held-room = let r = table-room (map placeFor (recordsOf h)) out counted room eo ea in omega arith
 
-    module _ {o₂ : List ℕ} {a : ℕ} (p : Put o at (placesBytes (map placeFor (recordsOf h))) o₂ a) where
+    pub held-long : {i : ℕ} {o₂ : List ℕ} {a : ℕ} → Putting placeFor (h .records) (h .count) n o at i o₂ a → length o₂ ≡ length out
+    held-long q = put-long q ∙ length-kept (did (toLe 4 n) eo ea (omega (arith, length-toLe 4 n)))
+
+    module _ {i : ℕ} {o₂ : List ℕ} {a : ℕ} (q : Putting placeFor (h .records) (h .count) n o at i o₂ a) (l : n ≤ i) where
       pub held-put : o₂ ≡ putAt out 0 (heldBytes (recordsOf h))
       unfolding heldBytes
-      held-put = table-put (map placeFor (recordsOf h)) out counted room eo ea p
+      held-put = table-put (map placeFor (recordsOf h)) out counted room eo ea (held-end q l)
 
-      pub held-means : All FitPlace (map placeFor (recordsOf h)) → (12292 ≤ length out → heldAt o₂ ≡ recordsOf h)
+      pub held-means : (12292 ≤ length out → heldAt o₂ ≡ recordsOf h)
       unfolding heldAt heldOf recordsOf heldBytes
-      held-means f b = records-put holdOf placeFor same-hold (recordsOf h) out 256 (omega (arith, stands h w)) (omega arith) (omega arith) f held-put
+      held-means b = records-put holdOf placeFor same-hold (recordsOf h) out 256 (omega (arith, stands h w)) (omega arith) (omega arith) (held-fit q l) held-put
 
 -- what was written is read, whatever bytes follow
 pub held-back : (l : List Hold) (z : List ℕ) → length l ≤ 256 → All FitPlace (map placeFor l) → heldAt (heldBytes l ++ z) ≡ l

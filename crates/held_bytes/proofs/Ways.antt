@@ -3,7 +3,7 @@ use borrow.Author.Needs.{needs}
 use Rattle.hold_records.proofs.ListLaws.{length-mapped}
 use Rattle.table_bytes.proofs.LoopLaws.{read-none, read-more, put-none, put-more, put-long}
 use Rattle.table_bytes.proofs.LentLaws.{lent-bad, with-bad, two-bad, only-bad, leave-refused}
-use Rattle.held_bytes.proofs.BytesLaws.{hold-funding, hold-tower, place-funding, place-tower, fit-funding, fit-tower, held-read, held-end, held-fit, held-short, held-none, held-room, held-put, held-means}
+use Rattle.held_bytes.proofs.BytesLaws.{hold-funding, hold-tower, place-funding, place-tower, fit-funding, fit-tower, held-read, held-short, held-none, held-room, held-long, held-put, held-means}
 use Rattle.held_bytes.proofs.CallLaws.{left-done, hold-call, release-call, watch-call, lock-call, take-call, named-call}
 
-pub ruleset ways = (needs, length-mapped, read-none, read-more, put-none, put-more, put-long, lent-bad, with-bad, two-bad, only-bad, leave-refused, hold-funding, hold-tower, place-funding, place-tower, fit-funding, fit-tower, held-read, held-end, held-fit, held-short, held-none, held-room, held-put, held-means, left-done, hold-call, release-call, watch-call, lock-call, take-call, named-call)
+pub ruleset ways = (needs, length-mapped, read-none, read-more, put-none, put-more, put-long, lent-bad, with-bad, two-bad, only-bad, leave-refused, hold-funding, hold-tower, place-funding, place-tower, fit-funding, fit-tower, held-read, held-short, held-none, held-room, held-long, held-put, held-means, left-done, hold-call, release-call, watch-call, lock-call, take-call, named-call)

@@ -6,13 +6,11 @@ use molecule::write;
 use table_bytes::Place;
 use units::Millis;
 ghost use mathlib.Core.Path.{_≡_};
-ghost use mathlib.Core.List.{map};
-ghost use Prim.Native.Nat.{_+_, _*_, _≤_, min};
+ghost use Prim.Native.Nat.{_≤_};
 ghost use lib.ListN.{length};
-ghost use Rattle.molecule.specs.Write.{putAt, Put};
+ghost use Rattle.molecule.specs.Write.{putAt};
 ghost use Rattle.hold_records.specs.Holds.{recordsOf};
-ghost use Rattle.molecule.specs.Partial.{All};
-ghost use Rattle.table_bytes.specs.Places.{FitPlace, placesBytes};
+ghost use Rattle.table_bytes.specs.Places.{FitPlace};
 ghost use Rattle.held_bytes.specs.HeldBytes.{holdOf, placeFor, heldOf, heldAt, heldBytes};
 
 pub mod calls;
@@ -77,24 +75,6 @@ pub fn read_held(s: &[u8]) -> Held
     g
 }
 
-// Puts the records one after the other from `at` on.
-fn put_records(h: Held, out: &mut [u8], at: usize) -> usize
-    requires { ⌜ at + 48 * min (h .count) 256 ≤ length (now out) ⌝ }
-    ensures { λ r. ⌜ Put (now (out .entry)) at (placesBytes (map placeFor (recordsOf h))) (now (out .exit)) r ⌝ }
-    ensures { λ _. ⌜ All FitPlace (map placeFor (recordsOf h)) ⌝ }
-{
-    let n = hold_records::used(h.count);
-    let mut to = at;
-    let mut i: usize = 0;
-    while i < n {
-        let x = h.records[i];
-        let p = place_for(x);
-        to = table_bytes::put_place(out, to, p);
-        i += 1;
-    }
-    to
-}
-
 // Puts the table at the start of s, and nothing where there is no room for its records; the bytes behind them keep their value.
 pub fn write_held(h: Held, s: &mut [u8])
     ensures { λ _. ⌜ now (s .exit) ≡ putAt (now (s .entry)) 0 (heldBytes (recordsOf h)) ⌝ }
@@ -104,6 +84,12 @@ pub fn write_held(h: Held, s: &mut [u8])
     if s.len() < 4 + 48 * n {
         return;
     }
-    let at = write::put_u32(s, 0, n as u32);
-    put_records(h, s, at);
+    let mut to = write::put_u32(s, 0, n as u32);
+    let mut i: usize = 0;
+    while i < n {
+        let x = h.records[i];
+        let p = place_for(x);
+        to = table_bytes::put_place(s, to, p);
+        i += 1;
+    }
 }
