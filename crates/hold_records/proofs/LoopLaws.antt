@@ -5,18 +5,20 @@ use native.Mathlib.Numerals.{add-one}
 use native.Mathlib.Omega.{arith}
 use mathlib.Core.Bool.{Bool, true, false}
 use mathlib.Core.List.{List, [], _∷_}
-use lib.ListN.{length, getD, take, drop, set, length-set, length-take, drop-of-length-le}
+use lib.ListN.{length, getD, take, drop, set, replicate, length-set, length-take, drop-of-length-le}
 use lib.Seq.{drop-cons, getD-take}
-use Rattle.out_points.specs.declared.{OutPoint.OutPoint}
-use Rattle.out_points.specs.OutPoints.{eqPoint, has}
 use Rattle.out_points.specs.Tables.{keep}
-use Rattle.hold_records.specs.declared.{Hold.Hold, Held.Held}
-use Rattle.hold_records.specs.Holds.{recordsOf, cellsOf, isBusy}
+use Rattle.hold_records.specs.declared.{Owner.Owner, Hold.Hold, Held.Held}
+use Rattle.hold_records.specs.Holds.{recordsOf, emptyTable}
 use Rattle.hold_records.proofs.ListLaws.{take-used, keeps, drops}
 
 pub none-stand : (h : Held) → h .count ≡ 0 → recordsOf h ≡ []
 unfolding recordsOf
 none-stand h e = rw e
+
+pub empty-is : record { records = replicate 256 (record { point = record { hash = record { a = 0; b = 0; c = 0; d = 0 }; index = 0 }; owner = Owner.Funding 0 }); count = 0 } ≡ emptyTable
+unfolding emptyTable
+empty-is = refl
 
 -- how many records stand
 pub stands : (h : Held) → length (h .records) ≡ 256 → length (recordsOf h) ≡ min (h .count) 256

@@ -2,11 +2,11 @@
 use Prim.Native.Nat.{ℕ, _+_}
 use mathlib.Core.Bool.{Bool, true, false, not, cond}
 use mathlib.Core.List.{List, [], _∷_, _++_, map}
-use lib.{Dec.leb, Dec.eqb, ListN.length, ListN.take}
+use lib.{Dec.leb, Dec.eqb, ListN.length, ListN.take, ListN.replicate}
 use Rattle.units.specs.{declared.Millis.Millis, Units.later, Units.isBefore}
 use Rattle.molecule.specs.Molecule.{readable}
 use Rattle.transaction.specs.Ckb.{OutPoints}
-use Rattle.out_points.specs.{declared.OutPoint.OutPoint, OutPoints.eqPoint, OutPoints.has, OutPoints.points}
+use Rattle.out_points.specs.{declared.Byte32.Byte32, declared.OutPoint.OutPoint, OutPoints.eqPoint, OutPoints.has, OutPoints.points}
 use Rattle.out_points.specs.Tables.{keep, renew, Outcome, done, refused, check, hasRoom, written}
 use Rattle.hold_records.specs.declared.{Owner.Owner, Hold.Hold, Held.Held, Taker.Taker}
 
@@ -20,6 +20,12 @@ heldBy owner p = record { point = p; owner = owner }
 
 abbrev pub cellsOf : List Hold → List OutPoint
 cellsOf l = map (λ (r : Hold). r .point) l
+
+-- a table of zeros: no record stands
+unfoldable pub emptyTable : Held
+emptyTable =
+    let hash : Byte32 = record { a = 0; b = 0; c = 0; d = 0 } in
+    record { records = replicate 256 (record { point = record { hash = hash; index = 0 }; owner = Owner.Funding 0 }); count = 0 }
 
 -- a test by the holder, or by the end
 unfoldable pub byOwner : (ℕ → Bool) → (Millis → Bool) → Owner → Bool

@@ -16,7 +16,7 @@ ghost use Rattle.molecule.specs.Write.{Put};
 ghost use Rattle.out_points.specs.OutPoints.{Fit, points, bytesOf};
 ghost use Rattle.out_points.specs.Tables.{keep, told, hasRoom};
 ghost use Rattle.hold_records.specs.Rules.{isKept, putIf};
-ghost use Rattle.hold_records.specs.Holds.{recordsOf, cellsOf, isNotOf, isLive};
+ghost use Rattle.hold_records.specs.Holds.{recordsOf, cellsOf, emptyTable, isNotOf, isLive};
 
 // The most records that a table holds.
 const MOST: usize = 256;
@@ -61,6 +61,7 @@ pub enum Rule {
 // A table that holds nothing.
 pub fn empty() -> Held
     ensures { λ r. ⌜ recordsOf r ≡ [] ⌝ }
+    ensures { λ r. ⌜ r ≡ emptyTable ⌝ }
 {
     let hash = Byte32 {
         a: 0,
