@@ -174,16 +174,26 @@ pub fits-point : {p : OutPoint} → p .hash .a < 2 ^ 64 → p .hash .b < 2 ^ 64 
 fits-point a b c d i = record { a-fits = a; b-fits = b; c-fits = c; d-fits = d; index-fits = i }
 
 module _ (h : Held) (out : List ℕ) {n : ℕ} (en : n ≡ min (h .count) 256) (w : length (h .records) ≡ 256) where
+  counted-all : n ≡ length (cellsOf (recordsOf h))
+  counted-all = omega (arith, length-cells h 0 w)
+
+  pub all-kept : length out < 4 + 36 * n → out ≡ putIf (cellsOf (recordsOf h)) out
+  all-kept s = put-no (cellsOf (recordsOf h)) out (room-no (cellsOf (recordsOf h)) out counted-all s)
+
   pub all-short : length out < 4 + 36 * n → (9220 ≤ length out → points out ≡ cellsOf (recordsOf h))
-  all-short s l = absurd (let m : min (h .count) 256 ≤ 256 = omega arith in let z : 9220 < 9220 = omega arith in omega arith)
+  all-short s l = absurd (let m : min (h .count) 256 ≤ 256 = omega arith in omega arith)
 
-  pub all-room : {o : List ℕ} {at : ℕ} → 4 + 36 * n ≤ length out → o ≡ putAt out 0 (toLe 4 n) → at ≡ putEnd out 0 (toLe 4 n) → at + 36 * (min (h .count) 256 - 0) ≤ length o
-  all-room room e f = let b = behind-count out n (36 * n) room e f in omega arith
+  module _ (room : 4 + 36 * n ≤ length out) {o : List ℕ} {at : ℕ} (e : o ≡ putAt out 0 (toLe 4 n)) (f : at ≡ putEnd out 0 (toLe 4 n)) where
+    pub all-room : at + 36 * (min (h .count) 256 - 0) ≤ length o
+    all-room = let b = behind-count out n (36 * n) room e f in omega arith
 
-  pub all-listed : {o o₂ : List ℕ} {at a : ℕ} → 4 + 36 * n ≤ length out → o ≡ putAt out 0 (toLe 4 n) → at ≡ putEnd out 0 (toLe 4 n) → Put o at (bytesOf (cellsOf (drop 0 (recordsOf h)))) o₂ a
-      → All Fit (cellsOf (drop 0 (recordsOf h))) → (9220 ≤ length out → points o₂ ≡ cellsOf (recordsOf h))
-  unfolding written
-  all-listed {o₂ = o₂} room e f p fits l =
-      let c : n ≡ length (cellsOf (recordsOf h)) = omega (arith, length-cells h 0 w) in
-      let q : o₂ ≡ written (cellsOf (recordsOf h)) out = list-put (cellsOf (recordsOf h)) out c room e f p in
-      ap points q ∙ list-before (cellsOf (recordsOf h)) _ (omega arith) fits
+    module _ {o₂ : List ℕ} {a : ℕ} (p : Put o at (bytesOf (cellsOf (drop 0 (recordsOf h)))) o₂ a) where
+      listed : o₂ ≡ written (cellsOf (recordsOf h)) out
+      listed = list-put (cellsOf (recordsOf h)) out counted-all room e f p
+
+      pub all-put : o₂ ≡ putIf (cellsOf (recordsOf h)) out
+      all-put = listed ∙ sym (put-yes (cellsOf (recordsOf h)) out (room-yes (cellsOf (recordsOf h)) out counted-all room))
+
+      pub all-listed : All Fit (cellsOf (drop 0 (recordsOf h))) → (9220 ≤ length out → points o₂ ≡ cellsOf (recordsOf h))
+      unfolding written
+      all-listed fits l = ap points listed ∙ list-before (cellsOf (recordsOf h)) _ (omega (arith, counted-all)) fits

@@ -192,6 +192,7 @@ pub fn put_cells(h: Held, from: usize, out: &mut [u8]) -> bool
 
 // Puts the list of all cells at the start of out, where there is room for it: a list in bytes can be lent to a call for each pick, a table would be copied.
 pub fn list_cells(h: Held, out: &mut [u8])
+    ensures { λ _. ⌜ now (out .exit) ≡ putIf (cellsOf (recordsOf h)) (now (out .entry)) ⌝ }
     ensures { λ _. ⌜ (9220 ≤ length (now (out .entry)) → points (now (out .exit)) ≡ cellsOf (recordsOf h)) ⌝ }
 {
     let n = used(h.count);
@@ -204,6 +205,7 @@ pub fn list_cells(h: Held, out: &mut [u8])
 
 pub fn done(held: Held) -> Holds
     ensures { λ r. ⌜ told recordsOf (r .answer) (r .held) ≡ told recordsOf Answer.Done held ⌝ }
+    ensures { λ r. ⌜ r ≡ record { held = held; answer = Answer.Done } ⌝ }
 {
     Holds {
         held,
@@ -213,6 +215,7 @@ pub fn done(held: Held) -> Holds
 
 pub fn refuse(held: Held, why: Refusal) -> Holds
     ensures { λ r. ⌜ told recordsOf (r .answer) (r .held) ≡ told recordsOf (Answer.Refused why) held ⌝ }
+    ensures { λ r. ⌜ r ≡ record { held = held; answer = Answer.Refused why } ⌝ }
 {
     let answer = Answer::Refused(why);
     Holds { held, answer }

@@ -13,4 +13,4 @@ put-unavailable-spec =
     (λ c. search ways)  -- slice-aggregate-put-named
     (λ c κs. search ways)  -- put-named-requires
     (λ c. search ways)  -- same-length
-    (λ c. let e = c .before .before .before .before .before .before .list-cells .ensures in let f = c .before .before .put-named .ensures in (held-room _ _ _ _ _ e (omega arith) (f .0), held-put _ _ _ _ _ e (omega arith) (f .1))))  -- returns
+    (λ c. let e = c .before .before .before .before .before .before .list-cells .ensures .1 in let f = c .before .before .put-named .ensures in (held-room _ _ _ _ _ e (omega arith) (f .0), held-put _ _ _ _ _ e (omega arith) (f .1))))  -- returns
