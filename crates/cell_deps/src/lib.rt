@@ -230,8 +230,8 @@ pub fn dep_count(present: &[u8], udt: &[u8], lock: &[u8], extra: &[u8]) -> usize
     a + b + any_count(lock) + d
 }
 
-// Puts the places of the deps, each where it first stands, at the start of `places`, and returns how many there are; where there are more than the two slices have
-// room for, one more than that. In `sorted` the same places are kept in the order of their deps, so that one more is looked up by halves.
+// Puts a place of each dep, in the order in which they first stand, at the start of `places`, and returns how many there are; where there are more than the two slices have
+// room for, one more than that. Both slices are work room. In `sorted` the same places are kept in the order of their deps, so that one more is looked up by halves.
 pub fn choose<'a>(
     present: &'a [u8],
     udt: &'a [u8],
