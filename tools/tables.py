@@ -6,23 +6,19 @@ A table is a line of TABLES: the laws' prefix, the type of the schema, its field
 Run it in the repository's root after a change of TABLES; `rt fmt` afterwards."""
 
 HEAD = '''-- %s: one law for each way out of the function that tests one. Written by tools/tables.py.
-use mathlib.Core.Path.{_≡_, refl, sym, ap, _∙_}
+use mathlib.Core.Path.{_≡_, refl, sym, _∙_}
 use Prim.Native.Nat.{ℕ}
 use mathlib.Core.List.{List}
 use mathlib.Core.Bool.{Bool, true, false, not, _&&_, and-true, and-false}
 use borrow.Author.Tests.{eq-eqb, ne-eqb, not-true, not-false}
-use lib.Dec.{T, eqb}
+use lib.Dec.{eqb}
 use lib.ListN.{length}
-use Rattle.molecule.specs.Molecule.{Ty, byte, fixvec, dynvec, table, option, end, _&_, size, readable}
+use Rattle.molecule.specs.Molecule.{byte, fixvec, dynvec, table, option, end, _&_, size, readable}
 use Rattle.molecule.proofs.Valid.{fixed}
 use Rattle.molecule.specs.Layout.{span, hasItems, fieldOf}
-use Rattle.molecule.proofs.ReadableLaws.{allReadable, readable-fixed}
+use Rattle.molecule.proofs.ReadableLaws.{allReadable, sized}
 use Rattle.molecule.proofs.HeaderLaws.{count, table-readable}
 %s
-
--- a field of a fixed size is read by its length
-sized : (t : Ty) → T (fixed t) → (k : ℕ) → size t ≡ k → (s : List ℕ) → readable t s ≡ eqb (length s) k
-sized t ok k e s = readable-fixed t ok s ∙ ap (eqb (length s)) e
 
 '''
 

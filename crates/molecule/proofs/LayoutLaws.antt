@@ -12,8 +12,9 @@ use mir.Val.{Fits}
 use lib.Dec.{eqb}
 use lib.ListN.{length, take, drop, length-drop, drop-of-length-le}
 use lib.Seq.{take-all, take-nil}
-use Rattle.arithmetic.specs.LittleEndian.{u32At}
+use Rattle.arithmetic.specs.LittleEndian.{u32At, AllBytes}
 use Rattle.molecule.proofs.Offsets.{start-out}
+use Rattle.molecule.proofs.ItemsLaws.{bytes-take, bytes-drop}
 use Rattle.molecule.specs.Layout.{part, partStart, inside, word, start, fieldOf, fieldStart, itemCount, itemOf, itemStart, fixCount, fixItem, fixStart, content, contentStart, entryOf, entryStart}
 
 -- ---- parts
@@ -61,6 +62,11 @@ module _ (s : List ℕ) (from to : ℕ) {b e : ℕ} (he : e ≡ min to (length s
       let w : b + p .1 ≡ p .1 + min from (min to (length s)) = omega arith in
       ap {B = ℕ × ℕ} (λ (n : ℕ). (p .0, n)) w
 
+-- the bytes of a part
+pub bytes-part : (s : List ℕ) (from to : ℕ) → AllBytes s → AllBytes (part s from to)
+unfolding part
+bytes-part s from to b = bytes-take (to - from) (drop from s) (bytes-drop from s b)
+
 -- a part of a part
 pub inside-twice : (p : ℕ × ℕ) (a b : ℕ) {q r : ℕ × ℕ} → q ≡ inside p a → r ≡ inside q b → r ≡ inside p (a + b)
 unfolding inside
@@ -93,6 +99,15 @@ module _ (s : List ℕ) (n i : ℕ) (h : n ≤ i) where
   pub field-out-place : (p : ℕ × ℕ) {q : ℕ × ℕ} → q ≡ inside p (partStart s (length s) (length s)) → q ≡ inside p (fieldStart s n i)
   field-out-place p e = field-place s n i (start-out s n i h) (start-out s n (i + 1) (omega arith)) p e
 
+pub bytes-field : (s : List ℕ) (n i : ℕ) → AllBytes s → AllBytes (fieldOf s n i)
+unfolding fieldOf
+bytes-field s n i b = bytes-part s (start s n i) (start s n (i + 1)) b
+
+-- nothing has no fields
+pub no-field : (n i : ℕ) → fieldOf [] n i ≡ []
+unfolding fieldOf
+no-field n i = part-none [] (start [] n i) (start [] n (i + 1)) (omega arith)
+
 pub field-length : (s : List ℕ) (n i : ℕ) {f : List ℕ} → f ≡ fieldOf s n i → length f ≡ length (fieldOf s n i)
 field-length s n i e = ap length e
 
@@ -123,6 +138,13 @@ module _ (s : List ℕ) (i : ℕ) {n : ℕ} (e : n ≡ itemCount s) where
   pub item-place : (p : ℕ × ℕ) {q : ℕ × ℕ} → q ≡ inside p (fieldStart s n i) → q ≡ inside p (itemStart s i)
   unfolding itemStart
   item-place p h = rw (← e) h
+
+-- past the count there is no item
+pub item-past : (s : List ℕ) (i : ℕ) → itemCount s ≤ i → itemOf s i ≡ []
+unfolding itemOf fieldOf
+item-past s i h =
+    let a : length s ≡ start s (itemCount s) i = start-out s (itemCount s) i h in
+    part-none s (start s (itemCount s) i) (start s (itemCount s) (i + 1)) (omega arith)
 
 -- ---- fixvecs
 
@@ -184,3 +206,8 @@ module _ (s : List ℕ) (i : ℕ) {x : List ℕ} (e : x ≡ itemOf s i) where
   pub entry-place : (p : ℕ × ℕ) {q r : ℕ × ℕ} → q ≡ inside p (itemStart s i) → r ≡ inside q (contentStart x) → r ≡ inside p (entryStart s i)
   unfolding entryStart
   entry-place p g h = inside-twice p (itemStart s i) (contentStart (itemOf s i)) g (rw e at h)
+
+-- past the count there is no entry
+pub entry-past : (s : List ℕ) (i : ℕ) → itemCount s ≤ i → entryOf s i ≡ []
+unfolding entryOf content
+entry-past s i h = ap (λ (x : List ℕ). part x 4 (length x)) (item-past s i h) ∙ part-none [] 4 0 (omega arith)

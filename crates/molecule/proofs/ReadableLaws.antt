@@ -1,6 +1,6 @@
 -- Which strings are readable: one law for each kind of type, and `read-exactly`, that these are exactly the encodings.
 use mathlib.Core.Path.{_≡_, refl, ap, ap₂, sym, _∙_}
-use Prim.Native.Nat.{ℕ, _+_, _*_, _^_, _<_}
+use Prim.Native.Nat.{ℕ, suc, _+_, _*_, _^_, _<_}
 use native.Mathlib.Omega.{arith}
 use mathlib.Core.List.{List, [], _∷_}
 use mathlib.Core.Option.{Option, none, some, bind, bind-eq-some-iff, map-eq-some-iff}
@@ -19,7 +19,7 @@ use Rattle.molecule.proofs.Valid.{fixed, allFixed, valid}
 use Rattle.molecule.proofs.PartialLaws.{there-some, there-only, there-test, there-both, there-map}
 use Rattle.molecule.proofs.ItemsLaws.{split-below}
 use Rattle.molecule.proofs.ChunksLaws.{chunks-long}
-use Rattle.molecule.proofs.MoleculeLaws.{fixvec-read, encode-decode, accepted}
+use Rattle.molecule.proofs.MoleculeLaws.{fixvec-read, accepted}
 
 -- ---- a test of each item
 
@@ -71,6 +71,14 @@ unfolding readable decode there
 readable-option t [] = refl
 readable-option t (x ∷ s) = there-map some (decode t (x ∷ s)) ∙ sym (ap (λ (b : Bool). cond b true (there (decode t (x ∷ s)))) (ne-eqb (length (x ∷ s)) 0 (λ e. omega arith)))
 
+-- a string that is nothing, or something
+pub by-length : {A : Type 0} (s : List ℕ) → (s ≡ [] → A) → ((length s ≡ 0 → ⊥) → A) → A
+by-length [] f g = f refl
+by-length (b ∷ s) f g = g (λ (h : suc (length s) ≡ 0). omega arith)
+
+pub of-option : (t : Ty) (s : List ℕ) → (length s ≡ 0 → ⊥) → readable (option t) s ≡ true → readable t s ≡ true
+of-option t s n h = rw (ne-eqb _ _ n) at (sym (readable-option t s) ∙ h)
+
 -- ---- any bytes of the right length are a value of a fixed type
 
 every-true : (p : List ℕ → Bool) (P : List ℕ → Type 0) → ((x : List ℕ) → P x → p x ≡ true) → (xs : List (List ℕ)) → All P xs → every p xs ≡ true
@@ -106,6 +114,10 @@ mutual
       let l : length (take (size t) s) ≡ size t = length-take-le (size t) s (omega arith) in
       ap₂ _&&_ (readable-fixed t (oks .0) (take (size t) s) ∙ eq-eqb _ _ l)
       (pieces-readable ts (oks .1) (drop (size t) s) (omega (arith, length-drop (size t) s)))
+
+-- the same with the size as a number
+pub sized : (t : Ty) → T (fixed t) → (k : ℕ) → size t ≡ k → (s : List ℕ) → readable t s ≡ eqb (length s) k
+sized t ok k e s = readable-fixed t ok s ∙ ap (eqb (length s)) e
 
 pub readable-fixvec : (t : Ty) → T (fixed t) → (s : List ℕ)
     → readable (fixvec t) s ≡ (ltb (length s) (2 ^ 32) && leb 4 (length s) && eqb (length s) (4 + le (take 4 s) * size t))
@@ -163,6 +175,3 @@ read-exactly t ok d s b = (
       (short, (p .0, g .0, g .1)),
   λ p. there-some (decode t s) .1 (p .1 .0, accepted t ok s b (p .0) (p .1 .0) .1 (p .1 .1, p .1 .2)),
 )
-
-pub written-again : (t : Ty) → T (valid t) → (s : List ℕ) (v : Value t) → AllBytes s → decode t s ≡ some v → encode t v ≡ s
-written-again t ok s v b e = encode-decode t ok s v b e

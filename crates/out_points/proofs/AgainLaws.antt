@@ -12,6 +12,7 @@ use Rattle.arithmetic.specs.LittleEndian.{le, toLe, AllBytes, numAt, u32At, u64
 use Rattle.arithmetic.proofs.LittleEndianLaws.{num-some, toLe-le, le-toLe, length-toLe, le-lt, bytes-toLe}
 use Rattle.molecule.specs.Layout.{part, span, word, fixCount, fixItem}
 use Rattle.molecule.specs.Molecule.{readable}
+use Rattle.molecule.proofs.ItemsLaws.{bytes-take, bytes-drop}
 use Rattle.lists.proofs.RunLaws.{item-run, next-run}
 use Rattle.molecule.specs.Partial.{All}
 use Rattle.transaction.specs.Ckb.{OutPoints as OutPointsForm}
@@ -20,19 +21,6 @@ use Rattle.out_points.specs.OutPoints.{byte32At, outPointAt, pointOf, po
 use Rattle.out_points.specs.Tables.{written}
 use Rattle.out_points.proofs.PointLaws.{length-point}
 use Rattle.out_points.proofs.ListLaws.{length-points, readable-length}
-
--- ---- bytes of a part are bytes
-
-bytes-drop : (n : ℕ) (s : List ℕ) → AllBytes s → AllBytes (drop n s)
-bytes-drop zero s b = b
-bytes-drop (suc n) [] b = b
-bytes-drop (suc n) (x ∷ s) b = bytes-drop n s (λ i. b (suc i))
-
-bytes-take : (n : ℕ) (s : List ℕ) → AllBytes s → AllBytes (take n s)
-bytes-take zero s b i = omega arith
-bytes-take (suc n) [] b i = b i
-bytes-take (suc n) (x ∷ s) b zero = b 0
-bytes-take (suc n) (x ∷ s) b (suc i) = bytes-take n s (λ j. b (suc j)) i
 
 -- a number that was read, written
 word-again : (k : ℕ) (s : List ℕ) (at : ℕ) → AllBytes s → at + k ≤ length s → toLe k (numAt k s at) ≡ take k (drop at s)

@@ -8,11 +8,11 @@ use native.Mathlib.Omega.{arith}
 use borrow.Author.Tests.{eq-eqb, ne-eqb}
 use lib.ListN.{length, getD, drop}
 use lib.Dec.{eqb}
-use Rattle.molecule.specs.Layout.{part, fieldOf, start, span, itemCount, itemOf, content, entryOf}
+use Rattle.molecule.specs.Layout.{start, span, itemCount, itemOf, entryOf}
 use Rattle.molecule.specs.Partial.{only}
 use Rattle.molecule.specs.Molecule.{option, readable}
-use Rattle.molecule.proofs.LayoutLaws.{part-none}
-use Rattle.molecule.proofs.Offsets.{start-out, span-length}
+use Rattle.molecule.proofs.LayoutLaws.{entry-past}
+use Rattle.molecule.proofs.Offsets.{span-length}
 use Rattle.lists.proofs.SpanLaws.{span-on, span-whole, span-drop}
 use Rattle.transaction.specs.Ckb.{Transaction, Records}
 use Rattle.transaction.specs.Tx.{Tx, txAt, rawField, readTx}
@@ -23,15 +23,6 @@ pub empty-is : {A : Type 0} (l : List A) → isEmpty l ≡ eqb (length l) 0
 unfolding isEmpty
 empty-is [] = refl
 empty-is (x ∷ xs) = sym (ne-eqb (length (x ∷ xs)) 0 (λ e. omega arith))
-
--- past the count there is no item, and no entry
-item-past : (s : List ℕ) (i : ℕ) → itemCount s ≤ i → itemOf s i ≡ []
-unfolding itemOf fieldOf
-item-past s i h = rw (← start-out s (itemCount s) i h, ← start-out s (itemCount s) (i + 1) (omega arith)) (part-none s (length s) (length s) (omega arith))
-
-entry-past : (s : List ℕ) (i : ℕ) → itemCount s ≤ i → entryOf s i ≡ []
-unfolding entryOf content part
-entry-past s i h = rw (item-past s i h)
 
 pair-span : (f g : ℕ → List ℕ) (i k l : ℕ) → ((j : ℕ) → i + l ≤ j → g j ≡ [])
     → pair (span f i k) (span g i l) ≡ span (λ j. record { output = f j; cellData = g j }) i k

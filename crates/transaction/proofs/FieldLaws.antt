@@ -4,15 +4,15 @@ use Prim.Native.Nat.{ℕ, _+_, _^_, _<_}
 use native.Mathlib.Omega.{arith}
 use mir.Syntax.{w64}
 use mir.Val.{Fits}
-use mathlib.Core.List.{List}
+use mathlib.Core.List.{List, []}
 use lib.ListN.{getD}
-use Rattle.arithmetic.specs.LittleEndian.{u32At, u64At}
+use Rattle.arithmetic.specs.LittleEndian.{AllBytes, u32At, u64At}
 use Rattle.units.specs.declared.Shannons.{Shannons}
 use Rattle.arithmetic.specs.Amount.{amountOf}
 use Rattle.units.specs.Units.{inShannons, shannonCount}
 use Rattle.units.proofs.CountLaws.{shannons-of}
 use Rattle.molecule.specs.Layout.{part, inside, word, fieldOf, fieldStart, itemCount, itemOf, itemStart, fixItem, fixStart, content, contentStart, entryOf, entryStart}
-use Rattle.molecule.proofs.LayoutLaws.{inside-twice}
+use Rattle.molecule.proofs.LayoutLaws.{inside-twice, bytes-field, no-field}
 use Rattle.transaction.specs.Tx.{rawField, rawStart, witnessesOf, argsOf, capacityOf, lockOf, typeOf, previousOutputOf, firstOf, dataOf}
 
 -- ---- a field of the raw transaction
@@ -25,6 +25,15 @@ module _ (s : List ℕ) (i : ℕ) {raw : List ℕ} (e : raw ≡ fieldOf s 2 0) w
   pub raw-place : (p : ℕ × ℕ) {q r : ℕ × ℕ} → q ≡ inside p (fieldStart s 2 0) → r ≡ inside q (fieldStart raw 6 i) → r ≡ inside p (rawStart s i)
   unfolding rawStart
   raw-place p g h = inside-twice p _ _ g (rw e at h)
+
+pub bytes-raw : (s : List ℕ) (i : ℕ) → AllBytes s → AllBytes (rawField s i)
+unfolding rawField
+bytes-raw s i b = bytes-field (fieldOf s 2 0) 6 i (bytes-field s 2 0 b)
+
+-- nothing has no fields
+pub no-raw : (i : ℕ) → rawField [] i ≡ []
+unfolding rawField
+no-raw i = ap (λ (f : List ℕ). fieldOf f 6 i) (no-field 2 0) ∙ no-field 6 i
 
 -- ---- a number or an item of a list g, which f is
 

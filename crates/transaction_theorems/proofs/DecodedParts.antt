@@ -7,7 +7,7 @@ use mathlib.Core.Option.{Option, none, some, bind-eq-some-iff, Option·none-ne-s
 use native.Mathlib.Decide.{decLt}
 use native.Mathlib.Omega.{arith}
 use borrow.Author.Tests.{le-ltb}
-use lib.ListN.{length, drop, getD, List·getD-eq-default}
+use lib.ListN.{length, getD, List·getD-eq-default}
 use lib.Seq.{take-all}
 use lib.Dec.{T, eqb→eq}
 use mir.Facts.{and-yes}
@@ -16,14 +16,13 @@ use Rattle.arithmetic.proofs.LittleEndianLaws.{num-some}
 use Rattle.molecule.specs.Partial.{each, All}
 use Rattle.molecule.specs.Molecule.{Ty, byte, array, struct, fixvec, dynvec, table, Fields, end, _&_, Value, Values, size, sizes, encode, pieces, decode, decodes}
 use Rattle.molecule.proofs.Valid.{valid, allValid}
-use Rattle.molecule.specs.Layout.{part, span, start, fieldOf, itemCount, itemOf, fixCount, fixItem, content, entryOf}
+use Rattle.molecule.specs.Layout.{part, span, fieldOf, itemCount, itemOf, fixCount, fixItem, entryOf}
 use Rattle.molecule.proofs.PartialLaws.{only-some, both-some}
-use Rattle.molecule.proofs.ItemsLaws.{bytes-take, bytes-drop}
 use Rattle.molecule.proofs.ChunksLaws.{bytes-pieces}
 use Rattle.molecule.proofs.MoleculeLaws.{all-fixed-valid, one-byte, fixvec-read, encode-decode}
-use Rattle.molecule.proofs.Offsets.{span-length, start-out}
+use Rattle.molecule.proofs.Offsets.{span-length}
 use Rattle.molecule.proofs.HeaderLaws.{count}
-use Rattle.molecule.proofs.LayoutLaws.{part-none}
+use Rattle.molecule.proofs.LayoutLaws.{bytes-field, item-past, entry-past}
 use Rattle.molecule.proofs.DecodedLaws.{split-items, table-decodes, first-field, later-fields, fix-chunks, fixvec-decoded, dynvec-decoded, entries-decoded, bytes-decoded, encode-array-byte}
 use Rattle.transaction_theorems.proofs.Claims.{Encoding, Listed, Items}
 
@@ -43,14 +42,6 @@ parts (t & ts) ok (x ∷ xs) v b e =
     let oks = and-yes (valid t) (allValid ts) ok in
     let f : decode t x ≡ some (v .0) = first-field t ts x xs v e in
     (record { written = sym (encode-decode t (oks .0) x (v .0) (b .0) f); value = f }, parts ts (oks .1) xs (v .1) (b .1) (later-fields t ts x xs v e))
-
-bytes-part : (s : List ℕ) (from to : ℕ) → AllBytes s → AllBytes (part s from to)
-unfolding part
-bytes-part s from to b = bytes-take (to - from) (drop from s) (bytes-drop from s b)
-
-pub bytes-field : (s : List ℕ) (n i : ℕ) → AllBytes s → AllBytes (fieldOf s n i)
-unfolding fieldOf
-bytes-field s n i b = bytes-part s (start s n i) (start s n (i + 1)) b
 
 pub bytes-item : (s : List ℕ) (i : ℕ) → AllBytes s → AllBytes (itemOf s i)
 unfolding itemOf
@@ -134,16 +125,6 @@ items t n item v past e d = record {
 fix-past : (s : List ℕ) (k i : ℕ) → fixCount s ≤ i → fixItem s k i ≡ []
 unfolding fixItem
 fix-past s k i h = simp (le-ltb i (fixCount s) h)
-
-pub item-past : (s : List ℕ) (i : ℕ) → itemCount s ≤ i → itemOf s i ≡ []
-unfolding itemOf fieldOf
-item-past s i h =
-    let a : length s ≡ start s (itemCount s) i = start-out s (itemCount s) i h in
-    part-none s (start s (itemCount s) i) (start s (itemCount s) (i + 1)) (omega arith)
-
-entry-past : (s : List ℕ) (i : ℕ) → itemCount s ≤ i → entryOf s i ≡ []
-unfolding entryOf content
-entry-past s i h = ap (λ (x : List ℕ). part x 4 (length x)) (item-past s i h) ∙ part-none [] 4 0 (omega arith)
 
 pub fixvec-items : (t : Ty) (k : ℕ) → size t ≡ k → T (valid (fixvec t)) → (s : List ℕ) → AllBytes s → (v : List (Value t)) → decode (fixvec t) s ≡ some v
     → Items t (fixCount s) (fixItem s k) v

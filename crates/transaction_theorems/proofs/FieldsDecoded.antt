@@ -16,12 +16,14 @@ use Rattle.molecule.specs.Partial.{only, there}
 use Rattle.molecule.specs.Molecule.{Ty, byte, fixvec, dynvec, table, option, end, _&_, Value, size, pieces, encode, decode, readable}
 use Rattle.molecule.proofs.Valid.{fixed, hasBytes, valid}
 use Rattle.molecule.specs.Layout.{part, span, fieldOf, itemCount, itemOf, fixCount, fixItem, entryOf}
+use Rattle.molecule.proofs.LayoutLaws.{bytes-field, item-past}
 use Rattle.molecule.proofs.HeaderLaws.{count}
 use Rattle.molecule.proofs.DecodedLaws.{content-decoded, entries-decoded, bytes-decoded, fixvec-decoded, dynvec-decoded}
 use Rattle.transaction.specs.Ckb.{Uint32, Uint64, Byte32, Bytes, OutPoint, OutPoints, CellDep, CellDeps, CellInput, Script, CellOutput, RawTransaction, Transaction, TokenCell, TokenCells, Record, Records}
 use Rattle.transaction.specs.Tx.{rawField, witnessesOf, txAt, readTx, argsOf, capacityOf, lockOf, typeOf, previousOutputOf, firstOf, dataOf}
+use Rattle.transaction.proofs.FieldLaws.{bytes-raw}
 use Rattle.transaction_theorems.proofs.Claims.{Decoded, Encoding, OutPointFields, InputFields, CellDepFields, ScriptFields, OutputFields, CellFields, Optional, Listed, Items, recordAt, valueRecord, valueTx, TransactionFields, TransactionParts}
-use Rattle.transaction_theorems.proofs.DecodedParts.{Parts, table-parts, struct-parts, struct-length, number, one-number, fixvec-items, dynvec-items, entries, encode-arrays, bytes-field, bytes-item, item-past}
+use Rattle.transaction_theorems.proofs.DecodedParts.{Parts, table-parts, struct-parts, struct-length, number, one-number, fixvec-items, dynvec-items, entries, encode-arrays, bytes-item}
 
 -- ---- structs
 
@@ -170,8 +172,7 @@ records-items s b v e =
 
 module _ (s : List ℕ) (b : AllBytes s) (v : Value Transaction) (e : decode Transaction s ≡ some v) where
   raw-bytes : (i : ℕ) → AllBytes (rawField s i)
-  unfolding rawField
-  raw-bytes i = bytes-field (fieldOf s 2 0) 6 i (bytes-field s 2 0 b)
+  raw-bytes i = bytes-raw s i b
 
   outer : Encoding RawTransaction (fieldOf s 2 0) (v .0) × Encoding (dynvec Bytes) (witnessesOf s) (v .1 .0)
   unfolding valid fixed hasBytes size count span witnessesOf

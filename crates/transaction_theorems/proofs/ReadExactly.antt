@@ -13,7 +13,7 @@ use Rattle.molecule.specs.Partial.{All}
 use Rattle.molecule.specs.Molecule.{Ty, byte, option, end, _&_, Value, size, decode, readable}
 use Rattle.molecule.proofs.Valid.{fixed, hasBytes, valid}
 use Rattle.molecule.proofs.PartialLaws.{there-some}
-use Rattle.molecule.proofs.MoleculeLaws.{accepted}
+use Rattle.molecule.proofs.MoleculeLaws.{accepted, encode-decode}
 use Rattle.molecule.proofs.ReadableLaws as molecule
 use Rattle.molecule.proofs.ReadableLaws.{dynamic}
 use Rattle.transaction.specs.Ckb.{OutPoint, CellDep}
@@ -68,7 +68,7 @@ optional-dep s b r e = (
 
 all-again : (ts : List Ty) → All (λ (t : Ty). T (valid t)) ts → All (λ (t : Ty). Decoded t (Encoding t)) ts
 all-again [] ok = tt
-all-again (t ∷ ts) ok = (λ s b v e. record { written = sym (molecule.written-again t (ok .0) s v b e); value = e }, all-again ts (ok .1))
+all-again (t ∷ ts) ok = (λ s b v e. record { written = sym (encode-decode t (ok .0) s v b e); value = e }, all-again ts (ok .1))
 
 pub read-exactly : All ReadExactly tested
 read-exactly = (optional-dep, all-exactly dynamicTypes (valid-types .1) dynamic-all)
