@@ -18,6 +18,7 @@ use Rattle.transaction.specs.Tx.{txAt, rawField, typeOf, firstOf, dataOf}
 use Rattle.rules.specs.Outcome.{Outcome, fine, refused, check, checkWith, _>>_, _>>=_}
 use Rattle.rules.specs.Cells.{Cell, recordCell, cellAt, recordCellAt, recordCells}
 use Rattle.rules.specs.Surplus.{isEmpty, added, isOf, hasAmount, amountOf}
+use Rattle.rules.specs.Step.{with-data}
 use Rattle.rules.specs.Judge.{counted, tally, settled, account, tokenAccount}
 use Rattle.rules.proofs.CellLaws.{empty-is, added-is}
 use Rattle.contribution.specs.declared.token.TokenSum.{TokenSum}
@@ -26,11 +27,8 @@ use Rattle.contribution.proofs.FirstLaws.{amount-there}
 
 -- ---- one cell
 
-abbrev cell : List ℕ → List ℕ → Cell
-cell o d = record { output = o; cellData = d }
-
 module _ (type o d : List ℕ) (s : Tokens) {k : List ℕ} {r : Bool} (ek : k ≡ typeOf o) (er : r ≡ eqBytes type k) where
-  of-type : isOf type (cell o d) ≡ r
+  of-type : isOf type (with-data o d) ≡ r
   unfolding isOf
   of-type = ap (eqBytes type) (sym ek) ∙ sym er
 
@@ -44,7 +42,7 @@ module _ (type o d : List ℕ) (s : Tokens) {k : List ℕ} {r : Bool} (ek : k �
     token-short h = rw (of-type, not-false r t, lt-leb 16 (length d) (tokens-under d eg h))
 
     module _ {a : Tokens} (h : g ≡ TokensRead.Tokens a) {q : CheckedTokens} (eq : q ≡ checkedTokens (sum (s .0) (a .0))) where
-      long : hasAmount (cell o d) ≡ true
+      long : hasAmount (with-data o d) ≡ true
       unfolding hasAmount
       long = le-leb 16 (length d) (tokens-long d eg h)
 
@@ -63,17 +61,17 @@ pub token-record : (type s : List ℕ) (i : ℕ) (n : Tokens) (q : TokenSum) {x 
     → inTokens q ≡ counted type (tokenCount n) (record { output = o; cellData = d }) → inTokens q ≡ counted type (tokenCount n) (recordCellAt s i)
 unfolding recordCellAt
 token-record type s i n q {x} {o} {d} ex eo ed h =
-    h ∙ ap₂ (λ (a b : List ℕ). counted type (tokenCount n) (cell a b)) eo ed ∙ ap (λ (y : List ℕ). counted type (tokenCount n) (recordCell y)) ex
+    h ∙ ap₂ (λ (a b : List ℕ). counted type (tokenCount n) (with-data a b)) eo ed ∙ ap (λ (y : List ℕ). counted type (tokenCount n) (recordCell y)) ex
 
 pub token-item : (type f g : List ℕ) (i : ℕ) (n : Tokens) (q : TokenSum) {o d : List ℕ} → o ≡ itemOf f i → d ≡ entryOf g i
     → inTokens q ≡ counted type (tokenCount n) (record { output = o; cellData = d })
     → inTokens q ≡ counted type (tokenCount n) (record { output = itemOf f i; cellData = entryOf g i })
-token-item type f g i n q eo ed h = h ∙ ap₂ (λ (a b : List ℕ). counted type (tokenCount n) (cell a b)) eo ed
+token-item type f g i n q eo ed h = h ∙ ap₂ (λ (a b : List ℕ). counted type (tokenCount n) (with-data a b)) eo ed
 
 pub token-output : (type s : List ℕ) (i : ℕ) (n : Tokens) (q : TokenSum) {f g : List ℕ} → f ≡ rawField s 4 → g ≡ rawField s 5
     → inTokens q ≡ counted type (tokenCount n) (record { output = itemOf f i; cellData = entryOf g i }) → inTokens q ≡ counted type (tokenCount n) (cellAt s i)
 unfolding cellAt
-token-output type s i n q ef eg h = h ∙ ap₂ (λ (a b : List ℕ). counted type (tokenCount n) (cell (itemOf a i) (entryOf b i))) ef eg
+token-output type s i n q ef eg h = h ∙ ap₂ (λ (a b : List ℕ). counted type (tokenCount n) (with-data (itemOf a i) (entryOf b i))) ef eg
 
 -- ---- the tally: R is the answer, the cells from i on decide
 

@@ -8,7 +8,8 @@ use Rattle.error.specs.declared.Refusal.{Refusal}
 use Rattle.rules.specs.declared.Update.{Update}
 use Rattle.rules.specs.Outcome.{Outcome, refused}
 use Rattle.rules.specs.Cells.{readOurs}
-use Rattle.rules.specs.Surplus.{All, capacities, expected}
+use Rattle.molecule.specs.Partial.{All}
+use Rattle.rules.specs.Surplus.{capacities, expected}
 use Rattle.rules.specs.Judge.{Call, Figures, judge, txOf}
 use Rattle.rules.specs.Told.{told, inForceOf}
 use Rattle.rules.specs.Run.{Exact, updateForPeer, verdicts, inForce, forces, kept, keptRecords, inputsOf, recordsOf, Returned, Ran}

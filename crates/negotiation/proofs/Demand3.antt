@@ -14,7 +14,8 @@ use Rattle.molecule.proofs.Offsets.{span-length}
 use Rattle.arithmetic.proofs.AmountLaws.{value-amountOf}
 use Rattle.rules.specs.Outcome.{Outcome, fine, refused}
 use Rattle.rules.specs.Cells.{readOurs}
-use Rattle.rules.specs.Surplus.{All, Measure, capacities, expected}
+use Rattle.molecule.specs.Partial.{All}
+use Rattle.rules.specs.Surplus.{Measure, capacities, expected}
 use Rattle.rules.specs.Judge.{Call, Figures, txOf}
 use Rattle.rules.specs.Run.{Entry, Exact, updateForPeer, handedBack, carried, sum, verdicts, inForce, next, forces}
 use Rattle.rules.proofs.Tests.{never, fine-inj, check-fine}

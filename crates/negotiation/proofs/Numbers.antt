@@ -11,7 +11,7 @@ use Rattle.rules.specs.Cells.{Cell, readOurs, readRecords}
 use Rattle.rules.specs.Surplus.{isOf, isEmpty, added}
 use Rattle.rules.specs.Judge.{Call, limits, comparison, live, liveCells, spent, tokenDelta, fundingOutputDelta, covered, counted, tally, settled, account, tokenAccount, accounts, contribution, scripts, judge}
 use Rattle.rules.specs.Run.{next, verdicts, updateForPeer}
-use Rattle.rules.specs.Surplus.{All}
+use Rattle.molecule.specs.Partial.{All}
 use Rattle.rules.proofs.Tests.{never}
 
 pub record Numbered {A : Type 0} (o : Outcome A) : Type 0 where

@@ -11,11 +11,11 @@ use lib.Dec.{T, leb, ltb, eqb, eqb→eq, leb→le}
 use Rattle.rules.specs.Outcome.{Outcome, fine, refused, check, checkWith, given, _>>=_, _>>_}
 use Rattle.transaction.specs.Tx.{Tx, txAt, readTx}
 use Rattle.rules.specs.Cells.{Cell, readOurs, readRecords, cells}
-use Rattle.molecule.specs.Partial.{only}
+use Rattle.molecule.specs.Partial.{only, All}
 use Rattle.molecule.specs.Molecule.{option, readable}
 use Rattle.molecule.proofs.ReadableLaws.{readable-option}
 use Rattle.transaction.specs.Ckb.{Transaction}
-use Rattle.rules.specs.Surplus.{All, total, first, added, Measure, capacities, capacityOf, amountOf, tokenOf, isOf, hasAmount, tokens, nothing, expected, isEmpty}
+use Rattle.rules.specs.Surplus.{total, first, added, Measure, capacities, capacityOf, amountOf, tokenOf, isOf, hasAmount, tokens, nothing, expected, isEmpty}
 use Rattle.rules.specs.Judge.{Call, Figures, txOf, judge, spent, comparison, live, liveCells, counted, tally, settled, account, growth, tokenDelta, fundingOutputDelta, covered, tokenAccount, accounts, contribution}
 use Rattle.rules.specs.Run.{allCells}
 use Rattle.rules.proofs.Telescope.{prefix-length}

@@ -9,7 +9,8 @@ use lib.IntN.{ℤ, pos}
 use Rattle.rules.specs.Outcome.{Outcome, fine, refused}
 use Rattle.transaction.specs.Tx.{Tx}
 use Rattle.rules.specs.Cells.{Cell, readOurs, cells}
-use Rattle.rules.specs.Surplus.{All, total, first, added, Measure, surplus}
+use Rattle.molecule.specs.Partial.{All}
+use Rattle.rules.specs.Surplus.{total, first, added, Measure, surplus}
 use Rattle.rules.specs.Judge.{txOf}
 use Rattle.rules.specs.Run.{Entry, handedBack, keep, carried, sum, next, verdicts, inForce, forces, keptRecords, spentBy, kept, inputsOf, recordsOf, steps, NotNegative, Exact, Returned, Ran, call}
 use Rattle.rules.specs.Run as run

@@ -9,7 +9,8 @@ use lib.ListN.{length, getD, drop, length-append, length-drop, drop-of-length-le
 use lib.Seq.{drop-drop}
 use Rattle.transaction.specs.Tx.{Tx}
 use Rattle.rules.specs.Cells.{Cell, pair, cells}
-use Rattle.rules.specs.Surplus.{All, total, first, added, Measure}
+use Rattle.molecule.specs.Partial.{All}
+use Rattle.rules.specs.Surplus.{total, first, added, Measure}
 use Rattle.rules.specs.Step.{Prefix, start, more, with-data, Settled, Extends, Step}
 use Rattle.rules.specs.Run.{Spent, spends, inputsOf, recordsOf}
 

@@ -19,7 +19,7 @@ pub both : (a b : Bool) → T (a && b) → T a × T b
 both true b t = (tt, t)
 both false b t = absurd t
 
-is-true : (b : Bool) → T b → b ≡ true
+pub is-true : (b : Bool) → T b → b ≡ true
 is-true true t = refl
 is-true false t = absurd t
 

@@ -8,7 +8,8 @@ use lib.IntN.{ℤ, pos}
 use Rattle.rules.specs.Outcome.{Outcome, fine, refused}
 use Rattle.transaction.specs.Tx.{Tx}
 use Rattle.rules.specs.Cells.{Cell, readRecords}
-use Rattle.rules.specs.Surplus.{All, Measure, surplus}
+use Rattle.molecule.specs.Partial.{All}
+use Rattle.rules.specs.Surplus.{Measure, surplus}
 use Rattle.rules.specs.Judge.{Call, Figures, judge, txOf, liveCells}
 
 -- An entry judges calls C against our bytes, and its acceptances carry S.

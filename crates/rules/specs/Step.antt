@@ -5,7 +5,8 @@ use mathlib.Core.List.{List, [], _∷_}
 use lib.ListN.{length, drop}
 use Rattle.transaction.specs.Tx.{Tx}
 use Rattle.rules.specs.Cells.{Cell, cells}
-use Rattle.rules.specs.Surplus.{total, first, added, Measure, All}
+use Rattle.molecule.specs.Partial.{All}
+use Rattle.rules.specs.Surplus.{total, first, added, Measure}
 
 -- the first list is a beginning of the second
 pub data Prefix {A : Type 0} : List A → List A → Type 0 where

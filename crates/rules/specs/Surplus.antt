@@ -15,11 +15,6 @@ unfoldable pub isEmpty : {A : Type 0} → List A → Bool
 isEmpty [] = true
 isEmpty (x ∷ xs) = false
 
--- P holds of each
-abbrev pub All : {A : Type 0} → (A → Type 0) → List A → Type 0
-All P [] = Unit {0}
-All P (x ∷ xs) = P x × All P xs
-
 -- the sum of a figure over cells
 unfoldable pub total : (Cell → ℕ) → List Cell → ℕ
 total f [] = 0

@@ -1,5 +1,5 @@
 -- Laws of specs/Change.antt: one for each way out of the functions.
-use mathlib.Core.Path.{_≡_, refl, sym, ap, ap₂, _∙_}
+use mathlib.Core.Path.{_≡_, sym, ap, ap₂, _∙_}
 use Prim.Native.Nat.{ℕ, _+_, _-_, _*_, _^_, _≤_, _<_, min}
 use mathlib.Core.Bool.{Bool, true, false, not, cond}
 use mathlib.Core.List.{List, [], _∷_, _++_}
@@ -7,7 +7,7 @@ use native.Mathlib.Nat.{le-trans}
 use native.Mathlib.Omega.{arith}
 use borrow.Author.Tests.{le-leb, lt-leb, leb-true, leb-false, lt-ltb, eq-eqb, ne-eqb, eqb-true, eqb-false, not-true, not-false}
 use lib.ListN.{length, take, drop, length-take, length-drop}
-use lib.Dec.{T, leb, eqb}
+use lib.Dec.{leb, eqb}
 use Rattle.error.specs.Refusal.{number, values}
 use Rattle.error.specs.declared.Refusal.{Refusal}
 use Rattle.arithmetic.specs.Amount.{halves, amountOf, isZero}
@@ -25,7 +25,7 @@ use Rattle.transaction.specs.Ckb.{Script, TokenCells}
 use Rattle.transaction.specs.Tx.{argsOf}
 use Rattle.rules.specs.Outcome.{Outcome, fine, refused, check, checkWith, _>>_}
 use Rattle.rules.proofs.Checks.{skip, fail, pass, last-is}
-use Rattle.rules.proofs.Tests.{check-fine, check-last}
+use Rattle.rules.proofs.Tests.{is-true, check-fine, check-last}
 use Rattle.udt_cells.specs.declared.{Picked.Picked, UdtInputsOutputs.UdtInputsOutputs}
 use Rattle.cell_output.specs.CellOutput.{cellOutput}
 use Rattle.udt_cells.specs.Pick.{Pick, told, pickTyped}
@@ -128,10 +128,6 @@ module _ (cells type source : List ℕ) {p : Bool} (ep : p ≡ readable TokenCel
     lent-source k er = pass 3 (sym ep ∙ not-false p h) (pass 3 (sym eq ∙ not-false q k) (last-is 3 er))
 
 -- and what is known where they are
-is-true : (b : Bool) → T b → b ≡ true
-is-true true t = refl
-is-true false t = absurd t
-
 module _ (cells type source : List ℕ) (r : Bool) (er : check 3 r ≡ lent cells type source) (h : not r ≡ false) where
   lent-fine : (check 3 (readable TokenCells cells) >> (check 3 (readable (option Script) type) >> check 3 (readable Script source))) ≡ fine tt
   unfolding check checkWith lent
