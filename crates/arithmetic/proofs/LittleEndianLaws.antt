@@ -40,6 +40,20 @@ bytes-toLe zero n i = omega arith
 bytes-toLe (suc w) n zero = omega arith
 bytes-toLe (suc w) n (suc i) = bytes-toLe w (n / 256) i
 
+-- of a number and of its low part the low bytes are the same
+pub low-bytes : (w x y : ℕ) → toLe w (x + 256 ^ w * y) ≡ toLe w x
+unfolding toLe
+low-bytes zero x y = refl
+low-bytes (suc w) x y =
+    let p : 256 ^ suc w * y ≡ 256 * (256 ^ w * y) = ap (λ (n : ℕ). n * y) (pow-suc 256 w ∙ mul-comm (256 ^ w) 256) ∙ mul-assoc 256 (256 ^ w) y in
+    ap₂ _∷_ (omega arith) (ap (toLe w) (omega arith) ∙ low-bytes w (x / 256) y)
+
+-- four bytes hold a number modulo 2^32
+pub wrapped : (n : ℕ) → toLe 4 (n % 2 ^ 32) ≡ toLe 4 n
+wrapped n =
+    let e : n % 2 ^ 32 + 256 ^ 4 * (n / 2 ^ 32) ≡ n = omega arith in
+    sym (low-bytes 4 (n % 2 ^ 32) (n / 2 ^ 32)) ∙ ap (toLe 4) e
+
 -- ---- numbers at a place
 
 pub byte-past : (s : List ℕ) (at : ℕ) → length s ≤ at → 0 ≡ getD s at 0

@@ -10,7 +10,7 @@ use borrow.Author.Tests.{lt-ltb}
 use lib.ListN.{length, take, drop, length-append}
 use lib.Seq.{take-add, drop-drop}
 use Rattle.arithmetic.specs.LittleEndian.{toLe}
-use Rattle.arithmetic.proofs.LittleEndianLaws.{length-toLe}
+use Rattle.arithmetic.proofs.LittleEndianLaws.{length-toLe, wrapped}
 use Rattle.molecule.specs.Layout.{part, span, itemOf, fixCount, fixItem, fixItems}
 use Rattle.molecule.specs.Write.{putAt, putEnd, Put}
 use Rattle.molecule.proofs.Offsets.{span-length}
@@ -20,7 +20,6 @@ use Rattle.list_writer.specs.Around.{fitsAt, Room}
 use Rattle.list_writer.proofs.SpanLaws.{flatten-append, body, body-next}
 use Rattle.list_writer.proofs.LoopLaws.{Sizing, size-more, size-end, Writing, write-none, write-room, write-then, write-end}
 use Rattle.list_writer.proofs.AnswerLaws.{fit-room}
-use Rattle.list_writer.proofs.CountLaws.{wrapped}
 use Rattle.list_writer.specs.ListWriter.{fixList}
 use Rattle.base_inputs.specs.BaseInputs.{pickedInput, picked, inputList, inputsSize}
 

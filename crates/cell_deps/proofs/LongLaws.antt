@@ -1,21 +1,22 @@
 -- Each dep of readable lists has 37 bytes, so the length of the list says how many there are.
 use mathlib.Core.Path.{_≡_, refl, sym, ap, ap₂, _∙_}
-use Prim.Native.Nat.{ℕ, suc, _+_, _*_, _≤_, _<_, min}
+use Prim.Native.Nat.{ℕ, _+_, _*_, _≤_, _<_, min}
 use mathlib.Core.Bool.{Bool, true, false, cond}
 use mathlib.Core.List.{List, [], _∷_, _++_, flatten}
 use native.Mathlib.Omega.{arith}
-use borrow.Author.Tests.{eqb-true, ne-eqb}
+use borrow.Author.Tests.{eqb-true}
 use lib.Dec.{T, eqb}
 use lib.ListN.{length, length-append}
 use Rattle.arithmetic.specs.LittleEndian.{toLe, numAt}
 use Rattle.arithmetic.proofs.LittleEndianLaws.{length-toLe}
-use Rattle.molecule.specs.Molecule.{Ty, option, size, sizes, readable}
+use Rattle.molecule.specs.Molecule.{option, readable}
 use Rattle.molecule.specs.Layout.{fixItems, span, word}
 use Rattle.molecule.proofs.Valid.{fixed, allFixed}
 use Rattle.molecule.proofs.ChunksLaws.{Long, length-all}
 use Rattle.molecule.proofs.Offsets.{span-length}
-use Rattle.molecule.proofs.ReadableLaws.{readable-option, readable-fixed}
+use Rattle.molecule.proofs.ReadableLaws.{readable-fixed, by-length, of-option}
 use Rattle.transaction.specs.Ckb.{CellDep, CellDeps}
+use Rattle.transaction.proofs.ListLaws.{dep-size}
 use Rattle.lists.specs.Lists.{contains}
 use Rattle.list_writer.specs.ListWriter.{fixList, ifAny}
 use Rattle.list_writer.proofs.AgainLaws.{items-long}
@@ -51,20 +52,7 @@ module _ (k : ℕ) where
   unfolding fixList
   list-long xs p = length-append (toLe 4 (length xs)) (flatten xs) ∙ ap₂ _+_ (length-toLe 4 (length xs)) (length-all k xs p)
 
--- ---- something or nothing
-
-by-length : {A : Type 0} (s : List ℕ) → (s ≡ [] → A) → ((length s ≡ 0 → ⊥) → A) → A
-by-length [] f g = f refl
-by-length (b ∷ s) f g = g (λ (h : suc (length s) ≡ 0). omega arith)
-
-option-some : (t : Ty) (s : List ℕ) → (length s ≡ 0 → ⊥) → readable (option t) s ≡ true → readable t s ≡ true
-option-some t s n h = rw (ne-eqb _ _ n) at (sym (readable-option t s) ∙ h)
-
 -- ---- the four lists
-
-dep-size : size CellDep ≡ 37
-unfolding size sizes
-dep-size = refl
 
 dep-fixed : T (fixed CellDep)
 unfolding fixed allFixed
@@ -78,7 +66,7 @@ deps-long : (s : List ℕ) → readable CellDeps s ≡ true → Long 37 (fixItem
 deps-long s h = rw dep-size at (items-long CellDep dep-fixed s h)
 
 optional-long : (s : List ℕ) → readable (option CellDeps) s ≡ true → Long 37 (fixItems 37 s)
-optional-long s h = by-length s none (λ n. deps-long s (option-some CellDeps s n h))
+optional-long s h = by-length s none (λ n. deps-long s (of-option CellDeps s n h))
   where
     none : s ≡ [] → Long 37 (fixItems 37 s)
     none e = rw (e, no-items) tt
@@ -90,7 +78,7 @@ lock-long s h = by-length s none some
     none e = rw e (unfold ifAny in tt)
 
     some : (length s ≡ 0 → ⊥) → Long 37 (ifAny s)
-    some n = any-long 37 s n (eqb-true _ _ (rw dep-size at (sym (readable-fixed CellDep dep-fixed s) ∙ option-some CellDep s n h)))
+    some n = any-long 37 s n (eqb-true _ _ (rw dep-size at (sym (readable-fixed CellDep dep-fixed s) ∙ of-option CellDep s n h)))
 
 module _ (a b c d : List ℕ) (ha : readable (option CellDeps) a ≡ true) (hb : readable (option CellDeps) b ≡ true) (hc : readable (option CellDep) c ≡ true) (hd : readable (option CellDeps) d ≡ true) where
   pub cell-deps-long : Long 37 (cellDeps a b c d)

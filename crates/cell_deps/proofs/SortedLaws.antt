@@ -12,7 +12,7 @@ use lib.Seq.{getD-set-same, getD-set-other}
 use Rattle.molecule.specs.Layout.{span}
 use Rattle.lists.specs.Lists.{eqBytes, contains}
 use Rattle.lists.proofs.LoopLaws.{at-place}
-use Rattle.lists.proofs.EqualLaws.{eq-refl, eq-true}
+use Rattle.lists.proofs.EqualLaws.{not-so, eq-refl, eq-true}
 use Rattle.cell_deps.specs.declared.Found.{Found}
 use Rattle.cell_deps.specs.CellDeps.{depAt}
 use Rattle.cell_deps.specs.Sorted.{isBefore, placedAt, Ordered, Lower, Sought, shifted, Inserted}
@@ -34,10 +34,6 @@ pub record Halving (f : ℕ → List ℕ) (n : ℕ) (x : List ℕ) (low high : �
 
 pub halve-start : (f : ℕ → List ℕ) (n : ℕ) (x : List ℕ) → Ordered f n → Halving f n x 0 n
 halve-start f n x o = record { order = o; meet = omega arith; end = omega arith; below = λ i h. absurd (omega arith); rest = λ i h l. absurd (omega arith) }
-
-false-if : (b : Bool) → (b ≡ true → ⊥) → b ≡ false
-false-if true h = absurd (h refl)
-false-if false h = refl
 
 module _ {f : ℕ → List ℕ} {n : ℕ} {x : List ℕ} {low high : ℕ} (k : Halving f n x low high) where
   pub halve-end : high ≤ low → Lower f n x low
@@ -72,7 +68,7 @@ module _ {f : ℕ → List ℕ} {n : ℕ} {x : List ℕ} {low high : ℕ} (k : H
           end = omega arith;
           below = k .below;
           rest = λ i l m. three mid i
-              (λ q. false-if (isBefore (f i) x) (λ u. false≢true (sym p ∙ before-trans (f mid) (f i) x (k .order .rising mid i q m) u)))
+              (λ q. not-so (isBefore (f i) x) (λ u. false≢true (sym p ∙ before-trans (f mid) (f i) x (k .order .rising mid i q m) u)))
               (λ q. ap (λ (j : ℕ). isBefore (f j) x) (sym q) ∙ p)
               (λ q. absurd (omega arith));
         }
@@ -94,7 +90,7 @@ none-there x f j zero h = refl
 none-there x f j (suc k) h = rw (h j (omega arith) (omega arith)) (none-there x f (suc j) k (λ i p q. h i (omega arith) (omega arith)))
 
 eq-sym : (x y : List ℕ) → eqBytes y x ≡ false → eqBytes x y ≡ false
-eq-sym x y e = false-if (eqBytes x y) (λ t. false≢true (sym e ∙ ap (eqBytes y) (eq-true x y t) ∙ eq-refl y))
+eq-sym x y e = not-so (eqBytes x y) (λ t. false≢true (sym e ∙ ap (eqBytes y) (eq-true x y t) ∙ eq-refl y))
 
 module _ (f : ℕ → List ℕ) (n : ℕ) (x : List ℕ) {at : ℕ} (k : Lower f n x at) where
   sought-none : n ≤ at → Sought f n x (record { at = at; there = false })

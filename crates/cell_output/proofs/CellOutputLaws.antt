@@ -1,6 +1,6 @@
 -- Laws of specs/CellOutput.antt: one for each way out of the functions that write an output.
 use mathlib.Core.Path.{_≡_, refl, sym, ap, ap₂, _∙_}
-use Prim.Native.Nat.{ℕ, zero, suc, _+_, _-_, _*_, _/_, _%_, _^_, _≤_, _<_}
+use Prim.Native.Nat.{ℕ, zero, suc, _+_, _-_, _/_, _%_, _^_, _≤_, _<_}
 use mathlib.Core.Bool.{Bool, true, false, not}
 use mathlib.Core.List.{List, [], _∷_, _++_, flatten, append-assoc, append-nil}
 use native.Mathlib.Omega.{arith}
@@ -8,8 +8,7 @@ use borrow.Author.Tests.{le-leb, lt-leb, leb-true, leb-false, not-true, not-fals
 use lib.ListN.{length, getD, length-append}
 use lib.Dec.{leb}
 use Rattle.arithmetic.specs.LittleEndian.{toLe}
-use Rattle.arithmetic.proofs.AmountLaws.{toLe-append}
-use Rattle.arithmetic.proofs.LittleEndianLaws.{length-toLe}
+use Rattle.arithmetic.proofs.LittleEndianLaws.{length-toLe, low-bytes, wrapped}
 use Rattle.units.specs.declared.Shannons.{Shannons}
 use Rattle.units.specs.Units.{shannonCount}
 use Rattle.molecule.specs.Items.{join, unwords, offsets}
@@ -43,19 +42,9 @@ module _ (room at lock type : ℕ) where
 
 -- ---- the head
 
--- of a number and of its low part the low bytes are the same
-low-bytes : (w x y : ℕ) → x < 256 ^ w → toLe w x ≡ toLe w (x + 256 ^ w * y)
-unfolding toLe
-low-bytes w x y h = let z : w + 0 ≡ w = omega arith in sym (append-nil (toLe w x)) ∙ sym (toLe-append w 0 x y h) ∙ ap (λ (k : ℕ). toLe k (x + 256 ^ w * y)) z
-
-word-of : (n : ℕ) → toLe 4 (n % 2 ^ 32) ≡ toLe 4 n
-word-of n =
-    let e : n % 2 ^ 32 + 256 ^ 4 * (n / 2 ^ 32) ≡ n = omega arith in
-    low-bytes 4 (n % 2 ^ 32) (n / 2 ^ 32) (omega arith) ∙ ap (toLe 4) e
-
 capacity-of : (c : Shannons) → c .0 .low < 2 ^ 64 → toLe 8 (c .0 .low) ≡ toLe 8 (shannonCount c)
 unfolding shannonCount
-capacity-of c h = low-bytes 8 (c .0 .low) (c .0 .high) h
+capacity-of c h = sym (low-bytes 8 (c .0 .low) (c .0 .high))
 
 bytes-of : (x y c : ℕ) {a b z : List ℕ} → a ≡ toLe 4 x → b ≡ toLe 4 y → z ≡ toLe 8 c
     → getD a 0 0 ∷ getD a 1 0 ∷ getD a 2 0 ∷ getD a 3 0 ∷ 16 ∷ 0 ∷ 0 ∷ 0 ∷ 24 ∷ 0 ∷ 0 ∷ 0
@@ -79,7 +68,7 @@ unfolding outputHead
 head-is c lock type {m} {n} {x} {y} em ey en ex ea eb ez =
     let fy : y ≡ (24 + lock) % 2 ^ 32 = omega arith in
     let fx : x ≡ (24 + lock + type) % 2 ^ 32 = ex ∙ ap₂ (λ (i j : ℕ). (i + j) % 2 ^ 32) fy en ∙ low-sum (24 + lock) type in
-    bytes-of (24 + lock + type) (24 + lock) c (ea ∙ ap (toLe 4) fx ∙ word-of _) (eb ∙ ap (toLe 4) fy ∙ word-of _) ez
+    bytes-of (24 + lock + type) (24 + lock) c (ea ∙ ap (toLe 4) fx ∙ wrapped _) (eb ∙ ap (toLe 4) fy ∙ wrapped _) ez
 
 -- by the lengths of lock and type
 head-length : (c lock type : ℕ) → length (outputHead c lock type) ≡ 24

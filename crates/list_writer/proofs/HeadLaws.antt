@@ -88,7 +88,7 @@ unfolding ifAny
 any-head k [] = omega arith
 any-head k (b ∷ l) = omega arith
 
-later-length : (s : List ℕ) (k : ℕ) → length (later s k) ≡ k
+pub later-length : (s : List ℕ) (k : ℕ) → length (later s k) ≡ k
 unfolding later
 later-length s k = span-length (itemOr s) 1 k
 
@@ -147,7 +147,7 @@ put-around a b c s k x y z p q r t =
 
 -- ---- sizes that stop at a cap
 
-cap-next : (m n x b : ℕ) → n ≡ min x 133117 → m ≡ min (n + b) 133117 → m ≡ min (x + b) 133117
+pub cap-next : (m n x b : ℕ) → n ≡ min x 133117 → m ≡ min (n + b) 133117 → m ≡ min (x + b) 133117
 cap-next m n x b e f = omega arith
 
 cap-both : (m n l x y : ℕ) → n ≡ min x 133117 → l ≡ min y 133117 → m ≡ min (n + l) 133117 → m ≡ min (x + y) 133117

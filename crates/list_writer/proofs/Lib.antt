@@ -1,6 +1,5 @@
 pub mod AgainLaws
 pub mod AnswerLaws
-pub mod CountLaws
 pub mod HeadLaws
 pub mod LaterLaws
 pub mod LoopLaws

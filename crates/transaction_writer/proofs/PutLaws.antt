@@ -12,6 +12,8 @@ use Rattle.molecule.specs.Items.{join, unwords, offsets}
 use Rattle.molecule.specs.Write.{putAt, putEnd, Put}
 use Rattle.molecule.proofs.ItemsLaws.{length-join, length-unwords}
 use Rattle.molecule.proofs.WriteLaws.{did, then, and-put, as-bytes, length-kept}
+use Rattle.list_writer.proofs.HeadLaws as lists
+use Rattle.list_writer.proofs.HeadLaws.{cap-next}
 use Rattle.transaction_writer.specs.Written.{rawBytes, txBytes, txHead, fits, putHead, headEnd, rawSize, txSize}
 
 -- ---- words
@@ -48,14 +50,7 @@ module _ (out : List ℕ) (at w x y z : ℕ) {o₃ : List ℕ} {n₃ n₄ : ℕ}
 module _ (out : List ℕ) (at : ℕ) (a b c : List ℕ) {o₁ o₂ : List ℕ} {n₁ n₂ n₃ : ℕ} (h : at + length a + length b + length c ≤ length out) (e₁ : o₁ ≡ putAt out at a) (f₁ : n₁ ≡ putEnd out at a) (e₂ : o₂ ≡ putAt o₁ n₁ b) (f₂ : n₂ ≡ putEnd o₁ n₁ b) (f₃ : n₃ ≡ putEnd o₂ n₂ c) where
   pub three-parts : {o₃ : List ℕ} → o₃ ≡ putAt o₂ n₂ c → Put out at (flatten (a ∷ b ∷ c ∷ [])) o₃ n₃
   unfolding flatten
-  three-parts e₃ =
-      let p₁ = did a e₁ f₁ (omega arith) in
-      let p₂ = and-put b p₁ e₂ f₂ (omega arith) in
-      as-bytes (simp (append-assoc, append-nil)) (and-put c p₂ e₃ f₃ (simp length-append (omega arith)))
-
-  pub parts-end : n₃ ≡ at + length a + length b + length c
-  unfolding flatten
-  parts-end = three-parts refl .end ∙ simp length-append (omega arith)
+  three-parts e₃ = as-bytes (simp (append-assoc, append-nil)) (lists.three-parts out at a b c h e₁ f₁ e₂ f₂ f₃ e₃)
 
 module _ (out : List ℕ) (at : ℕ) (a b c d e : List ℕ) {o₃ o₄ : List ℕ} {n₃ n₄ n₅ : ℕ} (h : at + length a + length b + length c + length d + length e ≤ length out) (p : Put out at (flatten (a ∷ b ∷ c ∷ [])) o₃ n₃) (e₄ : o₄ ≡ putAt o₃ n₃ d) (f₄ : n₄ ≡ putEnd o₃ n₃ d) (f₅ : n₅ ≡ putEnd o₄ n₄ e) where
   pub five-parts : {o₅ : List ℕ} → o₅ ≡ putAt o₄ n₄ e → Put out at (flatten (a ∷ b ∷ c ∷ d ∷ e ∷ [])) o₅ n₅
@@ -198,9 +193,6 @@ module _ (v : ℕ) (a b c d e : List ℕ) where
         as-bytes head-runs (and-put w (then p q) g k (simp length-append (omega (arith, l, five-length))))
 
 -- ---- a sum that stops at a cap
-
-cap-next : (m n x b : ℕ) → n ≡ min x 133117 → m ≡ min (n + b) 133117 → m ≡ min (x + b) 133117
-cap-next m n x b e f = omega arith
 
 pub cap-six : (a b c d e f : ℕ) {n₁ n₂ n₃ n₄ n₅ n₆ : ℕ} → n₁ ≡ min (44 + a) 133117 → n₂ ≡ min (n₁ + b) 133117 → n₃ ≡ min (n₂ + c) 133117
     → n₄ ≡ min (n₃ + d) 133117 → n₅ ≡ min (n₄ + e) 133117 → n₆ ≡ min (n₅ + f) 133117 → n₆ ≡ min (44 + a + b + c + d + e + f) 133117

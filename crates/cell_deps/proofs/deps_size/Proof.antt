@@ -1,13 +1,13 @@
 use Prim.Native.Nat.{_-_}
 use lib.ListN.{length}
 use Rattle.list_writer.proofs.LoopLaws.{Sizing}
-use Rattle.cell_deps.proofs.PutLaws.{nth}
+use Rattle.cell_deps.specs.Sorted.{placedAt}
 use Rattle.cell_deps.proofs.Ways.{ways}
 use Rattle.cell_deps.proofs.deps_size.Statement.{statement}
 use Rattle.cell_deps.proofs.deps_size.Tie as tie
 
 abbrev Inv-loop : tie.InvT-loop
-Inv-loop present udt lock extra chosen size₀ j₀ size j = Sizing (nth present udt lock extra chosen) 0 (length chosen) j size
+Inv-loop present udt lock extra chosen size₀ j₀ size j = Sizing (placedAt present udt lock extra chosen) 0 (length chosen) j size
 
 abbrev μ-loop : tie.MeasureT-loop
 μ-loop present udt lock extra chosen size₀ j₀ size j = length chosen - j

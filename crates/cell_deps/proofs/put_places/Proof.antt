@@ -1,13 +1,13 @@
 use Prim.Native.Nat.{_-_}
 use lib.ListN.{length}
 use Rattle.list_writer.proofs.LoopLaws.{Writing}
-use Rattle.cell_deps.proofs.PutLaws.{nth}
+use Rattle.cell_deps.specs.Sorted.{placedAt}
 use Rattle.cell_deps.proofs.Ways.{ways}
 use Rattle.cell_deps.proofs.put_places.Statement.{statement}
 use Rattle.cell_deps.proofs.put_places.Tie as tie
 
 abbrev Inv-loop : tie.InvT-loop
-Inv-loop out₀ at present udt lock extra chosen to₀ j₀ out to j = Writing (nth present udt lock extra chosen) 0 out₀ at (length chosen) j out to
+Inv-loop out₀ at present udt lock extra chosen to₀ j₀ out to j = Writing (placedAt present udt lock extra chosen) 0 out₀ at (length chosen) j out to
 
 abbrev μ-loop : tie.MeasureT-loop
 μ-loop out₀ at present udt lock extra chosen to₀ j₀ out to j = length chosen - j
