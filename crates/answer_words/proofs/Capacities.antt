@@ -1,5 +1,5 @@
 -- The capacities that cross as one word have 64 bits: the word is the whole capacity. No code needs it.
-use mathlib.Core.Path.{_≡_, refl, sym, ap₂, _∙_, subst}
+use mathlib.Core.Path.{_≡_, refl, sym, subst}
 use Prim.Native.Nat.{ℕ, _^_, _<_, min}
 use mathlib.Core.Bool.{Bool, true, false, cond}
 use mathlib.Core.List.{List, [], _++_}
@@ -7,9 +7,6 @@ use native.Mathlib.Omega.{arith}
 use lib.ListN.{length, drop}
 use lib.Dec.{leb, eqb}
 use Rattle.arithmetic.specs.LittleEndian.{AllBytes}
-use Rattle.arithmetic.specs.Amount.{amountOf}
-use Rattle.arithmetic.proofs.AmountLaws.{value-amountOf}
-use Rattle.units.specs.Units.{inShannons, inTokens, shannonCount, tokenCount}
 use Rattle.molecule.specs.Molecule.{readable, option}
 use Rattle.molecule.specs.Layout.{itemsOf}
 use Rattle.transaction.specs.Ckb.{Script}
@@ -18,9 +15,9 @@ use Rattle.rules.specs.Cells.{readOurs}
 use Rattle.rules.specs.Judge.{Figures}
 use Rattle.rules.proofs.Tests.{never, fine-inj, bind-fine, check-fine, then-fine}
 use Rattle.words.specs.Words.{low}
-use Rattle.funding_cell.specs.declared.{FundingRequest.FundingRequest, FundingCell.FundingCell}
-use Rattle.funding_cell.specs.FundingCell.{told, fundingCell, buildFundingCell}
-use Rattle.funding_cell.proofs.FundingCellLaws.{capacity-below}
+use Rattle.funding_cell.specs.declared.{FundingRequest.FundingRequest}
+use Rattle.funding_cell.specs.FundingCell.{buildFundingCell}
+use Rattle.funding_cell.proofs.FundingCellLaws.{capacity-low}
 use Rattle.cell_output.specs.CellOutput.{cellOutput}
 use Rattle.udt_cells.specs.Pick.{Pick, pickTyped}
 use Rattle.udt_cells.specs.Change.{Built, built, capacityFor, lent, putFirst, withChange, unlessRefused, udtInputsOutputs}
@@ -31,20 +28,12 @@ whole n h = omega arith
 
 -- ---- the funding cell
 
-below : (funded typed : Bool) (r : FundingRequest) (f : Figures) → fundingCell funded typed r ≡ fine f → f .capacity < 2 ^ 64
-below funded typed r f e =
-    let cell = FundingCell.Cell (inShannons (amountOf (f .capacity))) (inTokens (amountOf (f .token))) in
-    let c : shannonCount (inShannons (amountOf (f .capacity))) ≡ f .capacity = unfold shannonCount in value-amountOf (f .capacity) in
-    let t : tokenCount (inTokens (amountOf (f .token))) ≡ f .token = unfold tokenCount in value-amountOf (f .token) in
-    let s : told cell ≡ fine f = ap₂ (λ (x y : ℕ). fine (record { capacity = x; token = y })) c t in
-    rw c at (capacity-below funded typed r cell (s ∙ sym e) refl)
-
 pub cell-capacity : (ours udt : List ℕ) (r : FundingRequest) (f : Figures) → buildFundingCell ours udt r ≡ fine f → low (f .capacity) ≡ f .capacity
 unfolding buildFundingCell
 cell-capacity ours udt r f e =
     let (tx, o, e₁) = bind-fine (given 1 (readOurs ours)) _ f e in
     let (t, e₂) = check-fine 3 (readable (option Script) udt) _ f e₁ in
-    whole (f .capacity) (below _ _ r f e₂)
+    whole (f .capacity) (capacity-low _ _ r f e₂)
 
 -- ---- the change
 

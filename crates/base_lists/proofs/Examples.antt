@@ -1,18 +1,10 @@
 -- Worked examples, computed by the definitions.
 use mathlib.Core.Path.{_≡_, refl}
 use mathlib.Core.List.{List, [], _∷_}
-use lib.ListN.{length, replicate}
+use lib.ListN.{replicate}
 use Prim.Native.Nat.{ℕ}
 use Rattle.base_lists.specs.BaseLists.{placeholder, witnessList}
 use Rattle.list_writer.specs.ListWriter.{bytesItem}
-use Rattle.arithmetic.specs.LittleEndian.{toLe}
-use Rattle.molecule.specs.Items.{join, unwords, offsets}
-use mathlib.Core.List.{flatten}
-
--- with its length before it
-placeholder-length : length placeholder ≡ 89
-unfolding placeholder bytesItem join unwords offsets flatten toLe
-placeholder-length = refl
 
 -- from none, or with nothing picked, one witness; behind two present inputs the first picked one is the third
 none-present : witnessList 0 3 ≡ placeholder ∷ []

@@ -22,6 +22,7 @@ pub mark-bytes : 85 ∷ 0 ∷ 0 ∷ 0 ∷ 85 ∷ 0 ∷ 0 ∷ 0 ∷ 16 ∷ 0 ∷ 
 unfolding placeholder bytesItem join unwords offsets flatten toLe
 mark-bytes = refl
 
+-- with its length before it
 mark-length : length placeholder ≡ 89
 unfolding placeholder bytesItem join unwords offsets flatten toLe
 mark-length = refl

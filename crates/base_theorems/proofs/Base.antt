@@ -5,7 +5,7 @@ use mathlib.Core.Bool.{Bool, true, false, not, cond, _&&_, and-eq-true-iff}
 use mathlib.Core.List.{List, [], _∷_, _++_, map}
 use native.Mathlib.Omega.{arith}
 use borrow.Author.Tests.{leb-true}
-use lib.Dec.{leb, ltb, ltb→lt}
+use lib.Dec.{leb}
 use lib.ListN.{length, take, drop, length-append, length-drop}
 use lib.Seq.{take-at}
 use Rattle.arithmetic.specs.LittleEndian.{toLe, AllBytes}
@@ -24,7 +24,6 @@ use Rattle.molecule.proofs.ReadableLaws.{every}
 use Rattle.lists.proofs.SpanLaws.{span-drop}
 use Rattle.transaction.specs.Ckb.{Bytes, CellDep, CellDeps, Script, CellOutput, Transaction, TokenCells}
 use Rattle.transaction.specs.Tx.{Tx, txAt, rawField, capacityOf, lockOf, typeOf}
-use Rattle.transaction.proofs.ListLaws.{option-none}
 use Rattle.transaction_writer.specs.declared.Written.{Written}
 use Rattle.transaction_writer.specs.Written.{fits}
 use Rattle.transaction_writer.proofs.PutLaws.{tx-length}
@@ -34,13 +33,16 @@ use Rattle.rules.specs.Surplus.{isEmpty}
 use Rattle.rules.specs.Judge.{Figures, scripts}
 use Rattle.rules.specs.Step.{Prefix}
 use Rattle.rules.proofs.Telescope.{prefix-refl, prefix-trans, prefix-length}
-use Rattle.rules.proofs.Tests.{never, fine-inj, bind-fine, check-fine, check-last, then-fine}
+use Rattle.rules.proofs.Tests.{is-true, never, fine-inj, bind-fine, check-fine, check-last, then-fine}
 use Rattle.funding_cell.specs.declared.FundingRequest.{FundingRequest}
-use Rattle.funding_cell.specs.FundingCell.{fundingCell, cellOfSums, cellOf}
+use Rattle.funding_cell.specs.FundingCell.{fundingCell}
+use Rattle.funding_cell.proofs.FundingCellLaws.{capacity-low}
 use Rattle.cell_output.specs.CellOutput.{cellOutput}
 use Rattle.udt_cells.proofs.OutputReads.{output-readable, output-lock, output-type, output-capacity}
 use Rattle.udt_cells.specs.Pick.{Pick, pickTyped}
-use Rattle.list_writer.specs.ListWriter.{fixList, bytesItem, itemOr, later, ifAny, ifPositive}
+use Rattle.list_writer.specs.ListWriter.{fixList, bytesItem, later, ifAny, ifPositive}
+use Rattle.list_writer.proofs.HeadLaws.{later-length}
+use Rattle.list_writer.proofs.AgainLaws.{if-readable}
 use Rattle.base_inputs.specs.BaseInputs.{picked, inputList}
 use Rattle.base_lists.specs.BaseLists.{amountItem, outputList, dataList}
 use Rattle.cell_deps.specs.CellDeps.{pushAll, allDeps, cellDeps}
@@ -52,7 +54,7 @@ use Rattle.funding_builder.proofs.PresentLaws.{deps-readable, option-of}
 use Rattle.base_theorems.proofs.Claims.{Figured, ReadsBack, fieldsOf, Encodes, Funds, Keeps, Distinct, Passes, Readable, Encoded, FirstOutput, Kept, Compared, Tidy, Tidied, Changes, Balanced, InBalance, OfCalls}
 use Rattle.base_theorems.proofs.PackedLaws.{Formed, ReadsAs, reads-as, item-readable, item-content}
 use Rattle.base_theorems.proofs.CompareLaws.{prefix-append, deps-begin, all-distinct, entries-begin, map-append, has-lock, has-type, has-data, passes}
-use Rattle.base_theorems.proofs.FormLaws.{of-T, Present, present, version-low, every-append, later-is, later-outputs, later-data, all-right, last-every, witnesses-readable, typed-within, picked-long}
+use Rattle.base_theorems.proofs.FormLaws.{Present, present, version-low, every-append, later-is, later-outputs, later-data, all-right, last-every, witnesses-readable, typed-within, picked-long}
 use Rattle.base_theorems.proofs.ChangeLaws.{spends, typed-amounts, change-count, change-cells, map-length, behind}
 
 -- ---- what a call that is not refused has found
@@ -91,55 +93,23 @@ made l request bytes e =
       pick = pick;
       figured = record { isCell = c; isPick = p };
       is = fine-inj e₇;
-      ours = of-T _ o;
-      lock = of-T _ (s₁ .0);
-      udt = of-T _ (s₂ .0);
-      source = of-T _ (check-last 3 (readable Script (l .source)) tt (s₂ .1));
-      cells = of-T _ (i₁ .0);
-      udtDeps = of-T _ (i₂ .0);
-      lockDep = of-T _ (i₃ .0);
-      extraDeps = of-T _ (check-last 3 (readable CellDeps (l .extraDeps)) tt (i₃ .1));
+      ours = is-true _ o;
+      lock = is-true _ (s₁ .0);
+      udt = is-true _ (s₂ .0);
+      source = is-true _ (check-last 3 (readable Script (l .source)) tt (s₂ .1));
+      cells = is-true _ (i₁ .0);
+      udtDeps = is-true _ (i₂ .0);
+      lockDep = is-true _ (i₃ .0);
+      extraDeps = is-true _ (check-last 3 (readable CellDeps (l .extraDeps)) tt (i₃ .1));
     }
-
-if-readable : (n : ℕ) (s : List ℕ) → readable (option CellDeps) s ≡ true → readable (option CellDeps) (ifPositive n s) ≡ true
-unfolding ifPositive
-if-readable zero s h = sym (option-none CellDeps [] refl)
-if-readable (suc n) s h = h
-
-if-dep : (n : ℕ) (s : List ℕ) → readable (option CellDep) s ≡ true → readable (option CellDep) (ifPositive n s) ≡ true
-unfolding ifPositive
-if-dep zero s h = sym (option-none CellDep [] refl)
-if-dep (suc n) s h = h
 
 -- a token amount as data
 amount-readable : (n : ℕ) → readable Bytes (amountItem n) ≡ true
 amount-readable n = item-readable (toLe 16 n) (omega (arith, length-toLe 16 n))
 
--- the funding cell's capacity is a number of 64 bits
-cell-low : (c t : ℕ) (f : Figures) → cellOf c t ≡ fine f → f .capacity < 2 ^ 64
-unfolding cellOf
-cell-low c t f e =
-    let (narrow, e₁) = check-fine 7 (ltb c (2 ^ 64)) _ f e in
-    let (low, e₂) = check-fine 7 (ltb t (2 ^ 128)) _ f e₁ in
-    subst (λ (x : Figures). x .capacity < 2 ^ 64) (fine-inj e₂) (ltb→lt c (2 ^ 64) narrow)
-
-sums-low : (typed : Bool) (amounts reserves : ℕ) (f : Figures) → cellOfSums typed amounts reserves ≡ fine f → f .capacity < 2 ^ 64
-unfolding cellOfSums
-sums-low true amounts reserves f e = cell-low reserves amounts f e
-sums-low false amounts reserves f e = cell-low (amounts + reserves) 0 f e
-
-capacity-low : (funded typed : Bool) (r : FundingRequest) (f : Figures) → fundingCell funded typed r ≡ fine f → f .capacity < 2 ^ 64
-unfolding fundingCell
-capacity-low true typed r f e = sums-low typed _ _ f e
-capacity-low false typed r f e = sums-low typed _ _ f e
-
 first-content : (typed : Bool) (n : ℕ) → content (cond typed (amountItem n) (bytesItem [])) ≡ cond typed (toLe 16 n) []
 first-content true n = item-content (toLe 16 n)
 first-content false n = item-content []
-
-later-length : (s : List ℕ) (k : ℕ) → length (later s k) ≡ k
-unfolding later
-later-length s k = span-length (itemOr s) 1 k
 
 module _ (l : Lent) (request : FundingRequest) (bytes : List ℕ) (b : AllBytes (l .ours)) (e : buildBase l request ≡ fine bytes) (short : length bytes ≤ 133116) where
   abbrev m : Made l request bytes
@@ -212,7 +182,7 @@ module _ (l : Lent) (request : FundingRequest) (bytes : List ℕ) (b : AllBytes 
     low = version-low (l .ours) (m .ours) b;
     cellDeps =
         cell-deps-long (rawField (l .ours) 1) (ifPositive (m .pick .taken) (l .udtDeps)) (ifPositive (m .pick .taken) (l .lockDep)) (l .extraDeps)
-        (deps-readable (l .ours) (m .ours)) (if-readable (m .pick .taken) (l .udtDeps) (m .udtDeps)) (if-dep (m .pick .taken) (l .lockDep) (m .lockDep)) (option-of CellDeps (l .extraDeps) (m .extraDeps));
+        (deps-readable (l .ours) (m .ours)) (if-readable CellDeps (m .pick .taken) (l .udtDeps) (m .udtDeps)) (if-readable CellDep (m .pick .taken) (l .lockDep) (m .lockDep)) (option-of CellDeps (l .extraDeps) (m .extraDeps));
     headerDeps = ours .headerDeps;
     inputs =
         long-append 44 (fixItems 44 (rawField (l .ours) 3)) (span (picked (l .cells)) 0 (m .pick .taken)) (ours .inputs)
@@ -464,7 +434,7 @@ left tx out after n e = by (inRoom out tx) refl e
         record {
           bytes = bytes;
           isBuilt = i ∙ ap fine same;
-          short = subst (λ (x : List ℕ). length x ≤ 133116) same (fits-short (length made) (length out) (of-T _ room));
+          short = subst (λ (x : List ℕ). length x ≤ 133116) same (fits-short (length made) (length out) (is-true _ room));
           begins = ap (take n) holds ∙ take-at bytes (drop (length bytes) out) n (sym many);
         }
 

@@ -4,26 +4,27 @@ use Prim.Native.Nat.{ℕ, zero, suc, _+_, _-_, _^_, _≤_, _<_}
 use mathlib.Core.Bool.{Bool, true, false, cond, _&&_, and-eq-true-iff}
 use mathlib.Core.List.{List, [], _∷_, _++_, flatten}
 use native.Mathlib.Omega.{arith}
-use borrow.Author.Tests.{lt-ltb, ltb-true, leb-true, eqb-true, ne-eqb}
-use lib.Dec.{T, ltb, leb}
+use borrow.Author.Tests.{lt-ltb, ltb-true, leb-true, eqb-true}
+use lib.Dec.{ltb, leb}
 use lib.ListN.{length, take, drop, replicate, length-append}
 use lib.Seq.{length-take-le}
 use Rattle.arithmetic.specs.LittleEndian.{le, toLe, numAt, AllBytes, u32At}
 use Rattle.arithmetic.proofs.LittleEndianLaws.{length-toLe, le-lt}
 use Rattle.molecule.specs.Partial.{All}
 use Rattle.molecule.specs.Items.{join, unwords, offsets}
-use Rattle.molecule.specs.Layout.{part, start, word, span, fieldOf, hasItems, itemOf, itemCount, itemsOf, fixItems}
-use Rattle.molecule.specs.Molecule.{Ty, fixvec, dynvec, option, end, _&_, size, sizes, readable}
+use Rattle.molecule.specs.Layout.{word, span, fieldOf, hasItems, itemOf, itemCount, itemsOf, fixItems}
+use Rattle.molecule.specs.Molecule.{Ty, fixvec, dynvec, option, end, _&_, readable}
 use Rattle.molecule.proofs.Valid.{fixed, allFixed}
-use Rattle.molecule.proofs.LayoutLaws.{part-none}
-use Rattle.molecule.proofs.ItemsLaws.{bytes-take, bytes-drop}
+use Rattle.molecule.proofs.ItemsLaws.{bytes-take}
 use Rattle.molecule.proofs.Offsets.{up-all, span-length}
 use Rattle.molecule.proofs.ChunksLaws.{Long}
 use Rattle.molecule.proofs.HeaderLaws.{count, dynvec-readable, table-readable}
-use Rattle.molecule.proofs.ReadableLaws.{every, allReadable, readable-option, readable-fixed}
+use Rattle.molecule.proofs.ReadableLaws.{every, allReadable, readable-fixed, by-length, of-option}
 use Rattle.lists.proofs.SpanLaws.{span-drop}
 use Rattle.transaction.specs.Ckb.{Byte32, Bytes, OutPoint, CellDep, CellInput, Script, CellOutput, Transaction, TokenCell, TokenCells}
 use Rattle.transaction.specs.Tx.{txAt, rawField, witnessesOf, firstOf}
+use Rattle.transaction.proofs.FieldLaws.{bytes-raw, no-raw}
+use Rattle.transaction.proofs.ListLaws.{hash-size, input-size, point-size}
 use Rattle.transaction_writer.specs.Written.{inForm}
 use Rattle.transaction_writer.proofs.RewriteLaws.{lists-in-form}
 use Rattle.rules.specs.Outcome.{fine}
@@ -36,34 +37,10 @@ use Rattle.base_inputs.specs.BaseInputs.{pickedInput, picked}
 use Rattle.base_lists.specs.BaseLists.{placeholder, witnessList}
 use Rattle.base_theorems.proofs.PackedLaws.{item-readable}
 
-pub of-T : (b : Bool) → T b → b ≡ true
-of-T true h = refl
-of-T false h = absurd h
-
 -- ---- the present transaction, which may be none
 
-by-length : {A : Type 0} (s : List ℕ) → (s ≡ [] → A) → ((length s ≡ 0 → ⊥) → A) → A
-by-length [] f g = f refl
-by-length (b ∷ s) f g = g (λ (h : suc (length s) ≡ 0). omega arith)
-
-option-some : (t : Ty) (s : List ℕ) → (length s ≡ 0 → ⊥) → readable (option t) s ≡ true → readable t s ≡ true
-option-some t s n h = rw (ne-eqb _ _ n) at (sym (readable-option t s) ∙ h)
-
-bytes-field : (s : List ℕ) (n i : ℕ) → AllBytes s → AllBytes (fieldOf s n i)
-unfolding fieldOf part
-bytes-field s n i b = bytes-take (start s n (i + 1) - start s n i) (drop (start s n i) s) (bytes-drop (start s n i) s b)
-
-pub bytes-raw : (s : List ℕ) (i : ℕ) → AllBytes s → AllBytes (rawField s i)
-unfolding rawField
-bytes-raw s i b = bytes-field (fieldOf s 2 0) 6 i (bytes-field s 2 0 b)
-
-no-field : (n i : ℕ) → fieldOf [] n i ≡ []
-unfolding fieldOf
-no-field n i = part-none [] (start [] n i) (start [] n (i + 1)) (omega arith)
-
-no-raw : (s : List ℕ) (i : ℕ) → s ≡ [] → rawField s i ≡ []
-unfolding rawField
-no-raw s i e = ap (λ (f : List ℕ). fieldOf (fieldOf f 2 0) 6 i) e ∙ ap (λ (f : List ℕ). fieldOf f 6 i) (no-field 2 0) ∙ no-field 6 i
+nothing-raw : (s : List ℕ) (i : ℕ) → s ≡ [] → rawField s i ≡ []
+nothing-raw s i e = ap (λ (x : List ℕ). rawField x i) e ∙ no-raw i
 
 no-count : itemCount [] ≡ 0
 unfolding itemCount word numAt
@@ -85,18 +62,6 @@ word-low s b = by (leb 4 (length s)) refl
         omega arith
     by false e = omega arith
 
-header-size : size Byte32 ≡ 32
-unfolding size
-header-size = refl
-
-input-size : size CellInput ≡ 44
-unfolding size sizes
-input-size = refl
-
-point-size : size OutPoint ≡ 36
-unfolding size sizes
-point-size = refl
-
 -- each item of a readable list is readable
 dyn-item : (t : Ty) (s : List ℕ) → readable (dynvec t) s ≡ true → (i : ℕ) → i < itemCount s → readable t (itemOf s i) ≡ true
 dyn-item t s h = up-all (λ (i : ℕ). readable t (itemOf s i)) (itemCount s) (and-eq-true-iff (hasItems s (itemCount s)) _ .0 (sym (dynvec-readable t s) ∙ h) .1)
@@ -111,10 +76,10 @@ pub record Present (s : List ℕ) : Type 0 where
 module _ (s : List ℕ) (h : readable (option Transaction) s ≡ true) where
   none-present : s ≡ [] → Present s
   none-present e =
-      let no : (i j : ℕ) → j < itemCount (rawField s i) → ⊥ = λ i j k. (let z : itemCount (rawField s i) ≡ 0 = ap itemCount (no-raw s i e) ∙ no-count in omega arith) in
+      let no : (i j : ℕ) → j < itemCount (rawField s i) → ⊥ = λ i j k. (let z : itemCount (rawField s i) ≡ 0 = ap itemCount (nothing-raw s i e) ∙ no-count in omega arith) in
       record {
-        headerDeps = rw (no-raw s 2 e, no-items 32) tt;
-        inputs = rw (no-raw s 3 e, no-items 44) tt;
+        headerDeps = rw (nothing-raw s 2 e, no-items 32) tt;
+        inputs = rw (nothing-raw s 3 e, no-items 44) tt;
         outputs = λ i k. absurd (no 4 i k);
         outputsData = λ i k. absurd (no 5 i k);
       }
@@ -122,14 +87,14 @@ module _ (s : List ℕ) (h : readable (option Transaction) s ≡ true) where
   some-present : (length s ≡ 0 → ⊥) → Present s
   unfolding inForm fixed allFixed
   some-present n =
-      let form = lists-in-form s (option-some Transaction s n h) in
+      let form = lists-in-form s (of-option Transaction s n h) in
       let f = and-eq-true-iff _ (readable (dynvec Bytes) (witnessesOf s)) .0 form in
       let g = and-eq-true-iff _ (readable (dynvec Bytes) (rawField s 5)) .0 (f .0) in
       let k = and-eq-true-iff _ (readable (dynvec CellOutput) (rawField s 4)) .0 (g .0) in
       let i = and-eq-true-iff _ (readable (fixvec CellInput) (rawField s 3)) .0 (k .0) in
       let j = and-eq-true-iff (readable (fixvec CellDep) (rawField s 1)) (readable (fixvec Byte32) (rawField s 2)) .0 (i .0) in
       record {
-        headerDeps = rw header-size at (items-long Byte32 tt (rawField s 2) (j .1));
+        headerDeps = rw hash-size at (items-long Byte32 tt (rawField s 2) (j .1));
         inputs = rw input-size at (items-long CellInput tt (rawField s 3) (i .1));
         outputs = dyn-item CellOutput (rawField s 4) (k .1);
         outputsData = dyn-item Bytes (rawField s 5) (g .1);

@@ -13,13 +13,14 @@ use Rattle.arithmetic.specs.LittleEndian.{le, toLe}
 use Rattle.arithmetic.proofs.LittleEndianLaws.{length-toLe, le-toLe}
 use Rattle.molecule.specs.Items.{join}
 use Rattle.molecule.specs.Layout.{part, span, itemOf, itemsOf, fixItems, content, entryOf}
-use Rattle.molecule.specs.Molecule.{Ty, byte, fixvec, dynvec, size, sizes, readable, chunks}
+use Rattle.molecule.specs.Molecule.{Ty, byte, fixvec, dynvec, size, readable, chunks}
 use Rattle.molecule.proofs.Valid.{fixed, allFixed}
 use Rattle.molecule.proofs.ItemsLaws.{split-join}
 use Rattle.molecule.proofs.ChunksLaws.{Long, chunks-flatten}
 use Rattle.molecule.proofs.ReadableLaws.{holds, every, readable-dynvec, readable-fixvec}
 use Rattle.molecule.proofs.DecodedLaws.{fix-chunks, split-items}
 use Rattle.transaction.specs.Ckb.{Byte32, Bytes, CellDep, CellInput, CellOutput, Transaction}
+use Rattle.transaction.proofs.ListLaws.{hash-size, dep-size, input-size}
 use Rattle.transaction.specs.Tx.{txAt}
 use Rattle.transaction_writer.specs.Written.{inForm}
 use Rattle.transaction_writer.proofs.PutLaws.{tx-length}
@@ -118,18 +119,6 @@ pub record ReadsAs (t : Packed) (s : List ℕ) : Type 0 where
   pub outputsData : txAt s .outputsData ≡ map content (t .outputsData)
   pub witnesses : txAt s .witnesses ≡ map content (t .witnesses)
 
-dep-size : size CellDep ≡ 37
-unfolding size sizes
-dep-size = refl
-
-header-size : size Byte32 ≡ 32
-unfolding size
-header-size = refl
-
-input-size : size CellInput ≡ 44
-unfolding size sizes
-input-size = refl
-
 module _ (t : Packed) (f : Formed t) (short : length (packed t) ≤ 133116) where
   abbrev s : List ℕ
   s = packed t
@@ -151,7 +140,7 @@ module _ (t : Packed) (f : Formed t) (short : length (packed t) ≤ 133116) wher
   deps-long = rw dep-size (f .cellDeps)
 
   headers-long : Long (size Byte32) (t .headerDeps)
-  headers-long = rw header-size (f .headerDeps)
+  headers-long = rw hash-size (f .headerDeps)
 
   inputs-long : Long (size CellInput) (t .inputs)
   inputs-long = rw input-size (f .inputs)
@@ -186,7 +175,7 @@ module _ (t : Packed) (f : Formed t) (short : length (packed t) ≤ 133116) wher
     isReadable = unfold packed in written-readable _ _ _ _ _ _ _ (omega arith) formed;
     fields = has;
     cellDeps = ap (fixItems 37) (has .cellDeps) ∙ rw dep-size at (fix-items CellDep tt (t .cellDeps) deps-long deps-few);
-    headerDeps = ap (fixItems 32) (has .headerDeps) ∙ rw header-size at (fix-items Byte32 tt (t .headerDeps) headers-long headers-few);
+    headerDeps = ap (fixItems 32) (has .headerDeps) ∙ rw hash-size at (fix-items Byte32 tt (t .headerDeps) headers-long headers-few);
     inputs = ap (fixItems 44) (has .inputs) ∙ rw input-size at (fix-items CellInput tt (t .inputs) inputs-long inputs-few);
     outputs = ap itemsOf (has .outputs) ∙ dyn-items (t .outputs) outputs-short;
     outputsData = entries-are _ 0 _ ∙ ap (map content) (ap itemsOf (has .outputsData) ∙ dyn-items (t .outputsData) data-short);

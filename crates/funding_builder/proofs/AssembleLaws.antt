@@ -1,8 +1,8 @@
 -- What is written is the transaction of the definition.
 use mathlib.Core.Path.{_≡_, refl, sym, ap, ap₂, _∙_}
-use Prim.Native.Nat.{ℕ, zero, suc, _+_, _-_, _≤_, _<_, _^_, min}
-use mathlib.Core.Bool.{Bool, true, false}
-use mathlib.Core.List.{List, [], _∷_, _++_}
+use Prim.Native.Nat.{ℕ, _+_, _-_, _≤_, _<_, _^_, min}
+use mathlib.Core.Bool.{Bool, false}
+use mathlib.Core.List.{List, _∷_, _++_}
 use native.Mathlib.Omega.{arith}
 use borrow.Author.Tests.{lt-leb}
 use lib.ListN.{length, take}
@@ -13,16 +13,15 @@ use Rattle.units.specs.declared.{Shannons.Shannons, Tokens.Tokens}
 use Rattle.units.specs.Units.{shannonCount, tokenCount}
 use Rattle.molecule.specs.Items.{join}
 use Rattle.molecule.specs.Layout.{itemCount, itemOf, fixCount, fixItem}
-use Rattle.molecule.specs.Molecule.{readable, option}
 use Rattle.molecule.proofs.Offsets.{span-length}
 use Rattle.transaction.specs.Ckb.{CellDep, CellDeps}
 use Rattle.transaction.specs.Tx.{txAt, rawField}
-use Rattle.transaction.proofs.ListLaws.{option-none}
 use Rattle.rules.specs.Outcome.{Outcome, fine, check, checkWith, _>>=_, _>>_}
 use Rattle.transaction_writer.specs.declared.Written.{Written}
 use Rattle.transaction_writer.specs.Written.{txBytes, fits}
 use Rattle.transaction_writer.proofs.PutLaws.{tx-length}
 use Rattle.list_writer.specs.ListWriter.{fixList, ifPositive}
+use Rattle.list_writer.proofs.AgainLaws.{if-readable}
 use Rattle.cell_deps.specs.CellDeps.{cellDeps, depCount, depsAt, Chooses}
 use Rattle.cell_deps.proofs.LongLaws.{too-many, deps-most}
 use Rattle.base_writer.specs.declared.Plan.{Plan}
@@ -31,16 +30,6 @@ use Rattle.base_writer.specs.Lists.{listsOf, bytesOf}
 use Rattle.funding_builder.specs.Base.{Lent, Packed, packed, baseTx}
 use Rattle.funding_builder.specs.Steps.{Ready, Roomy, Planned, cellOf, pickOf}
 use Rattle.funding_builder.proofs.PresentLaws.{deps-readable, headers-again, option-of}
-
-if-readable : (n : ℕ) (s : List ℕ) → readable (option CellDeps) s ≡ true → readable (option CellDeps) (ifPositive n s) ≡ true
-unfolding ifPositive
-if-readable zero s h = sym (option-none CellDeps [] refl)
-if-readable (suc n) s h = h
-
-if-dep : (n : ℕ) (s : List ℕ) → readable (option CellDep) s ≡ true → readable (option CellDep) (ifPositive n s) ≡ true
-unfolding ifPositive
-if-dep zero s h = sym (option-none CellDep [] refl)
-if-dep (suc n) s h = h
 
 packed-long : (t : Packed) → length (fixList (t .cellDeps)) ≤ length (packed t)
 unfolding packed
@@ -70,7 +59,7 @@ module _ (ours lock udt source cells udtDeps lockDep extraDeps : List ℕ) (capa
         let n = choice .number in
         let most = roomy .enough (omega arith) in
         let far : 133116 < length (fixList list)
-        = too-many (rawField ours 1) (ifPositive taken udtDeps) (ifPositive taken lockDep) extraDeps (deps-readable ours (ready .lent .ours)) (if-readable taken udtDeps (ready .lent .udtDeps)) (if-dep taken lockDep (ready .lent .lockDep)) (option-of CellDeps extraDeps (ready .lent .extraDeps)) (omega arith) in
+        = too-many (rawField ours 1) (ifPositive taken udtDeps) (ifPositive taken lockDep) extraDeps (deps-readable ours (ready .lent .ours)) (if-readable CellDeps taken udtDeps (ready .lent .udtDeps)) (if-readable CellDep taken lockDep (ready .lent .lockDep)) (option-of CellDeps extraDeps (ready .lent .extraDeps)) (omega arith) in
         let long : 133116 < length base = omega (arith, packed-long (baseTx l (cellOf capacity token) (pickOf taken change)), ap (λ (ds : List (List ℕ)). length (fixList ds)) same-deps) in
         rw (lt-leb (length base) 133116 long)
 

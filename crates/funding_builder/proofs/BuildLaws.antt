@@ -1,10 +1,10 @@
 -- The ways out of `with_pick`, `with_cell` and `build_base`.
-use mathlib.Core.Path.{_≡_, refl, sym, ap, ap₂, _∙_}
+use mathlib.Core.Path.{_≡_, sym, ap, ap₂, _∙_}
 use Prim.Native.Nat.{ℕ, _^_, _<_}
 use mathlib.Core.Bool.{Bool, true, false, not}
 use mathlib.Core.List.{List}
 use borrow.Author.Tests.{not-true, not-false}
-use lib.Dec.{T, eqb}
+use lib.Dec.{eqb}
 use lib.ListN.{length}
 use Rattle.error.specs.declared.Refusal.{Refusal}
 use Rattle.error.specs.Refusal.{number, values}
@@ -21,7 +21,7 @@ use Rattle.rules.specs.Surplus.{isEmpty}
 use Rattle.rules.specs.Judge.{Figures, scripts}
 use Rattle.rules.specs.Told.{refusal}
 use Rattle.rules.proofs.CellLaws.{empty-is}
-use Rattle.rules.proofs.Tests.{check-fine, check-last}
+use Rattle.rules.proofs.Tests.{is-true, check-fine, check-last}
 use Rattle.transaction_writer.specs.declared.Written.{Written}
 use Rattle.funding_cell.specs.declared.{FundingRequest.FundingRequest, FundingCell.FundingCell}
 use Rattle.funding_cell.specs.FundingCell.{fundingCell, told as toldCell}
@@ -31,10 +31,6 @@ use Rattle.udt_cells.specs.Pick.{Pick, pickTyped, told as toldPick}
 use Rattle.base_writer.specs.Answer.{inRoom, leaves, written, told}
 use Rattle.funding_builder.specs.Base.{Lent, lists, supplied, packed, baseTx, withPick, withCell, withRequest, buildBase}
 use Rattle.funding_builder.specs.Steps.{Readable, Ready, cellOf, pickOf}
-
-of-T : (b : Bool) → T b → b ≡ true
-of-T true h = refl
-of-T false h = absurd h
 
 -- a refusal leaves the buffer
 refused-is : (e : Refusal) (out : List ℕ) {tx : Outcome (List ℕ)} → tx ≡ refusal e → (told (Written.Refused e), out) ≡ written tx out
@@ -153,9 +149,9 @@ module _ (ours lock udt source cells udtDeps lockDep extraDeps : List ℕ) {p : 
       let e = check-fine 3 (readable (option CellDep) lockDep) _ tt (d .1) in
       record {
         ours = sym ep ∙ not-false p hp;
-        udt = of-T _ (b .0);
-        source = of-T _ (check-last 3 (readable Script source) tt (b .1));
-        udtDeps = of-T _ (d .0);
-        lockDep = of-T _ (e .0);
-        extraDeps = of-T _ (check-last 3 (readable CellDeps extraDeps) tt (e .1));
+        udt = is-true _ (b .0);
+        source = is-true _ (check-last 3 (readable Script source) tt (b .1));
+        udtDeps = is-true _ (d .0);
+        lockDep = is-true _ (e .0);
+        extraDeps = is-true _ (check-last 3 (readable CellDeps extraDeps) tt (e .1));
       }

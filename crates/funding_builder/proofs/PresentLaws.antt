@@ -1,22 +1,19 @@
 -- What readable lent bytes give: the lists of the present transaction, which may be none.
 use mathlib.Core.Path.{_≡_, refl, sym, ap, ap₂, _∙_}
-use Prim.Native.Nat.{ℕ, suc, _+_, _-_}
+use Prim.Native.Nat.{ℕ, _-_}
 use mathlib.Core.Bool.{Bool, true, false, cond, _&&_, and-eq-true-iff}
 use mathlib.Core.List.{List, [], _∷_, append-nil, flatten}
-use native.Mathlib.Omega.{arith}
-use borrow.Author.Tests.{ne-eqb}
 use lib.Dec.{T, eqb}
-use lib.ListN.{length, drop}
+use lib.ListN.{length}
 use Rattle.arithmetic.specs.LittleEndian.{numAt, toLe, AllBytes}
-use Rattle.molecule.specs.Molecule.{Ty, fixvec, dynvec, option, size, readable}
-use Rattle.molecule.specs.Layout.{part, start, word, fieldOf, fixItems, span}
-use Rattle.molecule.proofs.LayoutLaws.{part-none}
+use Rattle.molecule.specs.Molecule.{Ty, fixvec, dynvec, option, readable}
+use Rattle.molecule.specs.Layout.{word, fixItems, span}
 use Rattle.molecule.proofs.Valid.{fixed}
-use Rattle.molecule.proofs.ItemsLaws.{bytes-take, bytes-drop}
-use Rattle.molecule.proofs.ReadableLaws.{readable-option}
+use Rattle.molecule.proofs.ReadableLaws.{readable-option, by-length, of-option}
 use Rattle.transaction.specs.Ckb.{Byte32, Bytes, CellDep, CellDeps, CellInput, CellOutput, Transaction}
 use Rattle.transaction.specs.Tx.{rawField, witnessesOf}
-use Rattle.transaction.proofs.ListLaws.{option-none}
+use Rattle.transaction.proofs.ListLaws.{option-none, hash-size}
+use Rattle.transaction.proofs.FieldLaws.{bytes-raw, no-raw}
 use Rattle.transaction_writer.specs.Written.{inForm}
 use Rattle.transaction_writer.proofs.RewriteLaws.{lists-in-form}
 use Rattle.list_writer.specs.ListWriter.{fixList}
@@ -24,13 +21,6 @@ use Rattle.list_writer.proofs.AgainLaws.{again}
 use Rattle.base_writer.specs.Lists.{orEmpty}
 
 -- ---- something or nothing
-
-by-length : {A : Type 0} (s : List ℕ) → (s ≡ [] → A) → ((length s ≡ 0 → ⊥) → A) → A
-by-length [] f g = f refl
-by-length (b ∷ s) f g = g (λ (h : suc (length s) ≡ 0). omega arith)
-
-option-some : (t : Ty) (s : List ℕ) → (length s ≡ 0 → ⊥) → readable (option t) s ≡ true → readable t s ≡ true
-option-some t s n h = rw (ne-eqb _ _ n) at (sym (readable-option t s) ∙ h)
 
 pub option-of : (t : Ty) (s : List ℕ) → readable t s ≡ true → readable (option t) s ≡ true
 option-of t s h = readable-option t s ∙ by s h
@@ -43,22 +33,6 @@ option-of t s h = readable-option t s ∙ by s h
         by-cond false = h
 
 -- ---- the deps, the header deps and the inputs
-
-bytes-field : (s : List ℕ) (n i : ℕ) → AllBytes s → AllBytes (fieldOf s n i)
-unfolding fieldOf part
-bytes-field s n i b = bytes-take (start s n (i + 1) - start s n i) (drop (start s n i) s) (bytes-drop (start s n i) s b)
-
-bytes-raw : (s : List ℕ) (i : ℕ) → AllBytes s → AllBytes (rawField s i)
-unfolding rawField
-bytes-raw s i b = bytes-field (fieldOf s 2 0) 6 i (bytes-field s 2 0 b)
-
-no-field : (n i : ℕ) → fieldOf [] n i ≡ []
-unfolding fieldOf
-no-field n i = part-none [] (start [] n i) (start [] n (i + 1)) (omega arith)
-
-no-raw : (i : ℕ) → rawField [] i ≡ []
-unfolding rawField
-no-raw i = ap (λ (f : List ℕ). fieldOf f 6 i) (no-field 2 0) ∙ no-field 6 i
 
 -- a list of header deps, or none
 or-empty : (x : List ℕ) → (fixList (fixItems 32 x) ≡ x) → fixList (fixItems 32 x) ≡ orEmpty x
@@ -73,10 +47,6 @@ none-again : fixList (fixItems 32 []) ≡ orEmpty []
 unfolding orEmpty fixList span word numAt flatten
 none-again = append-nil (toLe 4 0)
 
-header-size : size Byte32 ≡ 32
-unfolding size
-header-size = refl
-
 header-fixed : T (fixed Byte32)
 unfolding fixed
 header-fixed = tt
@@ -85,7 +55,7 @@ module _ (s : List ℕ) (h : readable (option Transaction) s ≡ true) where
   both : (length s ≡ 0 → ⊥) → (readable CellDeps (rawField s 1) ≡ true) × (readable (fixvec Byte32) (rawField s 2) ≡ true)
   unfolding inForm
   both n =
-      let form = lists-in-form s (option-some Transaction s n h) in
+      let form = lists-in-form s (of-option Transaction s n h) in
       let f = and-eq-true-iff _ (readable (dynvec Bytes) (witnessesOf s)) .0 form in
       let g = and-eq-true-iff _ (readable (dynvec Bytes) (rawField s 5)) .0 (f .0) in
       let k = and-eq-true-iff _ (readable (dynvec CellOutput) (rawField s 4)) .0 (g .0) in
@@ -99,7 +69,7 @@ module _ (s : List ℕ) (h : readable (option Transaction) s ≡ true) where
       none e = sym (option-none CellDeps (rawField s 1) (ap length (ap (λ (x : List ℕ). rawField x 1) e ∙ no-raw 1)))
 
   pub headers-again : AllBytes s → fixList (fixItems 32 (rawField s 2)) ≡ orEmpty (rawField s 2)
-  headers-again b = by-length s none (λ n. or-empty (rawField s 2) (rw header-size at (again Byte32 header-fixed (rawField s 2) (both n .1) (bytes-raw s 2 b))))
+  headers-again b = by-length s none (λ n. or-empty (rawField s 2) (rw hash-size at (again Byte32 header-fixed (rawField s 2) (both n .1) (bytes-raw s 2 b))))
     where
       none : s ≡ [] → fixList (fixItems 32 (rawField s 2)) ≡ orEmpty (rawField s 2)
       none e = let q : rawField s 2 ≡ [] = ap (λ (x : List ℕ). rawField x 2) e ∙ no-raw 2 in rw q none-again

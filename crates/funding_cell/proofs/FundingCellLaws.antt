@@ -142,11 +142,14 @@ of-cell c t f e =
     let (low, e₂) = check-fine 7 (ltb t (2 ^ 128)) _ f e₁ in
     subst (λ (x : Figures). x .capacity < 2 ^ 64) (fine-inj e₂) (ltb→lt c (2 ^ 64) narrow)
 
+pub capacity-low : (funded typed : Bool) (r : FundingRequest) (f : Figures) → fundingCell funded typed r ≡ fine f → f .capacity < 2 ^ 64
+unfolding cellOfSums
+capacity-low funded true r f e = of-cell _ _ f (by-counted funded true r ∙ e)
+capacity-low funded false r f e = of-cell _ _ f (by-counted funded false r ∙ e)
+
 pub capacity-below : (funded typed : Bool) (r : FundingRequest) (x : FundingCell) {c : Shannons} {t : Tokens} → told x ≡ fundingCell funded typed r → x ≡ FundingCell.Cell c t
     → shannonCount c < 2 ^ 64
-unfolding cellOfSums
-capacity-below funded true r x e f = of-cell _ _ _ (by-counted funded true r ∙ sym e ∙ ap told f)
-capacity-below funded false r x e f = of-cell _ _ _ (by-counted funded false r ∙ sym e ∙ ap told f)
+capacity-below funded typed r x e f = capacity-low funded typed r _ (sym e ∙ ap told f)
 
 -- untyped, the sum is below 2^64, and so is each figure that counts
 pub each-below : (funded : Bool) (r : FundingRequest) (f : Figures) → fundingCell funded false r ≡ fine f
