@@ -22,7 +22,7 @@ use Rattle.hold_records.specs.Rules.{isKept, putIf}
 use Rattle.hold_records.proofs.LoopLaws.{recorded}
 use Rattle.picks.specs.Places.{isAmong, takeFrom}
 
-abbrev After : Type 0
+abbrev pub After : Type 0
 After = Outcome Held (List Hold)
 
 over : (h : Held) (l : List Hold) → 256 < length l → atMost256 h l ≡ refused 14 h

@@ -3,7 +3,7 @@ use mathlib.Core.Path.{_≡_, refl, sym, ap, _∙_}
 use Prim.Native.Nat.{ℕ, zero, suc, _+_}
 use native.Mathlib.Nat.{zero-add}
 use native.Mathlib.Omega.{arith}
-use mathlib.Core.Bool.{Bool, true, false, not, cond}
+use mathlib.Core.Bool.{Bool, true, false, not, cond, false≢true}
 use mathlib.Core.List.{List, [], _∷_}
 use lib.ListN.{length}
 use Rattle.molecule.specs.Layout.{span}
@@ -12,9 +12,6 @@ use Rattle.out_points.specs.OutPoints.{eqPoint, has}
 use Rattle.out_points.proofs.EqualLaws.{point-same, point-refl}
 use Rattle.hold_records.specs.Holds.{isNew, firsts, others}
 use Rattle.picks.specs.Places.{isFirst, select, headIs, unmatched}
-
-no-path : false ≡ true → ⊥
-no-path e = let z : _≡_ {A = ℕ} 0 1 = cc in omega arith
 
 -- one more at the end of what stands before
 has-last : (q : OutPoint) (g : ℕ → OutPoint) (j i : ℕ) → has q (span g j (suc i)) ≡ cond (has q (span g j i)) true (eqPoint q (g (j + i)))
@@ -62,8 +59,8 @@ module _ (f : OutPoint → Bool) (g : ℕ → OutPoint) where
     where
       stands : (a b : Bool) → a ≡ true → cond a (not b) false ≡ false → b ≡ true
       stands true true e h = refl
-      stands true false e h = absurd (no-path (sym h))
-      stands false b e h = absurd (no-path e)
+      stands true false e h = absurd (false≢true (sym h))
+      stands false b e h = absurd (false≢true e)
 
       or-false : (b : Bool) → b ≡ cond b true false
       or-false true = refl
@@ -102,7 +99,7 @@ module _ (f : OutPoint → Bool) where
     where
       differ : (b : Bool) → eqPoint p q ≡ b → isNew f before q ≡ true → b ≡ false
       differ false e h = refl
-      differ true e h = absurd (no-path (sym n ∙ ap (isNew f before) (point-same p q e) ∙ h))
+      differ true e h = absurd (false≢true (sym n ∙ ap (isNew f before) (point-same p q e) ∙ h))
 
       by : (b : Bool) → isNew f before q ≡ b → headIs p (firsts f before l) ≡ false → headIs p (cond b (q ∷ firsts f (q ∷ before) l) (firsts f before l)) ≡ false
       by true e h = differ (eqPoint p q) refl e

@@ -12,9 +12,10 @@ use Rattle.transaction.specs.Ckb.{OutPoints}
 use Rattle.error.specs.declared.{Answer.Answer}
 use Rattle.out_points.specs.declared.OutPoint.{OutPoint}
 use Rattle.out_points.specs.OutPoints.{points}
-use Rattle.out_points.specs.Tables.{keep, Outcome, done, refused, told, hasRoom, written}
+use Rattle.out_points.specs.Tables.{keep, done, refused, told, hasRoom, written}
 use Rattle.hold_records.specs.declared.{Owner.Owner, Hold.Hold, Held.Held, Holds.Holds, Taker.Taker}
 use Rattle.hold_records.specs.Holds.{recordsOf, heldBy, cellsOf, atMost256, isNotOf, holdFunding, isUnnamed, releaseForWatchtower, renewAll, holdForWatchtower, lockHeld, isLive, isBusy, firsts, others, ownerFor, takeCells}
+use Rattle.held_cells.proofs.CallLaws.{After}
 use Rattle.table_laws.specs.Holds.{Took, Locked}
 
 -- the records that have not ended
@@ -30,9 +31,6 @@ given h now spent picks = firsts (isFree h now spent) [] picks
 
 abbrev pub kept : Held → Millis → List OutPoint → List OutPoint → List OutPoint
 kept h now spent picks = others (isFree h now spent) [] picks
-
-abbrev pub After : Type 0
-After = Outcome Held (List Hold)
 
 module _ (P : List Hold → Type 0) (h : Held) where
   -- the property of what is left, or the table that was given

@@ -2,7 +2,7 @@
 use mathlib.Core.Path.{_≡_, refl, sym, ap, _∙_, subst}
 use Prim.Native.Nat.{ℕ, suc, _≤_, _<_, _^_}
 use mathlib.Core.List.{List, [], _∷_}
-use mathlib.Core.Bool.{Bool, true, false, not, cond}
+use mathlib.Core.Bool.{Bool, true, false, not, cond, false≢true}
 use native.Mathlib.Omega.{arith}
 use lib.ListN.{length}
 use Rattle.units.specs.declared.Millis.{Millis}
@@ -106,9 +106,6 @@ locked-is {h} {r} {now} {after} i t =
 
 -- ---- the laws
 
-no-path : false ≡ true → ⊥
-no-path e = let z : _≡_ {A = ℕ} 0 1 = cc in omega arith
-
 -- one that fails the test is among the others, if it is picked
 others-has : (f : OutPoint → Bool) (p : OutPoint) (before l : List OutPoint) → f p ≡ false → has p (others f before l) ≡ has p l
 unfolding others isNew has
@@ -117,7 +114,7 @@ others-has f p before (q ∷ l) e = by (f q) (not (has q before)) (eqPoint p q) 
   where
     by : (t u b : Bool) → f q ≡ t → eqPoint p q ≡ b → has p (others f (q ∷ before) l) ≡ has p l → has p (others f before l) ≡ has p l
         → has p (cond (cond t u false) (others f (q ∷ before) l) (q ∷ others f before l)) ≡ cond b true (has p l)
-    by true true true ft k x y = absurd (no-path (sym e ∙ ap f (point-same p q k) ∙ ft))
+    by true true true ft k x y = absurd (false≢true (sym e ∙ ap f (point-same p q k) ∙ ft))
     by true true false ft k x y = x
     by true false true ft k x y = rw k
     by true false false ft k x y = rw k y

@@ -2,7 +2,7 @@
 use mathlib.Core.Path.{_≡_, refl, sym, ap, _∙_, subst}
 use Prim.Native.Nat.{ℕ, suc, _+_, _≤_, max}
 use mathlib.Core.List.{List, [], _∷_, _++_, map}
-use mathlib.Core.Bool.{Bool, true, false, cond, not}
+use mathlib.Core.Bool.{Bool, true, false, cond, not, false≢true}
 use native.Mathlib.Omega.{arith}
 use Rattle.units.specs.declared.Millis.{Millis}
 use Rattle.units.specs.Units.{later}
@@ -12,15 +12,13 @@ use Rattle.out_points.proofs.EqualLaws.{point-same, point-refl}
 use Rattle.out_points.specs.Tables.{keep, renew}
 use Rattle.hold_records.specs.declared.{Owner.Owner, Hold.Hold, Held.Held}
 use Rattle.hold_records.specs.Holds.{recordsOf, heldBy, byOwner, cellsOf, isNotOf, isUnnamed, isTowerOn, renewAll, isLive, isBusy, isNew, firsts, ownerFor}
+use Rattle.held_cells.proofs.CallLaws.{After}
 use Rattle.table_laws.specs.Holds as run
 use Rattle.table_laws.specs.Holds.{Called, Reached, towers, OneEach}
-use Rattle.table_laws.proofs.Calls.{unended, After, back, hold-fine, watch-fine, release-fine, locked-fine, take-fine}
+use Rattle.table_laws.proofs.Calls.{unended, back, hold-fine, watch-fine, release-fine, locked-fine, take-fine}
 
 abbrev Single : List Hold → Type 0
 Single l = (p : OutPoint) → towers p l ≤ 1
-
-false-true : false ≡ true → ⊥
-false-true e = let z : _≡_ {A = ℕ} 0 1 = cc in omega arith
 
 -- ---- counting
 
@@ -66,7 +64,7 @@ unfolding isTowerOn byOwner
 tower-is q p r e = by (r .owner) e
   where
     by : (o : Owner) → byOwner (λ n. false) (λ end. eqPoint p (r .point)) o ≡ true → byOwner (λ n. false) (λ end. eqPoint q (r .point)) o ≡ eqPoint q p
-    by (Owner.Funding n) e = absurd (false-true e)
+    by (Owner.Funding n) e = absurd (false≢true e)
     by (Owner.Watchtower end) e = ap (eqPoint q) (sym (point-same p (r .point) e))
 
 renew-other : (end : Millis) (q p : OutPoint) (l : List Hold) → eqPoint q p ≡ false → towers q (renew (isTowerOn p) (heldBy (Owner.Watchtower end) p) l) ≡ towers q l
@@ -124,7 +122,7 @@ firsts-once f p before (q ∷ l) = by (f q) (has q before) refl (firsts-once f p
         × (cond b (suc (times p (firsts f (q ∷ before) l))) (times p (firsts f (q ∷ before) l)) ≤ 1)
     same true k e (u, v) =
         let z : times p (firsts f (q ∷ before) l) ≡ 0 = u (rw k) in
-        (λ h. absurd (false-true (sym (subst (λ (x : OutPoint). has x before ≡ false) (sym (point-same p q k)) e) ∙ h)), omega (arith, z))
+        (λ h. absurd (false≢true (sym (subst (λ (x : OutPoint). has x before ≡ false) (sym (point-same p q k)) e) ∙ h)), omega (arith, z))
     same false k e (u, v) = (λ h. u (rw k h), v)
 
     by : (t w : Bool) → has q before ≡ w → Once (firsts f before l)
@@ -142,7 +140,7 @@ firsts-not f p before (q ∷ l) e = by (f q) (not (has q before)) (eqPoint p q) 
   where
     by : (t u b : Bool) → f q ≡ t → eqPoint p q ≡ b → times p (firsts f before l) ≡ 0 → times p (firsts f (q ∷ before) l) ≡ 0
         → times p (cond (cond t u false) (q ∷ firsts f (q ∷ before) l) (firsts f before l)) ≡ 0
-    by true true true ft k x y = absurd (false-true (sym e ∙ ap f (point-same p q k) ∙ ft))
+    by true true true ft k x y = absurd (false≢true (sym e ∙ ap f (point-same p q k) ∙ ft))
     by true true false ft k x y = rw k y
     by true false b ft k x y = x
     by false u b ft k x y = x
@@ -154,7 +152,7 @@ none-there p (r ∷ l) e = by (eqPoint p (r .point)) (r .owner) e (none-there p 
   where
     by : (b : Bool) (o : Owner) → cond b true (has p (cellsOf l)) ≡ false → (has p (cellsOf l) ≡ false → towers p l ≡ 0)
         → cond (byOwner (λ n. false) (λ end. b) o) (suc (towers p l)) (towers p l) ≡ 0
-    by true o e ih = absurd (false-true (sym e))
+    by true o e ih = absurd (false≢true (sym e))
     by false (Owner.Funding n) e ih = ih e
     by false (Owner.Watchtower end) e ih = ih e
 

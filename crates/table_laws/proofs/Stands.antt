@@ -2,7 +2,7 @@
 use mathlib.Core.Path.{_≡_, refl, sym, ap, _∙_, subst}
 use Prim.Native.Nat.{ℕ}
 use native.Mathlib.Omega.{arith}
-use mathlib.Core.Bool.{Bool, true, false, not, cond}
+use mathlib.Core.Bool.{Bool, true, false, not, cond, false≢true}
 use mathlib.Core.List.{List, [], _∷_, _++_, map}
 use Rattle.units.specs.declared.{Millis.Millis}
 use Rattle.units.specs.Units.{later}
@@ -12,12 +12,11 @@ use Rattle.out_points.proofs.EqualLaws.{point-same, point-refl}
 use Rattle.out_points.specs.Tables.{keep, renew}
 use Rattle.hold_records.specs.declared.{Owner.Owner, Hold.Hold, Held.Held}
 use Rattle.hold_records.specs.Holds.{recordsOf, heldBy, byOwner, cellsOf, isNotOf, isUnnamed, isTowerOn, renewAll, isLive}
+use Rattle.held_cells.proofs.CallLaws.{After}
+use Rattle.held_cells.proofs.RenewLaws.{tower}
 use Rattle.table_laws.specs.Holds as run
 use Rattle.table_laws.specs.Holds.{Called, Stands, here, there, outlives, Outlived}
-use Rattle.table_laws.proofs.Calls.{unended, After, back, hold-fine, watch-fine, release-fine, locked-fine, take-fine}
-
-abbrev tower : Millis → OutPoint → Hold
-tower t q = heldBy (Owner.Watchtower t) q
+use Rattle.table_laws.proofs.Calls.{unended, back, hold-fine, watch-fine, release-fine, locked-fine, take-fine}
 
 -- ---- which calls it outlives
 
@@ -43,17 +42,14 @@ stands-renew t r l q h (there x k s) = by (isTowerOn q x) (stands-renew t r k q 
     by true n = there (tower t q) k s
     by false n = there x (renew (isTowerOn q) (tower t q) k) n
 
-no-path : false ≡ true → ⊥
-no-path e = let z : _≡_ {A = ℕ} 0 1 = cc in omega arith
-
 -- a record on none of the cells is not on the first of them, nor on one of the others
 unnamed-next : (r : Hold) (q : OutPoint) (ps : List OutPoint) → isUnnamed (q ∷ ps) r ≡ true → (isTowerOn q r ≡ false) × (isUnnamed ps r ≡ true)
 unfolding isUnnamed isTowerOn byOwner has
 unnamed-next r q ps h = by (r .owner) h
   where
     other : (b c : Bool) → eqPoint (r .point) q ≡ b → eqPoint q (r .point) ≡ c → not (cond b true (has (r .point) ps)) ≡ true → (c ≡ false) × (not (has (r .point) ps) ≡ true)
-    other true c e f h = absurd (no-path h)
-    other false true e f h = absurd (no-path (sym e ∙ ap (eqPoint (r .point)) (point-same q (r .point) f) ∙ point-refl (r .point)))
+    other true c e f h = absurd (false≢true h)
+    other false true e f h = absurd (false≢true (sym e ∙ ap (eqPoint (r .point)) (point-same q (r .point) f) ∙ point-refl (r .point)))
     other false false e f h = (refl, h)
 
     by : (o : Owner) → byOwner (λ n. true) (λ end. not (cond (eqPoint (r .point) q) true (has (r .point) ps))) o ≡ true
