@@ -33,6 +33,7 @@ use Rattle.rules.proofs.Tests.{never, fine-inj, bind-fine}
 use Rattle.udt_cells.specs.Pick.{Pick, plusCell, enoughOr, pickFrom, pickTyped}
 use Rattle.list_writer.specs.ListWriter.{bytesItem, itemOr, later, ifAny, ifPositive}
 use Rattle.list_writer.proofs.AgainLaws.{items-long}
+use Rattle.cell_deps.proofs.LongLaws.{no-items}
 use Rattle.base_inputs.specs.BaseInputs.{pickedInput, picked}
 use Rattle.base_lists.specs.BaseLists.{placeholder, witnessList}
 use Rattle.base_theorems.proofs.PackedLaws.{item-readable}
@@ -45,10 +46,6 @@ nothing-raw s i e = ap (λ (x : List ℕ). rawField x i) e ∙ no-raw i
 no-count : itemCount [] ≡ 0
 unfolding itemCount word numAt
 no-count = refl
-
-no-items : (k : ℕ) → fixItems k [] ≡ []
-unfolding span word numAt
-no-items k = refl
 
 -- a number of four bytes is below 2^32
 word-low : (s : List ℕ) → AllBytes s → u32At s 0 < 2 ^ 32

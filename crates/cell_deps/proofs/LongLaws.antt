@@ -58,9 +58,9 @@ dep-fixed : T (fixed CellDep)
 unfolding fixed allFixed
 dep-fixed = tt
 
-no-items : fixItems 37 [] ≡ []
+pub no-items : (k : ℕ) → fixItems k [] ≡ []
 unfolding span word numAt
-no-items = refl
+no-items k = refl
 
 deps-long : (s : List ℕ) → readable CellDeps s ≡ true → Long 37 (fixItems 37 s)
 deps-long s h = rw dep-size at (items-long CellDep dep-fixed s h)
@@ -69,7 +69,7 @@ optional-long : (s : List ℕ) → readable (option CellDeps) s ≡ true → Lon
 optional-long s h = by-length s none (λ n. deps-long s (of-option CellDeps s n h))
   where
     none : s ≡ [] → Long 37 (fixItems 37 s)
-    none e = rw (e, no-items) tt
+    none e = rw (e, no-items 37) tt
 
 lock-long : (s : List ℕ) → readable (option CellDep) s ≡ true → Long 37 (ifAny s)
 lock-long s h = by-length s none some
