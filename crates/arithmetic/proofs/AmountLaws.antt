@@ -23,9 +23,6 @@ value-amountOf n = omega arith
 pub halves-of : (n l h : ℕ) → l < 2 ^ 64 → n ≡ l + 2 ^ 64 * h → halves l h ≡ amountOf n
 halves-of n l h hl e = ap₂ halves (omega arith) (omega arith)
 
-pub amountOf-value : (a : Amount) → a .low < 2 ^ 64 → amountOf (value a) ≡ a
-amountOf-value a h = sym (halves-of (value a) (a .low) (a .high) h refl)
-
 pub from-is : (x : ℕ) → x < 2 ^ 64 → halves x 0 ≡ amountOf x
 from-is x h = halves-of x x 0 h (omega arith)
 

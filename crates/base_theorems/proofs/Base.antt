@@ -379,7 +379,7 @@ module _ (l : Lent) (request : FundingRequest) (bytes : List ℕ) (b : AllBytes 
           ap (drop (suc after)) cells-are
           ∙ behind after (later (rawField (l .ours) 4) after) (later entries after) changes changed (later-length (rawField (l .ours) 4) after) (later-length entries after)
 
--- "the result is readable"
+-- the result is readable
 pub is-readable : Readable
 is-readable l request bytes b e short = reads-back l request bytes b e short
 
@@ -387,15 +387,15 @@ is-readable l request bytes b e short = reads-back l request bytes b e short
 pub encoded : Encoded
 encoded l request bytes b e short = is-encoded l request bytes b e short
 
--- "its output 0 has the funding lock and type"
+-- its output 0 has the funding lock and type
 pub first-output : FirstOutput
 first-output l request bytes b e short = funds l request bytes b e short
 
--- "present inputs and outputs after 0 keep their places"
+-- present inputs and outputs after 0 keep their places
 pub kept : Kept
 kept l request bytes b e short = keeps l request bytes b e short
 
--- "a peer that receives it with the same lock and type finds nothing of its own changed"
+-- a peer that receives it with the same lock and type finds nothing of its own changed
 pub compared : Compared
 compared l request bytes b e short = compares l request bytes b e short
 

@@ -51,7 +51,7 @@ pub record Figured (l : Lent) (request : FundingRequest) (cell : Figures) (pick 
 abbrev pub Holds : Packed → List ℕ → Type 0
 Holds t s = HasFields s (t .version) (fixList (t .cellDeps)) (fixList (t .headerDeps)) (fixList (t .inputs)) (join (t .outputs)) (join (t .outputsData)) (join (t .witnesses))
 
--- "the result is readable": and its lists are those of `baseTx`
+-- the result is readable: and its lists are those of `baseTx`
 pub record ReadsBack (l : Lent) (request : FundingRequest) (bytes : List ℕ) : Type 0 where
   pub cell : Figures
   pub pick : Pick
@@ -86,7 +86,7 @@ pub record IsEncoded (l : Lent) (request : FundingRequest) (bytes : List ℕ) : 
 abbrev pub Encodes : Lent → FundingRequest → List ℕ → Type 0
 Encodes l request bytes = AllBytes bytes → IsEncoded l request bytes
 
--- "its output 0 has the funding lock and type": and the capacity and data of the funding cell
+-- its output 0 has the funding lock and type: and the capacity and data of the funding cell
 pub record Funds (l : Lent) (request : FundingRequest) (bytes : List ℕ) : Type 0 where
   pub cell : Figures
   pub isCell : fundingCell (not (isEmpty (txAt (l .ours) .outputs))) (not (isEmpty (l .udt))) request ≡ fine cell
@@ -98,7 +98,7 @@ pub record Funds (l : Lent) (request : FundingRequest) (bytes : List ℕ) : Type
   pub capacity : capacityOf (first .output) ≡ cell .capacity
   pub content : first .cellData ≡ cond (not (isEmpty (l .udt))) (toLe 16 (cell .token)) []
 
--- "present inputs and outputs after 0 keep their places": and version and header deps are the same
+-- present inputs and outputs after 0 keep their places: and version and header deps are the same
 pub record Keeps (l : Lent) (request : FundingRequest) (bytes : List ℕ) : Type 0 where
   pub version : txAt bytes .version ≡ txAt (l .ours) .version
   pub headerDeps : txAt bytes .headerDeps ≡ txAt (l .ours) .headerDeps
@@ -110,7 +110,7 @@ abbrev pub Distinct : List (List ℕ) → Type 0
 Distinct [] = Unit {0}
 Distinct (x ∷ xs) = (contains x xs ≡ false) × Distinct xs
 
--- "a peer that receives it with the same lock and type finds nothing of its own changed (our base passes 01's comparison against the present
+-- a peer that receives it with the same lock and type finds nothing of its own changed (our base passes 01's comparison against the present
 -- transaction, but for the cases that DIFFERENCES.md names with their smallest inputs: repeated cell deps, and data entries beyond the outputs, both
 -- dropped as in the Rust)"
 abbrev pub Passes : Lent → FundingRequest → List ℕ → Type 0

@@ -37,10 +37,6 @@ pub amount-there : (o d : List ℕ) {r : TokensRead} {t : Tokens} → r ≡ toke
 unfolding amountOf hasAmount
 amount-there o d e f = tokens-there d e f ∙ rw (le-leb 16 (length d) (tokens-long d e f))
 
-amount-short : (o d : List ℕ) {r : TokensRead} → r ≡ tokensRead (amountAt d) → r ≡ TokensRead.Short → 0 ≡ amountOf (record { output = o; cellData = d })
-unfolding amountOf hasAmount
-amount-short o d e f = rw (lt-leb 16 (length d) (tokens-under d e f))
-
 module _ (s : List ℕ) {f : List ℕ} {n : ℕ} (ef : f ≡ rawField s 4) (en : n ≡ itemCount f) where
   counted : n ≡ itemCount (rawField s 4)
   counted = en ∙ ap itemCount ef

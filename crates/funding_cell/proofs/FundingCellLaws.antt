@@ -151,16 +151,6 @@ pub capacity-below : (funded typed : Bool) (r : FundingRequest) (x : FundingCell
     → shannonCount c < 2 ^ 64
 capacity-below funded typed r x e f = capacity-low funded typed r _ (sym e ∙ ap told f)
 
--- untyped, the sum is below 2^64, and so is each figure that counts
-pub each-below : (funded : Bool) (r : FundingRequest) (f : Figures) → fundingCell funded false r ≡ fine f
-    → (value (r .«local_amount») < 2 ^ 64) × (counted funded (value (r .«remote_amount»)) < 2 ^ 64)
-unfolding cellOfSums cellOf
-each-below funded r f e =
-    let (narrow, e₁) = check-fine 7 _ _ f (by-counted funded false r ∙ e) in
-    let all : value (r .«local_amount») + counted funded (value (r .«remote_amount»)) + (r .«local_reserved_ckb_amount» + counted funded (r .«remote_reserved_ckb_amount»)) < 2 ^ 64 =
-    ltb→lt _ (2 ^ 64) narrow in
-    (omega arith, omega arith)
-
 -- ---- by the lent bytes
 
 module _ (o t : List ℕ) (r : FundingRequest) {p : Bool} (ep : p ≡ readable (option Transaction) o) where

@@ -31,9 +31,6 @@ eq-true (x ∷ xs) [] h = absurd (false≢true h)
 eq-true (x ∷ xs) (y ∷ ys) h =
     ap₂ {C = List ℕ} (λ (a : ℕ) (l : List ℕ). a ∷ l) (eqb-true x y (and-eq-true-iff (eqb x y) (eqBytes xs ys) .0 h .0)) (eq-true xs ys (and-eq-true-iff (eqb x y) (eqBytes xs ys) .0 h .1))
 
-pub eq-iff : (a b : List ℕ) → eqBytes a b ≡ true ↔ a ≡ b
-eq-iff a b = (eq-true a b, λ e. rw e (eq-refl b))
-
 -- lists of different lengths differ
 pub eq-length : (a b : List ℕ) → (length a ≡ length b → ⊥) → false ≡ eqBytes a b
 eq-length a b h = sym (not-so _ (λ e. h (ap length (eq-true a b e))))

@@ -66,14 +66,6 @@ module _ (t : Ty) (ts : Fields) (x : List ℕ) (xs : List (List ℕ)) (v : Value
 
 -- ---- the parts are those of the value, written
 
-pub table-decoded : (ts : Fields) (s : List ℕ) (v : Values ts) → decode (table ts) s ≡ some v → AllBytes s → T (valid (table ts))
-    → span (fieldOf s (count ts)) 0 (count ts) ≡ encodes ts v
-unfolding decode valid
-table-decoded ts s v e b ok =
-    let c = bind-eq-some-iff _ _ .0 e in
-    split-fields s (count ts) (c .0) (length-decodes ts (c .0) v (c .2)) (c .1)
-    ∙ sym (encodes-decodes ts ok (c .0) v (split-bytes s (c .0) b (c .1)) (c .2))
-
 -- items that are each read
 each-decoded : (t : Ty) → T (valid t) → (xs : List (List ℕ)) (v : List (Value t)) → All AllBytes xs → each (λ x. decode t x) xs ≡ some v
     → xs ≡ map (λ x. encode t x) v
@@ -86,15 +78,6 @@ dynvec-decoded t s v e b ok =
     let c = bind-eq-some-iff _ _ .0 e in
     let ok′ = and-yes (not (fixed t)) (valid t) ok .1 in
     split-items s (c .0) (c .1) ∙ each-decoded t ok′ (c .0) v (split-bytes s (c .0) b (c .1)) (c .2)
-
-pub array-decoded : (t : Ty) (n : ℕ) (s : List ℕ) (v : List (Value t)) → decode (array t n) s ≡ some v → AllBytes s → T (valid (array t n))
-    → chunks n (size t) s ≡ map (λ x. encode t x) v
-unfolding decode valid
-array-decoded t n s v e b ok = each-decoded t (fixed-valid t ok) _ v (bytes-chunks n (size t) s b) (only-some _ _ e .1)
-
-pub struct-decoded : (ts : Fields) (s : List ℕ) (v : Values ts) → decode (struct ts) s ≡ some v → AllBytes s → T (valid (struct ts)) → pieces ts s ≡ encodes ts v
-unfolding decode valid
-struct-decoded ts s v e b ok = sym (encodes-decodes ts (all-fixed-valid ts ok) (pieces ts s) v (bytes-pieces ts s b) (only-some _ _ e .1))
 
 -- the items of a fixvec by index are the pieces behind its count
 span-chunks : (k : ℕ) (s : List ℕ) (m i : ℕ) → i + m ≡ fixCount s → span (fixItem s k) i m ≡ chunks m k (drop (4 + k * i) s)
@@ -131,10 +114,6 @@ bytes-again (x ∷ v) = ap (λ (r : List ℕ). x ∷ r) (bytes-again v)
 pub encode-array-byte : (n : ℕ) (v : List ℕ) → encode (array byte n) v ≡ v
 unfolding encode
 encode-array-byte n v = bytes-again v
-
-pub encode-fixvec-byte : (v : List ℕ) → encode (fixvec byte) v ≡ toLe 4 (length v) ++ v
-unfolding encode
-encode-fixvec-byte v = ap (λ (r : List ℕ). toLe 4 (length v) ++ r) (bytes-again v)
 
 -- bytes that are read one by one
 one-by-one : (n : ℕ) (s v : List ℕ) → length s ≡ n * 1 → each (λ x. decode byte x) (chunks n 1 s) ≡ some v → s ≡ v

@@ -39,8 +39,3 @@ module _ (s : List ℕ) (h : readable OutPointsForm s ≡ true) where
 
   pub readable-length : length s ≡ 4 + 36 * fixCount s
   readable-length = eqb-true _ _ (and-both (ltb (length s) (2 ^ 32) && leb 4 (length s)) (eqb (length s) (4 + 36 * fixCount s)) tests .1)
-
-  pub readable-below : length s < 2 ^ 32
-  readable-below =
-      let a = and-both (ltb (length s) (2 ^ 32) && leb 4 (length s)) (eqb (length s) (4 + 36 * fixCount s)) tests .0 in
-      ltb-true _ _ (and-both (ltb (length s) (2 ^ 32)) (leb 4 (length s)) a .0)

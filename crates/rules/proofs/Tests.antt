@@ -83,19 +83,3 @@ pub checkWith-no : {B : Type 0} (n : ℕ) (l : List ℕ) (t : Bool) (r : Outcome
 unfolding _>>_ checkWith
 checkWith-no n l true r h = absurd h
 checkWith-no n l false r h = refl
-
-pub check-yes : {B : Type 0} (n : ℕ) (t : Bool) (r : Outcome B) → T t → (check n t >> r) ≡ r
-unfolding check
-check-yes n t r h = checkWith-yes n [] t r h
-
-pub check-no : {B : Type 0} (n : ℕ) (t : Bool) (r : Outcome B) → T (not t) → (check n t >> r) ≡ refused n []
-unfolding check
-check-no n t r h = checkWith-no n [] t r h
-
-pub bind-yes : {A B : Type 0} (m : Outcome A) (f : A → Outcome B) (a : A) → m ≡ fine a → (m >>= f) ≡ f a
-unfolding _>>=_
-bind-yes m f a e = rw e
-
-pub bind-no : {A B : Type 0} (m : Outcome A) (f : A → Outcome B) (n : ℕ) (l : List ℕ) → m ≡ refused n l → (m >>= f) ≡ refused n l
-unfolding _>>=_
-bind-no m f n l e = rw e

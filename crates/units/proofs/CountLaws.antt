@@ -16,10 +16,6 @@ pub shannons-of : (x : ℕ) → shannonCount (inShannons (amountOf x)) ≡ x
 unfolding shannonCount
 shannons-of x = value-amountOf x
 
-pub tokens-of : (x : ℕ) → tokenCount (inTokens (amountOf x)) ≡ x
-unfolding tokenCount
-tokens-of x = value-amountOf x
-
 -- a sum that is far from the cap
 pub capped-near : (a b : Shannons) {r : Shannons} → r ≡ cappedSum a b → shannonCount a + shannonCount b < 2 ^ 128 → shannonCount r ≡ shannonCount a + shannonCount b
 unfolding cappedSum shannonCount
