@@ -6,10 +6,11 @@ ghost use mathlib.Core.Path.{_≡_};
 ghost use mathlib.Core.Bool.{cond};
 ghost use Rattle.hold_records.specs.declared.{Taker.Taker};
 ghost use Rattle.hold_records.specs.Holds.{holdFunding, releaseForWatchtower, holdForWatchtower, lockHeld, unavailable, takeCells};
-ghost use Rattle.exclusions.specs.Exclusions.{commitCall, removeCall, applyCall, addCall, migrateCall};
+ghost use Rattle.exclusions.specs.Exclusions.{commitOn, removeOn, applyOn, addOn, migrateOn};
 ghost use Rattle.table_bytes.specs.Lent.{lentTable, lentWith, lentWithTwo, lentRead, withBytes, toldNumber};
 ghost use Rattle.held_bytes.specs.HeldBytes.{heldOf, heldAt, heldBytes};
-ghost use Rattle.exclusion_bytes.specs.ExclusionBytes.{mapOf, excludedAt, truncateCall, mapBytes};
+ghost use Rattle.exclusion_entries.specs.Entries.{excludedAt};
+ghost use Rattle.exclusion_bytes.specs.ExclusionBytes.{lentMap, lentList, truncateOn};
 
 // ---- holds
 
@@ -102,7 +103,7 @@ pub extern "C" fn basinpantry_take(
 // Enters the inputs of a transaction under its hash.
 #[no_mangle]
 pub extern "C" fn basinpantry_exclusions_add(map: &mut [u8], hash: &[u8], tx: &[u8]) -> u32
-    ensures { λ r. ⌜ toldNumber (withBytes excludedAt) r (now (map .exit)) ≡ lentTable mapBytes 27652 (now (map .entry)) (addCall (mapOf (now (map .entry))) (now (hash .entry)) (now (tx .entry))) ⌝ }
+    ensures { λ r. ⌜ toldNumber (withBytes excludedAt) r (now (map .exit)) ≡ lentMap (now (map .entry)) (addOn (now (map .entry)) (excludedAt (now (map .entry))) (now (hash .entry)) (now (tx .entry))) ⌝ }
 {
     let a = exclusion_bytes::calls::add(map, hash, tx);
     a.number() as u32
@@ -111,7 +112,7 @@ pub extern "C" fn basinpantry_exclusions_add(map: &mut [u8], hash: &[u8], tx: &[
 // The transaction of this hash was committed in this block.
 #[no_mangle]
 pub extern "C" fn basinpantry_exclusions_commit(map: &mut [u8], hash: &[u8], block: u64) -> u32
-    ensures { λ r. ⌜ toldNumber (withBytes excludedAt) r (now (map .exit)) ≡ lentTable mapBytes 27652 (now (map .entry)) (commitCall (mapOf (now (map .entry))) (now (hash .entry)) (record { 0 = block })) ⌝ }
+    ensures { λ r. ⌜ toldNumber (withBytes excludedAt) r (now (map .exit)) ≡ lentMap (now (map .entry)) (commitOn (now (map .entry)) (excludedAt (now (map .entry))) (now (hash .entry)) (record { 0 = block })) ⌝ }
 {
     let number = BlockNumber(block);
     let a = exclusion_bytes::calls::commit(map, hash, number);
@@ -121,7 +122,7 @@ pub extern "C" fn basinpantry_exclusions_commit(map: &mut [u8], hash: &[u8], blo
 // Removes the transaction of this hash.
 #[no_mangle]
 pub extern "C" fn basinpantry_exclusions_remove(map: &mut [u8], hash: &[u8]) -> u32
-    ensures { λ r. ⌜ toldNumber (withBytes excludedAt) r (now (map .exit)) ≡ lentTable mapBytes 27652 (now (map .entry)) (removeCall (mapOf (now (map .entry))) (now (hash .entry))) ⌝ }
+    ensures { λ r. ⌜ toldNumber (withBytes excludedAt) r (now (map .exit)) ≡ lentMap (now (map .entry)) (removeOn (now (map .entry)) (excludedAt (now (map .entry))) (now (hash .entry))) ⌝ }
 {
     let a = exclusion_bytes::calls::remove(map, hash);
     a.number() as u32
@@ -135,7 +136,7 @@ pub extern "C" fn basinpantry_exclusions_migrate_funding_tx(
     new: &[u8],
     tx: &[u8],
 ) -> u32
-    ensures { λ r. ⌜ toldNumber (withBytes excludedAt) r (now (map .exit)) ≡ lentTable mapBytes 27652 (now (map .entry)) (migrateCall (mapOf (now (map .entry))) (now (old .entry)) (now (new .entry)) (now (tx .entry))) ⌝ }
+    ensures { λ r. ⌜ toldNumber (withBytes excludedAt) r (now (map .exit)) ≡ lentMap (now (map .entry)) (migrateOn (now (map .entry)) (excludedAt (now (map .entry))) (now (old .entry)) (now (new .entry)) (now (tx .entry))) ⌝ }
 {
     let a = exclusion_bytes::calls::migrate_funding_tx(map, old, new, tx);
     a.number() as u32
@@ -144,7 +145,7 @@ pub extern "C" fn basinpantry_exclusions_migrate_funding_tx(
 // Drops what was committed 13 blocks before the tip, or earlier.
 #[no_mangle]
 pub extern "C" fn basinpantry_exclusions_truncate(map: &mut [u8], tip: u64) -> u32
-    ensures { λ r. ⌜ toldNumber (withBytes excludedAt) r (now (map .exit)) ≡ lentTable mapBytes 27652 (now (map .entry)) (truncateCall (mapOf (now (map .entry))) (record { 0 = tip })) ⌝ }
+    ensures { λ r. ⌜ toldNumber (withBytes excludedAt) r (now (map .exit)) ≡ lentMap (now (map .entry)) (truncateOn (now (map .entry)) (excludedAt (now (map .entry))) (record { 0 = tip })) ⌝ }
 {
     let number = BlockNumber(tip);
     let a = exclusion_bytes::calls::truncate(map, number);
@@ -154,7 +155,7 @@ pub extern "C" fn basinpantry_exclusions_truncate(map: &mut [u8], tip: u64) -> u
 // Writes the out points of all entries, in their order, as a list.
 #[no_mangle]
 pub extern "C" fn basinpantry_exclusions_apply(map: &[u8], out: &mut [u8]) -> u32
-    ensures { λ r. ⌜ (r, now (out .exit)) ≡ lentRead 27652 (now (map .entry)) (now (out .entry)) (applyCall (mapOf (now (map .entry))) (now (out .entry))) ⌝ }
+    ensures { λ r. ⌜ (r, now (out .exit)) ≡ lentList (now (map .entry)) (now (out .entry)) (applyOn (excludedAt (now (map .entry))) (now (out .entry))) ⌝ }
 {
     let a = exclusion_bytes::calls::apply(map, out);
     a.number() as u32

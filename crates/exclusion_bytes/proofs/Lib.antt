@@ -1,4 +1,9 @@
-pub mod BytesLaws
+pub mod ApplyLaws
 pub mod CallLaws
+pub mod CallWays
+pub mod EnterLaws
+pub mod MarkLaws
+pub mod MoveLaws
+pub mod PutLaws
+pub mod SiftLaws
 pub mod Ways
-pub mod WriteLaws

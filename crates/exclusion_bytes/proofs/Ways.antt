@@ -1,10 +1,9 @@
--- What closes the needs of this crate's functions: `search ways`.
+-- What closes the needs of the functions that read and write tables: `search ways`.
 use borrow.Author.Needs.{needs}
-use Rattle.exclusions.proofs.LoopLaws.{length-mapped}
-use Rattle.table_bytes.proofs.LoopLaws.{read-none, read-more}
-use Rattle.table_bytes.proofs.LentLaws.{lent-bad, only-bad, leave-refused}
-use Rattle.exclusion_bytes.proofs.BytesLaws.{slot-pending, slot-committed, slot-input, place-pending, place-committed, place-input, fit-pending, fit-committed, fit-input, map-read}
-use Rattle.exclusion_bytes.proofs.WriteLaws.{rest-none, rest-more, turn-less, rest-long, rest-end, rest-fit, loose-within, map-short, map-none, map-room, map-put, map-means}
-use Rattle.exclusion_bytes.proofs.CallLaws.{left-done, add-call, commit-call, remove-call, migrate-call, truncate-call, apply-call}
+use Rattle.exclusion_bytes.proofs.MoveLaws.{part-none, part-more, part-end, down-none, down-more, down-end, down-read, down-write, lift-none, lift-more, lift-end, lift-read, lift-write}
+use Rattle.exclusion_bytes.proofs.SiftLaws.{gives-no, gives-first, one-room, one-goes, bytes-go, one-gives, bytes-give, one-stays, bytes-stay, sift-room, sift-more, sift-end, sift-start}
+use Rattle.exclusion_bytes.proofs.PutLaws.{head-put, head-end, spend-none, spend-room, spend-here, spend-more, spend-end, inputs-count, inputs-long, entry-room, entry-put, new-room, new-put, place-within, drop-put, replace-room, replace-put}
+use Rattle.exclusion_bytes.proofs.MarkLaws.{mark-next, mark-other, mark-room, mark-put, mark-start, marking-room, marking-more, marked-put, marked-means}
+use Rattle.exclusion_bytes.proofs.ApplyLaws.{list-start, list-size, list-at, list-more, list-end}
 
-pub ruleset ways = (needs, length-mapped, read-none, read-more, lent-bad, only-bad, leave-refused, slot-pending, slot-committed, slot-input, place-pending, place-committed, place-input, fit-pending, fit-committed, fit-input, map-read, rest-none, rest-more, turn-less, rest-long, rest-end, rest-fit, loose-within, map-short, map-none, map-room, map-put, map-means, left-done, add-call, commit-call, remove-call, migrate-call, truncate-call, apply-call)
+pub ruleset ways = (needs, part-none, part-more, part-end, down-none, down-more, down-end, down-read, down-write, lift-none, lift-more, lift-end, lift-read, lift-write, gives-no, gives-first, one-room, one-goes, bytes-go, one-gives, bytes-give, one-stays, bytes-stay, sift-room, sift-more, sift-end, sift-start, head-put, head-end, spend-none, spend-room, spend-here, spend-more, spend-end, inputs-count, inputs-long, entry-room, entry-put, new-room, new-put, place-within, drop-put, replace-room, replace-put, mark-next, mark-other, mark-room, mark-put, mark-start, marking-room, marking-more, marked-put, marked-means, list-start, list-size, list-at, list-more, list-end)

@@ -1,1 +1,2 @@
 pub mod ExclusionBytes
+pub mod Steps

@@ -1,101 +1,209 @@
-// The calls on a lent exclusion map. A table of another length is refused before all else, and a refusal leaves its bytes and the buffer as they were.
-use crate::EXCLUSIONS_BYTES;
+// The calls on a lent exclusion map. Bytes that are no table are refused before all else, and a refusal leaves the table's bytes and the buffer as they were.
 use error::Answer;
 use error::Refusal;
-use exclusions::Excluded;
+use exclusion_entries::Rule;
+use exclusion_entries::Survey;
+use out_points::Byte32;
+use transaction::fields;
+use transaction_writer::are_bytes;
 use units::BlockNumber;
 ghost use mathlib.Core.Path.{_≡_};
+ghost use mathlib.Core.Bool.{true};
+ghost use Prim.Native.Nat.{_+_, _*_, _≤_};
 ghost use lib.ListN.{length};
 ghost use Rattle.error.specs.Refusal.{answered};
-ghost use Rattle.out_points.specs.Tables.{told};
-ghost use Rattle.exclusions.specs.Exclusions.{entriesOf, commitCall, removeCall, applyCall, addCall, migrateCall};
-ghost use Rattle.table_bytes.specs.Lent.{leaving, lentTable, lentRead, withBytes};
-ghost use Rattle.exclusion_bytes.specs.ExclusionBytes.{mapOf, excludedAt, truncateCall, mapBytes};
+ghost use Rattle.arithmetic.specs.LittleEndian.{AllBytes};
+ghost use Rattle.molecule.specs.Molecule.{readable, option};
+ghost use Rattle.molecule.specs.Write.{putAt};
+ghost use Rattle.transaction.specs.Ckb.{Transaction};
+ghost use Rattle.out_points.specs.OutPoints.{pointList};
+ghost use Rattle.out_points.specs.Tables.{told, keep, renew};
+ghost use Rattle.exclusions.specs.Exclusions.{commitOn, removeOn, applyOn, excluded, pending, addOn, migrateOn};
+ghost use Rattle.table_bytes.specs.Lent.{leaving, withBytes};
+ghost use Rattle.exclusion_entries.specs.Entries.{mapBytes, excludedAt, isMap};
+ghost use Rattle.exclusion_entries.specs.Survey.{keeps, takes, surveyOf};
+ghost use Rattle.exclusion_bytes.specs.ExclusionBytes.{lentMap, lentList, truncateOn, fitting};
 
-// Writes the table that a call returned, if the call is done.
-fn leave(s: &mut [u8], r: Excluded) -> Answer
-    requires { ⌜ length (now s) ≡ 27652 ⌝ }
-    ensures { λ a. ⌜ told (withBytes excludedAt) a (now (s .exit)) ≡ leaving mapBytes (now (s .entry)) (told entriesOf (r .answer) (r .map)) ⌝ }
+const MOST_ENTRIES: usize = 64;
+
+const MOST_OUT_POINTS: usize = 512;
+
+// Enters a transaction into the table that the rule leaves, where there is room.
+fn enter(map: &mut [u8], rule: Rule, v: Survey, hash: Byte32, tx: &[u8]) -> Answer
+    requires { ⌜ AllBytes (now map) ⌝ }
+    requires { ⌜ isMap (now map) ≡ true ⌝ }
+    requires { ⌜ v ≡ surveyOf rule (now map) ⌝ }
+    requires { ⌜ v .points ≤ 512 ⌝ }
+    requires { ⌜ readable (option Transaction) (now tx) ≡ true ⌝ }
+    requires { ⌜ (length (now tx) ≡ 0 → ⊥) ⌝ }
+    ensures { λ r. ⌜ told (withBytes excludedAt) r (now (map .exit)) ≡ leaving mapBytes (now (map .entry)) (fitting (now (map .entry)) (renew (takes rule) (pending hash (now (tx .entry))) (keep (keeps rule) (excludedAt (now (map .entry)))))) ⌝ }
 {
-    let answer = r.answer;
-    match answer {
-        Answer::Done => {
-            let m = r.map;
-            crate::write_map(m, s);
-            Answer::Done
-        }
-        Answer::Refused(why) => Answer::Refused(why),
+    let n = fields::input_count(tx);
+    if MOST_ENTRIES <= v.stays {
+        return Answer::Refused(Refusal::TooManyExclusions);
     }
+    if MOST_OUT_POINTS < v.points + n as usize {
+        return Answer::Refused(Refusal::TooManyExclusions);
+    }
+    are_bytes(tx);
+    crate::replace(map, rule, v, hash, tx, n);
+    Answer::Done
 }
 
 // Enters a transaction, uncommitted, under its hash; empty bytes are none.
 pub fn add(map: &mut [u8], hash: &[u8], tx: &[u8]) -> Answer
-    ensures { λ r. ⌜ told (withBytes excludedAt) r (now (map .exit)) ≡ lentTable mapBytes 27652 (now (map .entry)) (addCall (mapOf (now (map .entry))) (now (hash .entry)) (now (tx .entry))) ⌝ }
+    ensures { λ r. ⌜ told (withBytes excludedAt) r (now (map .exit)) ≡ lentMap (now (map .entry)) (addOn (now (map .entry)) (excludedAt (now (map .entry))) (now (hash .entry)) (now (tx .entry))) ⌝ }
 {
-    if map.len() != EXCLUSIONS_BYTES {
+    let h = out_points::byte32_at(hash, 0);
+    let rule = Rule::Enter(h);
+    let v = exclusion_entries::read_map(map, rule);
+    if !v.good {
         return Answer::Refused(Refusal::LentBytesUnreadable);
     }
-    let m = crate::read_map(map);
-    let r = exclusions::add(m, hash, tx);
-    leave(map, r)
+    if !transaction::is_optional_transaction(tx) {
+        return Answer::Refused(Refusal::OurTransactionUnreadable);
+    }
+    if hash.len() != 32 {
+        return Answer::Refused(Refusal::LentBytesUnreadable);
+    }
+    are_bytes(map);
+    if tx.len() == 0 {
+        return Answer::Done;
+    }
+    enter(map, rule, v, h, tx)
 }
 
 // The transaction with this hash is committed in this block.
 pub fn commit(map: &mut [u8], hash: &[u8], block: BlockNumber) -> Answer
-    ensures { λ r. ⌜ told (withBytes excludedAt) r (now (map .exit)) ≡ lentTable mapBytes 27652 (now (map .entry)) (commitCall (mapOf (now (map .entry))) (now (hash .entry)) block) ⌝ }
+    ensures { λ r. ⌜ told (withBytes excludedAt) r (now (map .exit)) ≡ lentMap (now (map .entry)) (commitOn (now (map .entry)) (excludedAt (now (map .entry))) (now (hash .entry)) block) ⌝ }
 {
-    if map.len() != EXCLUSIONS_BYTES {
+    let v = exclusion_entries::read_map(map, Rule::All);
+    if !v.good {
         return Answer::Refused(Refusal::LentBytesUnreadable);
     }
-    let m = crate::read_map(map);
-    let r = exclusions::commit(m, hash, block);
-    leave(map, r)
+    if hash.len() != 32 {
+        return Answer::Refused(Refusal::LentBytesUnreadable);
+    }
+    are_bytes(map);
+    let h = out_points::byte32_at(hash, 0);
+    crate::mark(map, h, block);
+    Answer::Done
 }
 
 // The table without the transaction of this hash.
 pub fn remove(map: &mut [u8], hash: &[u8]) -> Answer
-    ensures { λ r. ⌜ told (withBytes excludedAt) r (now (map .exit)) ≡ lentTable mapBytes 27652 (now (map .entry)) (removeCall (mapOf (now (map .entry))) (now (hash .entry))) ⌝ }
+    ensures { λ r. ⌜ told (withBytes excludedAt) r (now (map .exit)) ≡ lentMap (now (map .entry)) (removeOn (now (map .entry)) (excludedAt (now (map .entry))) (now (hash .entry))) ⌝ }
 {
-    if map.len() != EXCLUSIONS_BYTES {
+    let h = out_points::byte32_at(hash, 0);
+    let rule = Rule::Remove(h);
+    let v = exclusion_entries::read_map(map, rule);
+    if !v.good {
         return Answer::Refused(Refusal::LentBytesUnreadable);
     }
-    let m = crate::read_map(map);
-    let r = exclusions::remove(m, hash);
-    leave(map, r)
-}
-
-// Moves an entry to the transaction that replaces it.
-pub fn migrate_funding_tx(map: &mut [u8], old: &[u8], new: &[u8], tx: &[u8]) -> Answer
-    ensures { λ r. ⌜ told (withBytes excludedAt) r (now (map .exit)) ≡ lentTable mapBytes 27652 (now (map .entry)) (migrateCall (mapOf (now (map .entry))) (now (old .entry)) (now (new .entry)) (now (tx .entry))) ⌝ }
-{
-    if map.len() != EXCLUSIONS_BYTES {
+    if hash.len() != 32 {
         return Answer::Refused(Refusal::LentBytesUnreadable);
     }
-    let m = crate::read_map(map);
-    let r = exclusions::migrate_funding_tx(m, old, new, tx);
-    leave(map, r)
+    are_bytes(map);
+    crate::drop_others(map, rule, v);
+    Answer::Done
 }
 
 // Drops what was committed 13 blocks before the tip, or earlier.
 pub fn truncate(map: &mut [u8], tip: BlockNumber) -> Answer
-    ensures { λ r. ⌜ told (withBytes excludedAt) r (now (map .exit)) ≡ lentTable mapBytes 27652 (now (map .entry)) (truncateCall (mapOf (now (map .entry))) tip) ⌝ }
+    ensures { λ r. ⌜ told (withBytes excludedAt) r (now (map .exit)) ≡ lentMap (now (map .entry)) (truncateOn (now (map .entry)) (excludedAt (now (map .entry))) tip) ⌝ }
 {
-    if map.len() != EXCLUSIONS_BYTES {
+    let rule = Rule::Truncate(tip);
+    let v = exclusion_entries::read_map(map, rule);
+    if !v.good {
         return Answer::Refused(Refusal::LentBytesUnreadable);
     }
-    let m = crate::read_map(map);
-    let g = exclusions::truncate(m, tip);
-    crate::write_map(g, map);
+    are_bytes(map);
+    crate::drop_others(map, rule, v);
     Answer::Done
+}
+
+// A transaction that is replaced by none.
+fn migrate_to_none(map: &mut [u8], old: &[u8], new: &[u8], tx: &[u8]) -> Answer
+    requires { ⌜ length (now tx) ≡ 0 ⌝ }
+    ensures { λ r. ⌜ told (withBytes excludedAt) r (now (map .exit)) ≡ lentMap (now (map .entry)) (migrateOn (now (map .entry)) (excludedAt (now (map .entry))) (now (old .entry)) (now (new .entry)) (now (tx .entry))) ⌝ }
+{
+    let o = out_points::byte32_at(old, 0);
+    let rule = Rule::Remove(o);
+    let v = exclusion_entries::read_map(map, rule);
+    if !v.good {
+        return Answer::Refused(Refusal::LentBytesUnreadable);
+    }
+    if old.len() != 32 {
+        return Answer::Refused(Refusal::LentBytesUnreadable);
+    }
+    if new.len() != 32 {
+        return Answer::Refused(Refusal::LentBytesUnreadable);
+    }
+    are_bytes(map);
+    crate::drop_others(map, rule, v);
+    Answer::Done
+}
+
+// A transaction that is replaced by another.
+fn migrate_to(map: &mut [u8], old: &[u8], new: &[u8], tx: &[u8]) -> Answer
+    requires { ⌜ (length (now tx) ≡ 0 → ⊥) ⌝ }
+    ensures { λ r. ⌜ told (withBytes excludedAt) r (now (map .exit)) ≡ lentMap (now (map .entry)) (migrateOn (now (map .entry)) (excludedAt (now (map .entry))) (now (old .entry)) (now (new .entry)) (now (tx .entry))) ⌝ }
+{
+    let o = out_points::byte32_at(old, 0);
+    let h = out_points::byte32_at(new, 0);
+    let rule = Rule::Migrate(o, h);
+    let v = exclusion_entries::read_map(map, rule);
+    if !v.good {
+        return Answer::Refused(Refusal::LentBytesUnreadable);
+    }
+    if !transaction::is_optional_transaction(tx) {
+        return Answer::Refused(Refusal::OurTransactionUnreadable);
+    }
+    if old.len() != 32 {
+        return Answer::Refused(Refusal::LentBytesUnreadable);
+    }
+    if new.len() != 32 {
+        return Answer::Refused(Refusal::LentBytesUnreadable);
+    }
+    are_bytes(map);
+    if !v.lost {
+        return Answer::Done;
+    }
+    enter(map, rule, v, h, tx)
+}
+
+// Moves an entry to the transaction that replaces it.
+pub fn migrate_funding_tx(map: &mut [u8], old: &[u8], new: &[u8], tx: &[u8]) -> Answer
+    ensures { λ r. ⌜ told (withBytes excludedAt) r (now (map .exit)) ≡ lentMap (now (map .entry)) (migrateOn (now (map .entry)) (excludedAt (now (map .entry))) (now (old .entry)) (now (new .entry)) (now (tx .entry))) ⌝ }
+{
+    if tx.len() == 0 {
+        return migrate_to_none(map, old, new, tx);
+    }
+    migrate_to(map, old, new, tx)
+}
+
+// How long a list of n out points is.
+fn list_size(n: usize) -> usize
+    requires { ⌜ n ≤ 512 ⌝ }
+    ensures { λ r. ⌜ r ≡ 4 + 36 * n ⌝ }
+{
+    4 + 36 * n
 }
 
 // Writes the out points of all transactions, in their order, as a list.
 pub fn apply(map: &[u8], out: &mut [u8]) -> Answer
-    ensures { λ r. ⌜ (answered r, now (out .exit)) ≡ lentRead 27652 (now (map .entry)) (now (out .entry)) (applyCall (mapOf (now (map .entry))) (now (out .entry))) ⌝ }
+    ensures { λ r. ⌜ (answered r, now (out .exit)) ≡ lentList (now (map .entry)) (now (out .entry)) (applyOn (excludedAt (now (map .entry))) (now (out .entry))) ⌝ }
 {
-    if map.len() != EXCLUSIONS_BYTES {
+    let v = exclusion_entries::read_map(map, Rule::All);
+    if !v.good {
         return Answer::Refused(Refusal::LentBytesUnreadable);
     }
-    let m = crate::read_map(map);
-    exclusions::apply(m, out)
+    let n = v.points;
+    if out.len() < list_size(n) {
+        return Answer::Refused(Refusal::BufferTooShort);
+    }
+    are_bytes(map);
+    crate::put_excluded(map, out);
+    crate::put_count(out, n);
+    Answer::Done
 }

@@ -1,125 +1,252 @@
-// The exclusion map as lent bytes.
-use exclusions::LiveCellsExclusionMap;
-use exclusions::Row;
-use exclusions::Slot;
+// The exclusion map as lent bytes: what a call does to them, in place.
+use exclusion_entries::Rule;
+use exclusion_entries::Survey;
 use molecule::write;
-use out_points::OutPoint;
-use table_bytes::Place;
+use out_points::Byte32;
+use transaction::fields;
 use units::BlockNumber;
 ghost use mathlib.Core.Path.{_≡_};
-ghost use mathlib.Core.List.{map};
-ghost use Prim.Native.Nat.{_+_, _-_, _*_, _≤_, min};
-ghost use lib.ListN.{length};
-ghost use Rattle.molecule.specs.Partial.{All};
-ghost use Rattle.molecule.specs.Write.{putAt, Put};
-ghost use Rattle.table_bytes.specs.Places.{FitPlace, placesBytes};
-ghost use Rattle.exclusions.specs.Exclusions.{entriesOf};
-ghost use Rattle.exclusion_bytes.specs.ExclusionBytes.{slotOf, placeFor, mapOf, excludedAt, rowsFrom, mapBytes};
+ghost use mathlib.Core.Bool.{true, false};
+ghost use mathlib.Core.List.{_++_, map};
+ghost use Prim.Native.Nat.{_+_, _-_, _*_, _≤_, _<_};
+ghost use lib.ListN.{length, take, drop};
+ghost use Rattle.arithmetic.specs.LittleEndian.{toLe, AllBytes};
+ghost use Rattle.molecule.specs.Layout.{fixCount};
+ghost use Rattle.molecule.specs.Write.{splice, putAt, Put};
+ghost use Rattle.transaction.specs.Tx.{rawField};
+ghost use Rattle.out_points.specs.OutPoints.{bytesOf};
+ghost use Rattle.out_points.specs.Tables.{keep, renew};
+ghost use Rattle.exclusions.specs.Exclusions.{committedAt, excluded, pending};
+ghost use Rattle.exclusion_entries.specs.Entries.{entryBytes, entriesBytes, mapBytes, sizeOf, excludedAt, isMap};
+ghost use Rattle.exclusion_entries.specs.Survey.{keeps, takes, stay, surveyOf};
+ghost use Rattle.exclusion_bytes.specs.Steps.{gives, siftOne, siftOneBytes, headBytes, spentBy, commitOneBytes};
 
 pub mod calls;
+mod moves;
 
-// How many bytes a lent table has: a count and 576 places.
-pub const EXCLUSIONS_BYTES: usize = 27_652;
-
-// How many places.
-const MOST: usize = 576;
-
-// What a place holds: kind 0 is a pending transaction, 1 a committed one with its block, any other an out point.
-fn slot_of(p: Place) -> Slot
-    ensures { λ r. ⌜ r ≡ slotOf p ⌝ }
-{
-    let point = p.point;
-    let hash = point.hash;
-    if p.kind == 0 {
-        let row = Row::Pending(hash);
-        return Slot { row };
-    }
-    if p.kind == 1 {
-        let block = BlockNumber(p.number);
-        let row = Row::Committed(hash, block);
-        return Slot { row };
-    }
-    let row = Row::Input(point);
-    Slot { row }
+// Where a pass is that moves the entries together that stay: the next entry, the place for it, and whether one has given its place.
+struct Sift {
+    at: usize,
+    to: usize,
+    taken: bool,
 }
 
-// A row as a place.
-fn place_for(x: Slot) -> Place
-    ensures { λ p. ⌜ p ≡ placeFor x ⌝ }
-    ensures { λ p. ⌜ FitPlace p ⌝ }
+// Whether the entry at the start of x is the first that gives its place.
+fn gives(rule: Rule, taken: bool, x: &[u8]) -> bool
+    ensures { λ r. ⌜ r ≡ gives rule taken (now (x .entry)) ⌝ }
 {
-    let row = x.row;
-    match row {
-        Row::Pending(hash) => {
-            let point = OutPoint { hash, index: 0 };
-            Place {
-                point,
-                kind: 0,
-                number: 0,
-            }
-        }
-        Row::Committed(hash, block) => {
-            let point = OutPoint { hash, index: 0 };
-            let number = block.0;
-            Place {
-                point,
-                kind: 1,
-                number,
-            }
-        }
-        Row::Input(point) => Place {
-            point,
-            kind: 2,
-            number: 0,
-        },
+    if taken {
+        return false;
+    }
+    exclusion_entries::takes(rule, x)
+}
+
+// Moves the next entry if it stays.
+fn sift_one(s: &mut [u8], rule: Rule, c: Sift) -> Sift
+    requires { ⌜ c .to ≤ c .at ⌝ }
+    requires { ⌜ c .at + sizeOf (drop (c .at) (now s)) ≤ length (now s) ⌝ }
+    ensures { λ r. ⌜ r ≡ siftOne rule c (now (s .entry)) ⌝ }
+    ensures { λ _. ⌜ now (s .exit) ≡ siftOneBytes rule c (now (s .entry)) ⌝ }
+{
+    let at = c.at;
+    let to = c.to;
+    let x = molecule::part(s, at, s.len());
+    let kept = exclusion_entries::keeps(rule, x);
+    let gives = gives(rule, c.taken, x);
+    let size = 48 + 36 * exclusion_entries::point_count(x) as usize;
+    let next = at + size;
+    if !kept {
+        return Sift {
+            at: next,
+            to,
+            taken: c.taken,
+        };
+    }
+    if gives {
+        return Sift {
+            at: next,
+            to,
+            taken: true,
+        };
+    }
+    moves::move_down(s, at, to, size);
+    Sift {
+        at: next,
+        to: to + size,
+        taken: c.taken,
     }
 }
 
-// The table that the bytes mean.
-pub fn read_map(s: &[u8]) -> LiveCellsExclusionMap
-    ensures { λ r. ⌜ r ≡ mapOf (now (s .entry)) ⌝ }
+// Moves the entries together that stay. The count is left as it is.
+fn gather(s: &mut [u8], rule: Rule, v: Survey)
+    requires { ⌜ AllBytes (now s) ⌝ }
+    requires { ⌜ isMap (now s) ≡ true ⌝ }
+    requires { ⌜ v ≡ surveyOf rule (now s) ⌝ }
+    ensures { λ _. ⌜ now (s .exit) ≡ splice (now (s .entry)) 4 (entriesBytes (stay (keeps rule) (takes rule) false (excludedAt (now (s .entry))))) ⌝ }
 {
-    let mut g = exclusions::new();
-    let mut i: usize = 0;
-    while i < MOST {
-        let p = table_bytes::place_of(s, i);
-        let x = slot_of(p);
-        g.rows[i] = x;
-        i += 1;
-    }
-    g.count = molecule::fix_count(s) as usize;
-    g
-}
-
-// Puts the rows from `from` on, one after the other, from `at` on.
-fn put_rows(m: LiveCellsExclusionMap, from: usize, out: &mut [u8], at: usize) -> usize
-    requires { ⌜ at + 48 * (min (m .count) 576 - from) ≤ length (now out) ⌝ }
-    ensures { λ r. ⌜ Put (now (out .entry)) at (placesBytes (map placeFor (rowsFrom m from))) (now (out .exit)) r ⌝ }
-    ensures { λ _. ⌜ All FitPlace (map placeFor (rowsFrom m from)) ⌝ }
-{
-    let n = exclusions::used(m.count);
-    let mut to = at;
-    let mut i = from;
+    let n = molecule::fix_count(s) as usize;
+    let at = v.from;
+    let mut c = Sift {
+        at,
+        to: at,
+        taken: false,
+    };
+    let mut i = v.index;
     while i < n {
-        let x = m.rows[i];
-        let p = place_for(x);
-        to = table_bytes::put_place(out, to, p);
+        c = sift_one(s, rule, c);
         i += 1;
     }
-    to
 }
 
-// Puts the table's entries at the start of s, and nothing where there is no room for their rows; the bytes behind them keep their value.
-pub fn write_map(m: LiveCellsExclusionMap, s: &mut [u8])
-    ensures { λ _. ⌜ now (s .exit) ≡ putAt (now (s .entry)) 0 (mapBytes (entriesOf m)) ⌝ }
-    ensures { λ _. ⌜ (27652 ≤ length (now (s .entry)) → excludedAt (now (s .exit)) ≡ entriesOf m) ⌝ }
+// ---- a new entry
+
+// Puts what stands before the out points of a pending entry.
+fn put_head(out: &mut [u8], at: usize, hash: Byte32, n: u32) -> usize
+    requires { ⌜ at + 48 ≤ length (now out) ⌝ }
+    ensures { λ r. ⌜ Put (now (out .entry)) at (headBytes hash n) (now (out .exit)) r ⌝ }
+    ensures { λ r. ⌜ r ≡ at + 48 ⌝ }
 {
-    let n = exclusions::used(m.count);
-    let from = exclusions::skip_inputs(m, 0);
-    let left = n - from;
-    if s.len() < 4 + 48 * left {
-        return;
+    let at = out_points::put_byte32(out, at, hash);
+    let at = write::put_u32(out, at, 0);
+    let at = write::put_u64(out, at, 0);
+    write::put_u32(out, at, n)
+}
+
+// Puts the out points that the n inputs spend.
+fn put_points(out: &mut [u8], at: usize, inputs: &[u8], n: usize)
+    requires { ⌜ n ≡ fixCount (now inputs) ⌝ }
+    requires { ⌜ length (now inputs) ≡ 4 + 44 * n ⌝ }
+    requires { ⌜ at + 36 * n ≤ length (now out) ⌝ }
+    ensures { λ _. ⌜ now (out .exit) ≡ splice (now (out .entry)) at (bytesOf (spentBy (now (inputs .entry)))) ⌝ }
+{
+    transaction_writer::are_bytes(inputs);
+    let mut to = at;
+    let mut from: usize = 12;
+    let mut k: usize = 0;
+    while k < n {
+        moves::copy_point(out, to, inputs, from);
+        to += 36;
+        from += 44;
+        k += 1;
     }
-    let at = write::put_u32(s, 0, left as u32);
-    put_rows(m, from, s, at);
+}
+
+// Puts the entry of a transaction with n inputs, uncommitted.
+fn put_entry(out: &mut [u8], at: usize, hash: Byte32, tx: &[u8], n: u32)
+    requires { ⌜ n ≡ fixCount (rawField (now tx) 3) ⌝ }
+    requires { ⌜ length (rawField (now tx) 3) ≡ 4 + 44 * n ⌝ }
+    requires { ⌜ at + (48 + 36 * n) ≤ length (now out) ⌝ }
+    ensures { λ _. ⌜ now (out .exit) ≡ splice (now (out .entry)) at (entryBytes (pending hash (now (tx .entry)))) ⌝ }
+{
+    let inputs = fields::inputs(tx);
+    let next = put_head(out, at, hash, n);
+    put_points(out, next, inputs, n as usize);
+}
+
+// Puts the entry at its place, with those behind it behind it, and the count.
+fn put_new(s: &mut [u8], v: Survey, hash: Byte32, tx: &[u8], n: u32)
+    requires { ⌜ n ≡ fixCount (rawField (now tx) 3) ⌝ }
+    requires { ⌜ length (rawField (now tx) 3) ≡ 4 + 44 * n ⌝ }
+    requires { ⌜ v .place ≤ 4 + 48 * v .stays + 36 * v .points ⌝ }
+    requires { ⌜ v .stays < 64 ⌝ }
+    requires { ⌜ 4 + 48 * v .stays + 36 * v .points + (48 + 36 * n) ≤ length (now s) ⌝ }
+    ensures { λ _. ⌜ now (s .exit) ≡ splice (splice (now (s .entry)) (v .place) (entryBytes (pending hash (now (tx .entry))) ++ take (4 + 48 * v .stays + 36 * v .points - v .place) (drop (v .place) (now (s .entry))))) 0 (toLe 4 (v .stays + 1)) ⌝ }
+{
+    let place = v.place;
+    let end = 4 + 48 * v.stays + 36 * v.points;
+    let size = 48 + 36 * n as usize;
+    moves::move_up(s, place, place + size, end - place);
+    put_entry(s, place, hash, tx, n);
+    write::put_u32(s, 0, v.stays as u32 + 1);
+}
+
+// The entries that stay, and the new one at its place.
+pub(crate) fn replace(s: &mut [u8], rule: Rule, v: Survey, hash: Byte32, tx: &[u8], n: u32)
+    requires { ⌜ AllBytes (now s) ⌝ }
+    requires { ⌜ isMap (now s) ≡ true ⌝ }
+    requires { ⌜ v ≡ surveyOf rule (now s) ⌝ }
+    requires { ⌜ n ≡ fixCount (rawField (now tx) 3) ⌝ }
+    requires { ⌜ length (rawField (now tx) 3) ≡ 4 + 44 * n ⌝ }
+    requires { ⌜ v .stays < 64 ⌝ }
+    requires { ⌜ v .points + n ≤ 512 ⌝ }
+    ensures { λ _. ⌜ now (s .exit) ≡ splice (now (s .entry)) 0 (mapBytes (renew (takes rule) (pending hash (now (tx .entry))) (keep (keeps rule) (excludedAt (now (s .entry)))))) ⌝ }
+{
+    gather(s, rule, v);
+    put_new(s, v, hash, tx, n);
+}
+
+// Puts a count at the start.
+pub(crate) fn put_count(s: &mut [u8], n: usize)
+    requires { ⌜ n ≤ 512 ⌝ }
+    ensures { λ _. ⌜ now (s .exit) ≡ putAt (now (s .entry)) 0 (toLe 4 n) ⌝ }
+{
+    write::put_u32(s, 0, n as u32);
+}
+
+// Only the entries that stay.
+pub(crate) fn drop_others(s: &mut [u8], rule: Rule, v: Survey)
+    requires { ⌜ AllBytes (now s) ⌝ }
+    requires { ⌜ isMap (now s) ≡ true ⌝ }
+    requires { ⌜ v ≡ surveyOf rule (now s) ⌝ }
+    requires { ⌜ v .stays ≤ 64 ⌝ }
+    ensures { λ _. ⌜ now (s .exit) ≡ splice (now (s .entry)) 0 (mapBytes (stay (keeps rule) (takes rule) false (excludedAt (now (s .entry))))) ⌝ }
+{
+    gather(s, rule, v);
+    put_count(s, v.stays);
+}
+
+// ---- the other calls
+
+// Gives the entry at `at` its block if it is of the hash, and answers the place after it.
+fn commit_one(s: &mut [u8], at: usize, hash: Byte32, block: BlockNumber) -> usize
+    requires { ⌜ at + sizeOf (drop at (now s)) ≤ length (now s) ⌝ }
+    ensures { λ r. ⌜ r ≡ at + sizeOf (drop at (now (s .entry))) ⌝ }
+    ensures { λ _. ⌜ now (s .exit) ≡ commitOneBytes hash block at (now (s .entry)) ⌝ }
+{
+    let x = molecule::part(s, at, s.len());
+    let found = exclusion_entries::has_hash(x, hash);
+    let next = at + (48 + 36 * exclusion_entries::point_count(x) as usize);
+    if !found {
+        return next;
+    }
+    let to = write::put_u32(s, at + 32, 1);
+    write::put_u64(s, to, block.0);
+    next
+}
+
+// Gives each entry of the hash its block.
+pub(crate) fn mark(s: &mut [u8], hash: Byte32, block: BlockNumber)
+    requires { ⌜ AllBytes (now s) ⌝ }
+    requires { ⌜ isMap (now s) ≡ true ⌝ }
+    ensures { λ _. ⌜ now (s .exit) ≡ putAt (now (s .entry)) 0 (mapBytes (map (committedAt hash block) (excludedAt (now (s .entry))))) ⌝ }
+    ensures { λ _. ⌜ excludedAt (now (s .exit)) ≡ map (committedAt hash block) (excludedAt (now (s .entry))) ⌝ }
+{
+    let n = molecule::fix_count(s) as usize;
+    let mut at: usize = 4;
+    let mut i: usize = 0;
+    while i < n {
+        at = commit_one(s, at, hash, block);
+        i += 1;
+    }
+}
+
+// Puts the out points of all entries from 4 on.
+pub(crate) fn put_excluded(s: &[u8], out: &mut [u8])
+    requires { ⌜ AllBytes (now s) ⌝ }
+    requires { ⌜ isMap (now s) ≡ true ⌝ }
+    requires { ⌜ 4 + 36 * length (excluded (excludedAt (now s))) ≤ length (now out) ⌝ }
+    ensures { λ _. ⌜ now (out .exit) ≡ splice (now (out .entry)) 4 (bytesOf (excluded (excludedAt (now (s .entry))))) ⌝ }
+{
+    let n = molecule::fix_count(s) as usize;
+    let mut to: usize = 4;
+    let mut at: usize = 4;
+    let mut i: usize = 0;
+    while i < n {
+        let x = molecule::part(s, at, s.len());
+        let size = 36 * exclusion_entries::point_count(x) as usize;
+        let run = molecule::part(x, 48, 48 + size);
+        to = write::put(out, to, run);
+        at += 48 + size;
+        i += 1;
+    }
 }

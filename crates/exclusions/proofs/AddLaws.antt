@@ -19,7 +19,7 @@ use Rattle.out_points.specs.OutPoints.{byte32At, outPointAt}
 use Rattle.out_points.specs.declared.{Byte32.Byte32, OutPoint.OutPoint}
 use Rattle.exclusions.specs.declared.{Row.Row, Slot.Slot, Rule.Rule, LiveCellsExclusionMap.LiveCellsExclusionMap}
 use Rattle.out_points.specs.Tables.{renew, done, refused}
-use Rattle.exclusions.specs.Exclusions.{Entry, entriesOf, hasHash, excluded, pending, entering, addCall}
+use Rattle.exclusions.specs.Exclusions.{Entry, entriesOf, hasHash, excluded, pending, entering, addOn, addCall}
 use Rattle.exclusions.specs.Rows.{rowsOf, looseAt, loose, entriesAt, entries, sift, inputs, isOf, placeOf, inputRow, spent, spentRows, roomFor}
 use Rattle.exclusions.proofs.PlaceLaws.{run}
 use Rattle.exclusions.proofs.InputLaws.{tidy-entries, tidy-loose}
@@ -223,14 +223,14 @@ enter-none m given hash tx z k = k ∙ rw (eq-eqb (length tx) 0 z)
 
 module _ (m : LiveCellsExclusionMap) (s tx : List ℕ) {r : Bool} (er : r ≡ readable (option Transaction) tx) where
   pub add-bad-tx : {t : After} → not r ≡ true → t ≡ refused (number Refusal.OurTransactionUnreadable) m → t ≡ addCall m s tx
-  unfolding addCall number
+  unfolding addOn number
   add-bad-tx h k = k ∙ rw (← er, not-true r h)
 
   module _ (h : not r ≡ false) where
     pub add-bad-hash : {t : After} → (length s ≡ 32 → ⊥) → t ≡ refused (number Refusal.LentBytesUnreadable) m → t ≡ addCall m s tx
-    unfolding addCall number
+    unfolding addOn number
     add-bad-hash n k = k ∙ rw (← er, not-false r h, ne-eqb (length s) 32 n)
 
     pub add-done : {b : Byte32} {t : After} → length s ≡ 32 → b ≡ byte32At s 0 → t ≡ entering m (entriesOf m) b tx → t ≡ addCall m s tx
-    unfolding addCall
+    unfolding addOn
     add-done n e k = k ∙ rw (← er, not-false r h, eq-eqb (length s) 32 n, e)

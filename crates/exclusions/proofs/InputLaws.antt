@@ -20,7 +20,7 @@ use Rattle.out_points.specs.declared.{Byte32.Byte32, OutPoint.OutPoint}
 use Rattle.out_points.proofs.PointLaws.{length-point}
 use Rattle.exclusions.specs.declared.{Row.Row, Slot.Slot, Rule.Rule, LiveCellsExclusionMap.LiveCellsExclusionMap}
 use Rattle.out_points.specs.Tables.{keep, hasRoom, written}
-use Rattle.exclusions.specs.Exclusions.{Entry, entriesOf, excluded, applyCall}
+use Rattle.exclusions.specs.Exclusions.{Entry, entriesOf, excluded, applyOn, applyCall}
 use Rattle.exclusions.specs.Rows.{rowsOf, looseAt, loose, entriesAt, entries, keeps, sift, isInput, inputs}
 use Rattle.exclusions.proofs.LoopLaws.{take-used, rows-on, rows-end}
 use Rattle.exclusions.proofs.EntryLaws.{entries-of, loose-sift, entries-sift}
@@ -243,7 +243,7 @@ module _ (m : LiveCellsExclusionMap) (out : List ℕ) (g : LiveCellsExclusionMap
   listed = ap₂ (λ (k : ℕ) (ps : List OutPoint). toLe 4 k ++ bytesOf ps) counted (tidy-inputs m g e)
 
   pub apply-short : length out < 4 + 36 * n → _≡_ {A = ℕ × List ℕ} (answered (Answer.Refused Refusal.BufferTooShort), out) (applyCall m out)
-  unfolding answered applyCall hasRoom written number
+  unfolding answered applyOn hasRoom written number
   apply-short h =
       let k : length out < length (pointList (excluded (entriesOf m))) = rw (length-list, ← counted) h in
       rw (lt-leb (length (pointList (excluded (entriesOf m)))) (length out) k)
@@ -261,7 +261,7 @@ module _ (m : LiveCellsExclusionMap) (out : List ℕ) (g : LiveCellsExclusionMap
         omega (arith, a, b, l, k, h)
 
     pub apply-done : {o₂ : List ℕ} → o₂ ≡ splice o₁ at (bytesOf (inputs (rowsOf g))) → _≡_ {A = ℕ × List ℕ} (answered Answer.Done, o₂) (applyCall m out)
-    unfolding answered applyCall hasRoom written
+    unfolding answered applyOn hasRoom written
     apply-done {o₂} r =
         let rest : Put o₁ at (bytesOf (inputs (rowsOf g))) o₂ (at + length (bytesOf (inputs (rowsOf g)))) = record { bytes = r; end = refl; room = apply-room } in
         let both = then first rest in

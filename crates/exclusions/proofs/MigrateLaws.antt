@@ -15,7 +15,7 @@ use Rattle.out_points.specs.OutPoints.{eqHash, byte32At}
 use Rattle.out_points.specs.declared.{Byte32.Byte32}
 use Rattle.exclusions.specs.declared.{Row.Row, Slot.Slot, Rule.Rule, LiveCellsExclusionMap.LiveCellsExclusionMap}
 use Rattle.out_points.specs.Tables.{done, refused}
-use Rattle.exclusions.specs.Exclusions.{Entry, readRows, entriesOf, hasHash, without, entering, entered, migrateCall}
+use Rattle.exclusions.specs.Exclusions.{Entry, readRows, entriesOf, hasHash, without, entering, entered, migrateOn, migrateCall}
 use Rattle.exclusions.specs.Rows.{rowsOf, loose, entriesAt, entries, sift, isOf, placeOf}
 use Rattle.exclusions.proofs.EntryLaws.{After, entries-of}
 use Rattle.exclusions.proofs.CallLaws.{without-is}
@@ -57,22 +57,22 @@ entered-is m hash {i} {n} e k s =
 
 module _ (m : LiveCellsExclusionMap) (old new tx : List ℕ) {r : Bool} (er : r ≡ readable (option Transaction) tx) where
   pub migrate-bad-tx : {t : After} → not r ≡ true → t ≡ refused (number Refusal.OurTransactionUnreadable) m → t ≡ migrateCall m old new tx
-  unfolding migrateCall number
+  unfolding migrateOn number
   migrate-bad-tx h k = k ∙ rw (← er, not-true r h)
 
   module _ (h : not r ≡ false) where
     pub migrate-bad-old : {t : After} → (length old ≡ 32 → ⊥) → t ≡ refused (number Refusal.LentBytesUnreadable) m → t ≡ migrateCall m old new tx
-    unfolding migrateCall number
+    unfolding migrateOn number
     migrate-bad-old n k = k ∙ rw (← er, not-false r h, ne-eqb (length old) 32 n)
 
     module _ (no : length old ≡ 32) where
       pub migrate-bad-new : {t : After} → (length new ≡ 32 → ⊥) → t ≡ refused (number Refusal.LentBytesUnreadable) m → t ≡ migrateCall m old new tx
-      unfolding migrateCall number
+      unfolding migrateOn number
       migrate-bad-new n k = k ∙ rw (← er, not-false r h, eq-eqb (length old) 32 no, ne-eqb (length new) 32 n)
 
       module _ (nn : length new ≡ 32) {o : Byte32} (eo : o ≡ byte32At old 0) {q : Bool} (eq : q ≡ entered o (entriesOf m)) where
         moved : cond q (entering m (without o (entriesOf m)) (byte32At new 0) tx) (done (entriesOf m)) ≡ migrateCall m old new tx
-        unfolding migrateCall
+        unfolding migrateOn
         moved = rw (← er, not-false r h, eq-eqb (length old) 32 no, eq-eqb (length new) 32 nn, eq, eo)
 
         pub migrate-unknown : {t : After} → not q ≡ true → t ≡ done (entriesOf m) → t ≡ migrateCall m old new tx

@@ -1,4 +1,5 @@
--- The exclusion map (01-scope.md, "Holds and exclusions"): it means the list of its entries, and each call is a definition on such lists.
+-- The exclusion map (01-scope.md, "Holds and exclusions"): it means the list of its entries, and each call is a definition on such lists, whatever
+-- the table t is that a refusal hands back: the struct here, or lent bytes (crate exclusion_bytes).
 use Prim.Native.Nat.{ℕ}
 use mathlib.Core.Bool.{Bool, true, false, not, cond}
 use mathlib.Core.List.{List, [], _∷_, _++_, map}
@@ -38,15 +39,21 @@ hasHash hash e = eqHash (e .hash) hash
 unfoldable pub committedAt : Byte32 → BlockNumber → Entry → Entry
 committedAt hash block e = cond (hasHash hash e) (record { hash = hash; committed = some block; points = e .points }) e
 
-unfoldable pub commitCall : LiveCellsExclusionMap → List ℕ → BlockNumber → Outcome LiveCellsExclusionMap (List Entry)
-commitCall m hash block = check (eqb (length hash) 32) (refused 3 m) (done (map (committedAt (byte32At hash 0) block) (entriesOf m)))
+unfoldable pub commitOn : {T : Type 0} → T → List Entry → List ℕ → BlockNumber → Outcome T (List Entry)
+commitOn t l hash block = check (eqb (length hash) 32) (refused 3 t) (done (map (committedAt (byte32At hash 0) block) l))
+
+abbrev pub commitCall : LiveCellsExclusionMap → List ℕ → BlockNumber → Outcome LiveCellsExclusionMap (List Entry)
+commitCall m = commitOn m (entriesOf m)
 
 -- `remove`: the entry of the hash goes
 unfoldable pub without : Byte32 → List Entry → List Entry
 without hash l = keep (λ e. not (hasHash hash e)) l
 
-unfoldable pub removeCall : LiveCellsExclusionMap → List ℕ → Outcome LiveCellsExclusionMap (List Entry)
-removeCall m hash = check (eqb (length hash) 32) (refused 3 m) (done (without (byte32At hash 0) (entriesOf m)))
+unfoldable pub removeOn : {T : Type 0} → T → List Entry → List ℕ → Outcome T (List Entry)
+removeOn t l hash = check (eqb (length hash) 32) (refused 3 t) (done (without (byte32At hash 0) l))
+
+abbrev pub removeCall : LiveCellsExclusionMap → List ℕ → Outcome LiveCellsExclusionMap (List Entry)
+removeCall m = removeOn m (entriesOf m)
 
 -- "`truncate` drops an entry committed at c exactly when tip is at least c + 13"
 unfoldable pub isRecent : BlockNumber → Option BlockNumber → Bool
@@ -61,38 +68,46 @@ unfoldable pub excluded : List Entry → List OutPoint
 excluded [] = []
 excluded (e ∷ l) = e .points ++ excluded l
 
-unfoldable pub applyCall : LiveCellsExclusionMap → List ℕ → ℕ × List ℕ
-applyCall m out =
-    let all = excluded (entriesOf m) in
+unfoldable pub applyOn : List Entry → List ℕ → ℕ × List ℕ
+applyOn l out =
+    let all = excluded l in
     check (hasRoom all out) (13, out) (0, written all out)
+
+abbrev pub applyCall : LiveCellsExclusionMap → List ℕ → ℕ × List ℕ
+applyCall m = applyOn (entriesOf m)
 
 -- "Adding a hash again replaces its entry, uncommitted": the entry of a transaction, with the out points that its inputs spend
 unfoldable pub pending : Byte32 → List ℕ → Entry
 pending hash tx = record { hash = hash; committed = none; points = map (λ i. outPointAt (previousOutputOf i) 0) (txAt tx .inputs) }
 
 -- "no transaction (empty bytes) adds nothing"; 15: the call would leave over 64 transactions or 512 out points
-unfoldable pub entering : LiveCellsExclusionMap → List Entry → Byte32 → List ℕ → Outcome LiveCellsExclusionMap (List Entry)
-entering m l hash tx =
+unfoldable pub entering : {T : Type 0} → T → List Entry → Byte32 → List ℕ → Outcome T (List Entry)
+entering t l hash tx =
     let after = renew (hasHash hash) (pending hash tx) l in
     cond (eqb (length tx) 0) (done l)
-    (check (leb (length after) 64) (refused 15 m)
-    (check (leb (length (excluded after)) 512) (refused 15 m) (done after)))
+    (check (leb (length after) 64) (refused 15 t)
+    (check (leb (length (excluded after)) 512) (refused 15 t) (done after)))
 
-unfoldable pub addCall : LiveCellsExclusionMap → List ℕ → List ℕ → Outcome LiveCellsExclusionMap (List Entry)
-addCall m hash tx =
-    check (readable (option Transaction) tx) (refused 1 m)
-    (check (eqb (length hash) 32) (refused 3 m)
-    (entering m (entriesOf m) (byte32At hash 0) tx))
+unfoldable pub addOn : {T : Type 0} → T → List Entry → List ℕ → List ℕ → Outcome T (List Entry)
+addOn t l hash tx =
+    check (readable (option Transaction) tx) (refused 1 t)
+    (check (eqb (length hash) 32) (refused 3 t)
+    (entering t l (byte32At hash 0) tx))
+
+abbrev pub addCall : LiveCellsExclusionMap → List ℕ → List ℕ → Outcome LiveCellsExclusionMap (List Entry)
+addCall m = addOn m (entriesOf m)
 
 -- "Migrating a known hash removes its entry, then adds the new one, last if its hash is not entered"
 unfoldable pub entered : Byte32 → List Entry → Bool
 entered hash [] = false
 entered hash (e ∷ l) = cond (hasHash hash e) true (entered hash l)
 
-unfoldable pub migrateCall : LiveCellsExclusionMap → List ℕ → List ℕ → List ℕ → Outcome LiveCellsExclusionMap (List Entry)
-migrateCall m old new tx =
-    check (readable (option Transaction) tx) (refused 1 m)
-    (check (eqb (length old) 32) (refused 3 m)
-    (check (eqb (length new) 32) (refused 3 m)
-    (cond (entered (byte32At old 0) (entriesOf m)) (entering m (without (byte32At old 0) (entriesOf m)) (byte32At new 0) tx)
-    (done (entriesOf m)))))
+unfoldable pub migrateOn : {T : Type 0} → T → List Entry → List ℕ → List ℕ → List ℕ → Outcome T (List Entry)
+migrateOn t l old new tx =
+    check (readable (option Transaction) tx) (refused 1 t)
+    (check (eqb (length old) 32) (refused 3 t)
+    (check (eqb (length new) 32) (refused 3 t)
+    (cond (entered (byte32At old 0) l) (entering t (without (byte32At old 0) l) (byte32At new 0) tx) (done l))))
+
+abbrev pub migrateCall : LiveCellsExclusionMap → List ℕ → List ℕ → List ℕ → Outcome LiveCellsExclusionMap (List Entry)
+migrateCall m = migrateOn m (entriesOf m)

@@ -23,7 +23,7 @@ use Rattle.out_points.proofs.PointLaws.{length-point}
 use Rattle.out_points.proofs.ListLaws.{length-points, readable-length}
 
 -- a number that was read, written
-word-again : (k : ℕ) (s : List ℕ) (at : ℕ) → AllBytes s → at + k ≤ length s → toLe k (numAt k s at) ≡ take k (drop at s)
+pub word-again : (k : ℕ) (s : List ℕ) (at : ℕ) → AllBytes s → at + k ≤ length s → toLe k (numAt k s at) ≡ take k (drop at s)
 word-again k s at b h =
     let l : length (take k (drop at s)) ≡ k = length-take-le k (drop at s) (rw (length-drop at s) (omega arith)) in
     ap (toLe k) (num-some k s at h)
@@ -31,7 +31,7 @@ word-again k s at b h =
     ∙ toLe-le (take k (drop at s)) (bytes-take k (drop at s) (bytes-drop at s b))
 
 -- an out point that was read, written
-point-again : (s : List ℕ) → AllBytes s → length s ≡ 36 → pointBytes (outPointAt s 0) ≡ s
+pub point-again : (s : List ℕ) → AllBytes s → length s ≡ 36 → pointBytes (outPointAt s 0) ≡ s
 unfolding pointBytes hashBytes outPointAt byte32At
 point-again s b h =
     rw (word-again 8 s 0 b (omega arith), word-again 8 s 8 b (omega arith), word-again 8 s 16 b (omega arith), word-again 8 s 24 b (omega arith), word-again 4 s 32 b (omega arith))
@@ -45,7 +45,7 @@ point-again s b h =
     (take-add 16 8 s ∙ ap (λ (x : List ℕ). x ++ take 8 (drop 16 s)) (take-add 8 8 s)))))
 
 -- k of the out points from i on
-bytes-again : (s : List ℕ) (i k : ℕ) → AllBytes s → i + k ≤ fixCount s → 4 + 36 * fixCount s ≤ length s → bytesOf (span (pointOf s) i k) ≡ take (36 * k) (drop (4 + 36 * i) s)
+pub bytes-again : (s : List ℕ) (i k : ℕ) → AllBytes s → i + k ≤ fixCount s → 4 + 36 * fixCount s ≤ length s → bytesOf (span (pointOf s) i k) ≡ take (36 * k) (drop (4 + 36 * i) s)
 unfolding bytesOf span pointOf
 bytes-again s i zero b h l = refl
 bytes-again s i (suc k) b h l =

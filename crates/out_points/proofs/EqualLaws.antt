@@ -60,7 +60,7 @@ and-both false b e = absurd (true-is-not-false e)
     true-is-not-false : false ≡ true → ⊥
     true-is-not-false e = let z : _≡_ {A = ℕ} 0 1 = cc in omega arith
 
-hash-same : (x y : Byte32) → eqHash x y ≡ true → x ≡ y
+pub hash-same : (x y : Byte32) → eqHash x y ≡ true → x ≡ y
 unfolding eqHash
 hash-same x y e =
     let p = and-both (eqb (x .a) (y .a)) (eqb (x .b) (y .b) && (eqb (x .c) (y .c) && eqb (x .d) (y .d))) e in

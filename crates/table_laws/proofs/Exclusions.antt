@@ -16,7 +16,7 @@ use Rattle.out_points.specs.OutPoints.{byte32At}
 use Rattle.error.specs.declared.{Answer.Answer}
 use Rattle.out_points.specs.Tables.{keep, renew, Outcome, done, refused, told}
 use Rattle.exclusions.specs.declared.{LiveCellsExclusionMap.LiveCellsExclusionMap, Excluded.Excluded}
-use Rattle.exclusions.specs.Exclusions.{Entry, entriesOf, hasHash, committedAt, commitCall, without, removeCall, isRecent, truncated, excluded, pending, entering, addCall, entered, migrateCall}
+use Rattle.exclusions.specs.Exclusions.{Entry, entriesOf, hasHash, committedAt, commitOn, commitCall, without, removeOn, removeCall, isRecent, truncated, excluded, pending, entering, addOn, addCall, entered, migrateOn, migrateCall}
 use Rattle.table_laws.specs.Exclusions as run
 use Rattle.table_laws.specs.Exclusions.{Called, Reached, Within}
 
@@ -89,7 +89,7 @@ back m r a e g s = by (r .answer) (subst (Fine m) (sym e) g)
     by (Answer.Refused x) g = subst (λ (n : LiveCellsExclusionMap). Small (entriesOf n)) (sym g) s
 
 step : {m n : LiveCellsExclusionMap} → Called m n → Small (entriesOf m) → Small (entriesOf n)
-unfolding commitCall removeCall truncated without addCall migrateCall
+unfolding commitOn removeOn truncated without addOn migrateOn
 step (run.commit {m} r hash block e) s =
     let h = byte32At hash 0 in
     let (p, q) = marked-all h block (entriesOf m) in

@@ -1,4 +1,4 @@
-use Rattle.exclusion_bytes.proofs.Ways.{ways}
+use Rattle.exclusion_bytes.proofs.CallWays.{ways}
 use Rattle.exclusion_bytes.proofs.calls.apply.Statement.{statement}
 use Rattle.exclusion_bytes.proofs.calls.apply.Tie as tie
 
@@ -6,8 +6,12 @@ pub apply-spec : {M : Type 1} → statement M
 apply-spec =
     tie.close
     (tie.spec
-    (λ c. search ways)  -- returns
     (λ c κs. search ways)  -- read-map-requires
-    (λ c κs. search ways)  -- apply-requires
+    (λ c. search ways)  -- returns
+    (λ c κs. search ways)  -- list-size-requires
+    (λ c. search ways)  -- returns-2
+    (λ c κs. search ways)  -- are-bytes-requires
+    (λ c κs. search ways)  -- put-excluded-requires
+    (λ c κs. search ways)  -- put-count-requires
     (λ c. search ways)  -- same-length
-    (λ c. search ways))  -- returns-2
+    (λ c. search ways))  -- returns-3

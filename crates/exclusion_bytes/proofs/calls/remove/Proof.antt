@@ -1,4 +1,4 @@
-use Rattle.exclusion_bytes.proofs.Ways.{ways}
+use Rattle.exclusion_bytes.proofs.CallWays.{ways}
 use Rattle.exclusion_bytes.proofs.calls.remove.Statement.{statement}
 use Rattle.exclusion_bytes.proofs.calls.remove.Tie as tie
 
@@ -6,9 +6,13 @@ pub remove-spec : {M : Type 1} → statement M
 remove-spec =
     tie.close
     (tie.spec
-    (λ c. search ways)  -- returns
+    (λ c κs. search ways)  -- byte32-at-requires
     (λ c κs. search ways)  -- read-map-requires
-    (λ c κs. search ways)  -- remove-requires
-    (λ c κs. search ways)  -- leave-requires
     (λ c. search ways)  -- same-length
-    (λ c. search ways))  -- returns-2
+    (λ c. search ways)  -- returns
+    (λ c. search ways)  -- same-length-2
+    (λ c. search ways)  -- returns-2
+    (λ c κs. search ways)  -- are-bytes-requires
+    (λ c κs. search ways)  -- drop-others-requires
+    (λ c. search ways)  -- same-length-3
+    (λ c. search ways))  -- returns-3

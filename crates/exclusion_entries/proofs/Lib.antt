@@ -1,0 +1,7 @@
+pub mod EntryLaws
+pub mod MapLaws
+pub mod ReadLaws
+pub mod SpliceLaws
+pub mod StayLaws
+pub mod SurveyLaws
+pub mod Ways

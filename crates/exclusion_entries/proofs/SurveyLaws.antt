@@ -1,0 +1,319 @@
+-- The pass over a table: one law to start, one to go on, one for each way out.
+use mathlib.Core.Path.{_≡_, refl, sym, ap, ap₂, _∙_}
+use Prim.Native.Nat.{ℕ, suc, _+_, _-_, _*_, _≤_, _<_}
+use mathlib.Core.Bool.{Bool, true, false, not, cond}
+use mathlib.Core.List.{List}
+use native.Mathlib.Omega.{arith}
+use borrow.Author.Tests.{eq-eqb, ne-eqb, le-leb, lt-leb, not-true, not-false}
+use lib.Dec.{eqb}
+use lib.ListN.{length, drop, length-drop}
+use lib.Seq.{take-all, drop-drop}
+use Rattle.arithmetic.specs.LittleEndian.{u32At, u64At}
+use Rattle.units.specs.declared.{BlockNumber.BlockNumber}
+use Rattle.molecule.specs.Layout.{part, word, fixCount}
+use Rattle.out_points.specs.declared.{Byte32.Byte32}
+use Rattle.out_points.specs.OutPoints.{eqHash, byte32At}
+use Rattle.exclusions.specs.Exclusions.{hasHash}
+use Rattle.exclusion_entries.specs.declared.{Rule.Rule, Words.Words, Survey.Survey}
+use Rattle.exclusion_entries.specs.Entries.{entryOf, sizeOf, entriesIn, excludedAt, isEntry, areEntries, isMap}
+use Rattle.exclusion_entries.specs.Survey.{keeps, takes, lostOne, tookOne, stayed, turned, sweep, start, wordsOf, mayTouch, stepped, surveyOf}
+use Rattle.exclusion_entries.proofs.EntryLaws.{points-count}
+
+-- ---- one entry
+
+module _ (n : ℕ) (v : Survey) where
+  pub stayed-taken : v .taken ≡ true
+      → _≡_ {A = Survey} (record { good = v .good; lost = v .lost; taken = v .taken; stays = v .stays + 1; points = v .points + n; place = v .place; from = v .from; index = v .index }) (stayed n v)
+  unfolding stayed
+  stayed-taken e = rw e
+
+  pub stayed-lost : v .taken ≡ false → v .lost ≡ true
+      → _≡_ {A = Survey} (record { good = v .good; lost = v .lost; taken = v .taken; stays = v .stays + 1; points = v .points + n; place = v .place + (48 + 36 * n); from = v .from; index = v .index }) (stayed n v)
+  unfolding stayed
+  stayed-lost e f = rw (e, f)
+
+  pub stayed-front : v .taken ≡ false → v .lost ≡ false
+      → _≡_ {A = Survey} (record { good = v .good; lost = v .lost; taken = v .taken; stays = v .stays + 1; points = v .points + n; place = v .place + (48 + 36 * n); from = v .from + (48 + 36 * n); index = v .index + 1 }) (stayed n v)
+  unfolding stayed
+  stayed-front e f = rw (e, f)
+
+  module _ (kept taken : Bool) where
+    pub turned-lost : not kept ≡ true
+        → _≡_ {A = Survey} (record { good = v .good; lost = true; taken = v .taken; stays = v .stays; points = v .points; place = v .place; from = v .from; index = v .index }) (turned kept taken n v)
+    unfolding turned lostOne
+    turned-lost h = rw (not-true kept h)
+
+    module _ (h : not kept ≡ false) where
+      pub turned-again : {w : Survey} → v .taken ≡ true → w ≡ stayed n v → w ≡ turned kept taken n v
+      unfolding turned
+      turned-again f e = e ∙ rw (not-false kept h, f)
+
+      module _ (f : v .taken ≡ false) where
+        pub turned-took : taken ≡ true
+            → _≡_ {A = Survey} (record { good = v .good; lost = v .lost; taken = true; stays = v .stays; points = v .points; place = v .place; from = v .from; index = v .index }) (turned kept taken n v)
+        unfolding turned tookOne
+        turned-took e = rw (not-false kept h, f, e)
+
+        pub turned-stayed : {w : Survey} → taken ≡ false → w ≡ stayed n v → w ≡ turned kept taken n v
+        unfolding turned
+        turned-stayed g e = e ∙ rw (not-false kept h, f, g)
+
+pub start-is : (good : Bool) → _≡_ {A = Survey} (record { good = good; lost = false; taken = false; stays = 0; points = 0; place = 4; from = 4; index = 0 }) (start good)
+unfolding start
+start-is good = refl
+
+module _ (rule : Rule) (n : ℕ) (v : Survey) (x : List ℕ) {b : Bool} {u : Survey} (eb : b ≡ isEntry x) where
+  pub stepped-bad : not b ≡ true → u ≡ start false → u ≡ stepped rule n v x
+  unfolding stepped
+  stepped-bad h e = e ∙ rw (← eb, not-true b h)
+
+  pub stepped-on : {p q : Bool} → not b ≡ false → p ≡ keeps rule (entryOf x) → q ≡ takes rule (entryOf x) → u ≡ turned p q n v → u ≡ stepped rule n v x
+  unfolding stepped
+  stepped-on h ep eq e = e ∙ rw (← eb, not-false b h, ep, eq)
+
+-- ---- an entry that the rule does not touch
+
+never : true ≡ false → ⊥
+never e = let z : _≡_ {A = ℕ} 0 1 = cc in omega arith
+
+pub words-all : (rule : Rule) → rule ≡ Rule.All → _≡_ {A = Words} (record { always = false; old = 0; new = 0 }) (wordsOf rule)
+unfolding wordsOf
+words-all rule e = rw e
+
+module _ (rule : Rule) where
+  pub words-enter : {h : Byte32} → rule ≡ Rule.Enter h → _≡_ {A = Words} (record { always = false; old = h .a; new = h .a }) (wordsOf rule)
+  unfolding wordsOf
+  words-enter e = rw e
+
+  pub words-remove : {h : Byte32} → rule ≡ Rule.Remove h → _≡_ {A = Words} (record { always = false; old = h .a; new = h .a }) (wordsOf rule)
+  unfolding wordsOf
+  words-remove e = rw e
+
+  pub words-migrate : {o h : Byte32} → rule ≡ Rule.Migrate o h → _≡_ {A = Words} (record { always = false; old = o .a; new = h .a }) (wordsOf rule)
+  unfolding wordsOf
+  words-migrate e = rw e
+
+  pub words-truncate : {tip : BlockNumber} → rule ≡ Rule.Truncate tip → _≡_ {A = Words} (record { always = true; old = 0; new = 0 }) (wordsOf rule)
+  unfolding wordsOf
+  words-truncate e = rw e
+
+module _ (w : Words) (x : List ℕ) where
+  pub touch-always : w .always ≡ true → true ≡ mayTouch w x
+  unfolding mayTouch
+  touch-always e = rw e
+
+  module _ (f : w .always ≡ false) {a : ℕ} (e : a ≡ u64At x 0) where
+    pub touch-old : a ≡ w .old → true ≡ mayTouch w x
+    unfolding mayTouch
+    touch-old h = rw (f, eq-eqb (u64At x 0) (w .old) (sym e ∙ h))
+
+    pub touch-new : (a ≡ w .old → ⊥) → eqb a (w .new) ≡ mayTouch w x
+    unfolding mayTouch
+    touch-new h = rw (f, ne-eqb (u64At x 0) (w .old) (λ z. h (e ∙ z)), e)
+
+-- another first word is another hash
+other-hash : (x : List ℕ) (h : Byte32) → eqb (u64At x 0) (h .a) ≡ false → hasHash h (entryOf x) ≡ false
+unfolding hasHash eqHash entryOf byte32At
+other-hash x h e = rw e
+
+two-words : (t u : Bool) → cond t true u ≡ false → (t ≡ false) × (u ≡ false)
+two-words true u e = absurd (never e)
+two-words false u e = (refl, e)
+
+untouched : (rule : Rule) (x : List ℕ) → mayTouch (wordsOf rule) x ≡ false → (keeps rule (entryOf x) ≡ true) × (takes rule (entryOf x) ≡ false)
+unfolding mayTouch wordsOf keeps takes
+untouched Rule.All x e = (refl, refl)
+untouched (Rule.Enter h) x e = (refl, other-hash x h (two-words (eqb (u64At x 0) (h .a)) (eqb (u64At x 0) (h .a)) e .0))
+untouched (Rule.Remove h) x e = (ap not (other-hash x h (two-words (eqb (u64At x 0) (h .a)) (eqb (u64At x 0) (h .a)) e .0)), refl)
+untouched (Rule.Migrate o h) x e = let (p, q) = two-words (eqb (u64At x 0) (o .a)) (eqb (u64At x 0) (h .a)) e in (ap not (other-hash x o p), other-hash x h q)
+untouched (Rule.Truncate tip) x e = absurd (never e)
+
+pub stepped-past : (rule : Rule) (n : ℕ) (v : Survey) (x : List ℕ) (w : Words) {b m : Bool} {u : Survey} → b ≡ isEntry x → not b ≡ false → w ≡ wordsOf rule → m ≡ mayTouch w x → not m ≡ true → u ≡ stayed n v → u ≡ stepped rule n v x
+unfolding stepped turned
+stepped-past rule n v x w {b} {m} eb h ew em g e =
+    let (k, t) = untouched rule x (ap (λ (y : Words). mayTouch y x) (sym ew) ∙ sym em ∙ not-true m g) in
+    e ∙ rw (← eb, not-false b h, k, t) (by (v .taken))
+  where
+    by : (c : Bool) → stayed n v ≡ cond (cond c false false) (tookOne v) (stayed n v)
+    by true = refl
+    by false = refl
+
+-- it is good as long as entries are
+good-turn : (v : Survey) (kept taken : Bool) (n : ℕ) → turned kept taken n v .good ≡ v .good
+unfolding turned stayed tookOne lostOne
+good-turn v false taken n = refl
+good-turn v true taken n = by (cond (v .taken) false taken)
+  where
+    by : (t : Bool) → cond t (tookOne v) (stayed n v) .good ≡ v .good
+    by true = refl
+    by false = refl
+
+module _ (rule : Rule) (n : ℕ) (v : Survey) (x : List ℕ) {u : Survey} (g : v .good ≡ true) (e : u ≡ stepped rule n v x) where
+  stepped-entry : not (u .good) ≡ false → isEntry x ≡ true
+  unfolding stepped start
+  stepped-entry h = by (isEntry x) refl
+    where
+      by : (t : Bool) → isEntry x ≡ t → isEntry x ≡ true
+      by true k = k
+      by false k = absurd (never (sym (not-false (u .good) h) ∙ rw (e, k)))
+
+  stepped-none : not (u .good) ≡ true → (isEntry x ≡ false) × (u ≡ start false)
+  unfolding stepped
+  stepped-none h = by (isEntry x) refl
+    where
+      by : (t : Bool) → isEntry x ≡ t → (isEntry x ≡ false) × (u ≡ start false)
+      by true k =
+          let w : u ≡ turned (keeps rule (entryOf x)) (takes rule (entryOf x)) n v = e ∙ rw k in
+          let z : u .good ≡ true = ap (λ (a : Survey). a .good) w ∙ good-turn v (keeps rule (entryOf x)) (takes rule (entryOf x)) n ∙ g in
+          let y : true ≡ false = sym z ∙ not-true (u .good) h in
+          absurd (never y)
+      by false k = (k, e ∙ rw k)
+
+-- ---- what the numbers are at most: the places up to `at`, the entries up to i, and the out points that are not among the `left`
+
+pub record Bounded (v : Survey) (i at left : ℕ) : Type 0 where
+  pub stays-most : v .stays ≤ i
+  pub points-most : v .points + left ≤ 512
+  pub place-most : v .place ≤ at
+  pub from-most : v .from ≤ at
+  pub index-most : v .index ≤ i
+
+bounded-start : (good : Bool) → Bounded (start good) 0 4 512
+unfolding start
+bounded-start good = omega arith
+
+bounded-turn : {v : Survey} {i at left : ℕ} (n : ℕ) (kept taken : Bool) → Bounded v i at left → n ≤ left → Bounded (turned kept taken n v) (i + 1) (at + (48 + 36 * n)) (left - n)
+unfolding turned stayed tookOne lostOne
+bounded-turn n false taken b h = record {
+  stays-most = omega (arith, b);
+  points-most = omega (arith, b);
+  place-most = omega (arith, b);
+  from-most = omega (arith, b);
+  index-most = omega (arith, b);
+}
+bounded-turn {v} {i} {at} {left} n true taken b h = by (v .taken) (v .lost) taken
+  where
+    by : (t l k : Bool)
+        → Bounded (cond (cond t false k) (record { good = v .good; lost = v .lost; taken = true; stays = v .stays; points = v .points; place = v .place; from = v .from; index = v .index })
+        (record {
+          good = v .good;
+          lost = v .lost;
+          taken = v .taken;
+          stays = v .stays + 1;
+          points = v .points + n;
+          place = cond t (v .place) (v .place + (48 + 36 * n));
+          from = cond t (v .from) (cond l (v .from) (v .from + (48 + 36 * n)));
+          index = cond t (v .index) (cond l (v .index) (v .index + 1));
+        })) (i + 1) (at + (48 + 36 * n)) (left - n)
+    by true l k = omega (arith, b)
+    by false l true = omega (arith, b)
+    by false true false = omega (arith, b)
+    by false false false = omega (arith, b)
+
+-- ---- the pass
+
+pub record Sweeping (rule : Rule) (s : List ℕ) (n : ℕ) (v : Survey) (at left i : ℕ) : Type 0 where
+  pub long : length s ≡ 21508
+  pub within : i ≤ n
+  pub few : n ≤ 64
+  pub room : at + 48 * (n - i) + 36 * left ≤ 21508
+  pub good : v .good ≡ true
+  pub bounded : Bounded v i at left
+  pub reads : areEntries (n - i) left (drop at s) ≡ isMap s
+  pub swept : sweep (keeps rule) (takes rule) v (entriesIn (n - i) (drop at s)) ≡ sweep (keeps rule) (takes rule) (start true) (excludedAt s)
+
+module _ (rule : Rule) (s : List ℕ) where
+  pub sweep-other : {v : Survey} → (length s ≡ 21508 → ⊥) → v ≡ start false → v ≡ surveyOf rule s
+  unfolding surveyOf isMap
+  sweep-other h e = e ∙ rw (ne-eqb (length s) 21508 h)
+
+  module _ {n : ℕ} (l : length s ≡ 21508) (e : n ≡ fixCount s) where
+    pub sweep-many : {v : Survey} → 64 < n → v ≡ start false → v ≡ surveyOf rule s
+    unfolding surveyOf isMap word
+    sweep-many h f = f ∙ rw (eq-eqb (length s) 21508 l, lt-leb (u32At s 0) 64 (omega arith))
+
+    pub sweep-none : {v : Survey} → n ≤ 64 → v ≡ start true → Sweeping rule s n v 4 512 0
+    unfolding isMap word excludedAt start
+    sweep-none {v} h f =
+        let z : u32At s 0 ≡ n - 0 = omega arith in
+        let b : Bounded v 0 4 512 = rw f (bounded-start true) in
+        let m : isMap s ≡ areEntries (u32At s 0) 512 (drop 4 s) = rw (eq-eqb (length s) 21508 l, le-leb (u32At s 0) 64 (omega arith)) in
+        record {
+          long = l;
+          within = omega arith;
+          few = h;
+          room = omega arith;
+          good = ap (λ (a : Survey). a .good) f;
+          bounded = b;
+          reads = sym (m ∙ ap (λ (k : ℕ). areEntries k 512 (drop 4 s)) z);
+          swept = ap₂ (λ (w : Survey) (k : ℕ). sweep (keeps rule) (takes rule) w (entriesIn k (drop 4 s))) f (sym z);
+        }
+
+module _ {rule : Rule} {s : List ℕ} {n : ℕ} {v : Survey} {at left i : ℕ} (w : Sweeping rule s n v at left i) where
+  -- the first of the entries that are left, and the rest
+  module _ (h : i < n) {x : List ℕ} (ex : x ≡ part s at (length s)) where
+    here : x ≡ drop at s
+    unfolding part
+    here = ex ∙ take-all (length s - at) (drop at s) (omega (arith, length-drop at s))
+
+    next : n - i ≡ suc (n - (i + 1))
+    next = omega arith
+
+    whole : 48 ≤ length x
+    whole = rw here (let r = w .room in omega (arith, length-drop at s, w .long))
+
+    past : (c : ℕ) → drop (48 + 36 * c) x ≡ drop (at + (48 + 36 * c)) s
+    past c = ap (drop (48 + 36 * c)) here ∙ drop-drop (48 + 36 * c) at s
+
+    behind-it : (c : ℕ) → c ≡ u32At x 44 → drop (sizeOf x) x ≡ drop (at + (48 + 36 * c)) s
+    behind-it c ec = rw (← ec) (past c)
+
+    reads-on : areEntries (suc (n - (i + 1))) left x ≡ isMap s
+    reads-on = ap₂ (λ (k : ℕ) (y : List ℕ). areEntries k left y) (sym next) here ∙ w .reads
+
+    module _ {c : ℕ} (ec : c ≡ u32At x 44) where
+      pub sweep-full : {u : Survey} → left < c → u ≡ start false → u ≡ surveyOf rule s
+      unfolding surveyOf areEntries
+      sweep-full {u} k f = f ∙ by (isEntry x) refl
+        where
+          by : (t : Bool) → isEntry x ≡ t → start false ≡ surveyOf rule s
+          by true e = rw (← reads-on, e, ← ec, lt-leb c left k)
+          by false e = rw (← reads-on, e)
+
+      module _ {u : Survey} (k : c ≤ left) (eu : u ≡ stepped rule c v x) where
+        pub sweep-stop : not (u .good) ≡ true → u ≡ surveyOf rule s
+        unfolding surveyOf areEntries
+        sweep-stop g = let (q, f) = stepped-none rule c v x (w .good) eu g in f ∙ rw (← reads-on, q)
+
+        pub sweep-more : not (u .good) ≡ false → Sweeping rule s n u (at + (48 + 36 * c)) (left - c) (i + 1)
+        unfolding areEntries entriesIn sweep stepped
+        sweep-more g =
+            let r = w .room in
+            let yes : isEntry x ≡ true = stepped-entry rule c v x (w .good) eu g in
+            let p = keeps rule (entryOf x) in
+            let q = takes rule (entryOf x) in
+            let m : length (entryOf x .points) ≡ c = points-count x whole ∙ sym ec in
+            let on : u ≡ turned p q c v = eu ∙ rw yes in
+            let turn : turned p q (length (entryOf x .points)) v ≡ u = rw m (sym on) in
+            let y = drop (at + (48 + 36 * c)) s in
+            let a : areEntries (suc (n - (i + 1))) left x ≡ areEntries (n - (i + 1)) (left - c) y = rw (yes, ← ec, le-leb c left k) (ap (areEntries (n - (i + 1)) (left - c)) (past c)) in
+            record {
+              long = w .long;
+              within = omega arith;
+              few = w .few;
+              room = omega arith;
+              good = not-false (u .good) g;
+              bounded = rw on (bounded-turn c p q (w .bounded) k);
+              reads = sym a ∙ reads-on;
+              swept =
+                  ap₂ (λ (t : Survey) (z : List ℕ). sweep (keeps rule) (takes rule) t (entriesIn (n - (i + 1)) z)) (sym turn) (sym (behind-it c ec))
+                  ∙ ap₂ (λ (j : ℕ) (z : List ℕ). sweep (keeps rule) (takes rule) v (entriesIn j z)) (sym next) here
+                  ∙ w .swept;
+            }
+
+  pub sweep-end : n ≤ i → v ≡ surveyOf rule s
+  unfolding surveyOf areEntries entriesIn sweep
+  sweep-end h =
+      let z : n - i ≡ 0 = let k = w .within in omega arith in
+      let good : isMap s ≡ true = sym (w .reads) ∙ ap (λ (k : ℕ). areEntries k left (drop at s)) z in
+      rw good (ap (λ (k : ℕ). sweep (keeps rule) (takes rule) v (entriesIn k (drop at s))) (sym z) ∙ w .swept)
