@@ -30,7 +30,7 @@ extern "C" {
 }
 
 pub const HELD_BYTES: usize = 12_292;
-pub const EXCLUSIONS_BYTES: usize = 27_652;
+pub const EXCLUSIONS_BYTES: usize = 21_508;
 
 pub fn is_transaction(s: &[u8]) -> bool {
     unsafe { basinpantry_is_transaction(s.as_ptr(), s.len()) }

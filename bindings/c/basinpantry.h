@@ -136,11 +136,11 @@ uint32_t basinpantry_build_base(const uint8_t *ours, size_t ours_len, const uint
                                 uint64_t remote_reserved, uint8_t *out, size_t out_len, uint64_t *values, size_t values_len);
 
 /* ---- tables of cells: bytes that the caller keeps and lends to each call. All zeros are the empty table; any other content is safe.
-   A table is a count (4 bytes), then places of 48 bytes: an out point or a hash with four bytes of 0 behind it (36), a kind (4), a number (8). The places
-   beyond the count mean nothing, and a call leaves them as they were; those that stand it writes anew in this form. A table of another length is 3, before all else.
-   Lists of out points are written to the start of their buffer as they are read: a count of four bytes and 36 bytes for each. */
+   A table is a count (4 bytes), then its records one after the other. Bytes beyond them mean nothing, and a call leaves them as they were. A table of another length is 3,
+   before all else. Lists of out points are written to the start of their buffer as they are read: a count of four bytes and 36 bytes for each. */
 
-/* Held cells: 256 places. Kind 0 is a funding, and the number its holder; any other kind the watchtower, and the number the end in milliseconds. */
+/* Held cells: 256 places of 48 bytes, each an out point (36), a kind (4) and a number (8). Kind 0 is a funding, and the number its holder; any other kind the watchtower, and
+   the number the end in milliseconds: every content means a table. A call that is done writes the records that stand anew in this form. */
 #define BASINPANTRY_HELD_BYTES 12292
 
 /* The funding inputs that `holder` holds now, in place of the ones that it held before. A holder is a number of the caller's: two that use one number replace each
@@ -168,9 +168,10 @@ uint32_t basinpantry_unavailable(const uint8_t *held, size_t held_len, const uin
 uint32_t basinpantry_take(uint8_t *held, size_t held_len, const uint8_t *picked, size_t picked_len, const uint8_t *spent, size_t spent_len, bool watchtower,
                           uint64_t holder, uint64_t time, uint8_t *taken, size_t taken_len, uint8_t *refused, size_t refused_len);
 
-/* Excluded cells (LiveCellsExclusionMap): 576 places. Kind 0 is a pending transaction by its hash, 1 a committed one with its block; any other kind is an
-   out point that the transaction above it spends (with none above it, it means nothing, and a call that is done leaves it out). */
-#define BASINPANTRY_EXCLUSIONS_BYTES 27652
+/* Excluded cells (LiveCellsExclusionMap): at most 64 entries with at most 512 out points in all. An entry is a transaction: its hash (32), its kind (4: 0 pending, 1
+   committed), the block that it was committed in (8; 0 while pending), and the list of the out points that it spends. Bytes in no such form (more entries or out points,
+   another kind, a pending entry with a block) are 3 like a table of another length, and stay as they are. */
+#define BASINPANTRY_EXCLUSIONS_BYTES 21508
 
 /* Enters the inputs of a transaction (no bytes: none) under its hash of 32 bytes, which the caller answers for. Refused: 3 (the table), 1, 3, 15. */
 uint32_t basinpantry_exclusions_add(uint8_t *map, size_t map_len, const uint8_t *hash, size_t hash_len, const uint8_t *tx, size_t tx_len);
@@ -188,7 +189,7 @@ uint32_t basinpantry_exclusions_migrate_funding_tx(uint8_t *map, size_t map_len,
 /* Drops what was committed 13 blocks before the tip, or earlier. Refused: 3. */
 uint32_t basinpantry_exclusions_truncate(uint8_t *map, size_t map_len, uint64_t tip);
 
-/* Writes the out points of all entries, in their order. 18,436 bytes are enough for every map that calls have made. Refused: 3, 13. */
+/* Writes the out points of all entries, in their order. 18,436 bytes are always enough. Refused: 3, 13. */
 uint32_t basinpantry_exclusions_apply(const uint8_t *map, size_t map_len, uint8_t *out, size_t out_len);
 
 #ifdef __cplusplus

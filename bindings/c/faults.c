@@ -369,13 +369,33 @@ static void make_update(void) {
 /* What each stretch of the pool holds. */
 enum kind { TRANSACTION, SCRIPT, RECORDS, POINTS, DEPS, CELLS, UPDATES, HELD, MAP, CASE, HEADERS, INPUTS, OUTPUTS, ENTRIES, KINDS };
 
-static void put_table(struct text *t, size_t places, size_t kinds) {
-    put_word(t, (uint32_t)below(one_in(8) ? 1000 : places + 1));
-    for (size_t i = 0; i < places; i++) {
+static void put_held(struct text *t) {
+    put_word(t, (uint32_t)below(one_in(8) ? 1000 : 257));
+    for (size_t i = 0; i < 256; i++) {
         put_random(t, 36, 2);
-        put_word(t, (uint32_t)below(kinds));
+        put_word(t, (uint32_t)below(3));
         put_random(t, 8, 2);
     }
+}
+
+/* An exclusion map with up to 64 entries, now and then with a number that makes it none; hashes of two bytes meet often. */
+static void put_map(struct text *t) {
+    size_t start = t->len, entries = below(65), left = 512;
+    put_word(t, (uint32_t)(one_in(16) ? below(200) : entries));
+    for (size_t i = 0; i < entries; i++) {
+        size_t points = below(one_in(8) ? left + 1 : 9);
+        bool committed = one_in(2);
+        if (points > left) points = left;
+        left -= points;
+        uint8_t hash = (uint8_t)below(one_in(4) ? 2 : 256);
+        for (size_t j = 0; j < 32; j++) put(t, &hash, 1);
+        put_word(t, one_in(512) ? (uint32_t)next() : committed);
+        put_word(t, committed || one_in(512) ? (uint32_t)below(300) : 0);
+        put_word(t, 0);
+        put_word(t, (uint32_t)(one_in(512) ? next() : points));
+        put_random(t, 36 * points, 2);
+    }
+    put_random(t, BASINPANTRY_EXCLUSIONS_BYTES - (t->len - start), 2);
 }
 
 static void fill(enum kind k, struct text *t) {
@@ -387,8 +407,8 @@ static void fill(enum kind k, struct text *t) {
     case DEPS: put_sized(t, below(one_in(16) ? 300 : 8), 37); break;
     case CELLS: put_list(t, below(6), put_token_cell); break;
     case UPDATES: put_list(t, below(5), put_update); break;
-    case HELD: put_table(t, 256, 3); break;
-    case MAP: put_table(t, 576, 4); break;
+    case HELD: put_held(t); break;
+    case MAP: put_map(t); break;
     case HEADERS: put_sized(t, below(3), 32); break;
     case INPUTS: put_sized(t, below(5), 44); break;
     case OUTPUTS: put_list(t, below(4), put_output); break;

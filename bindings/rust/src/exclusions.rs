@@ -3,11 +3,12 @@ use crate::cells::{OutPoint, read_out_points};
 use crate::ffi;
 use crate::refusal::Refusal;
 
-/// How many places the map has, for 64 transactions and 512 out points.
-const PLACES: usize = 576;
+/// How many transactions and out points a map has room for.
+const TRANSACTIONS: usize = 64;
+const OUT_POINTS: usize = 512;
 
-/// How many bytes the map has: a count of 4, and places of 48.
-const EXCLUSIONS_BYTES: usize = 4 + 48 * PLACES;
+/// How many bytes the map has: a count of 4, 48 for each transaction, 36 for each out point.
+const EXCLUSIONS_BYTES: usize = 4 + 48 * TRANSACTIONS + 36 * OUT_POINTS;
 
 /// The cells that transactions of ours spend, by the hash of the transaction: at most 64 transactions and 512 out points. A transaction is pending until it
 /// is committed, and dropped 13 blocks after that.
@@ -42,7 +43,8 @@ impl LiveCellsExclusionMap {
         LiveCellsExclusionMap { table: vec![0; EXCLUSIONS_BYTES].into() }
     }
 
-    /// The map of bytes that [`as_bytes`](LiveCellsExclusionMap::as_bytes) gave, for instance from a file. Any content is safe; another length is no map.
+    /// The map of bytes that [`as_bytes`](LiveCellsExclusionMap::as_bytes) gave, for instance from a file. Bytes of another length or in another form, as from a
+    /// damaged file, are no map.
     ///
     /// ```
     /// use basinpantry::LiveCellsExclusionMap;
@@ -50,15 +52,17 @@ impl LiveCellsExclusionMap {
     /// let map = LiveCellsExclusionMap::new();
     /// assert!(LiveCellsExclusionMap::from_bytes(map.as_bytes()) == Some(map));
     /// assert!(LiveCellsExclusionMap::from_bytes(&[]).is_none());
+    /// assert!(LiveCellsExclusionMap::from_bytes(&[0xff; 21508]).is_none());
     /// ```
     pub fn from_bytes(table: &[u8]) -> Option<LiveCellsExclusionMap> {
-        (table.len() == EXCLUSIONS_BYTES).then(|| LiveCellsExclusionMap { table: table.into() })
+        let map = LiveCellsExclusionMap { table: table.into() };
+        map.apply().is_ok().then_some(map)
     }
 
     /// The map's bytes, to be kept.
     ///
     /// ```
-    /// assert_eq!(basinpantry::LiveCellsExclusionMap::new().as_bytes().len(), 27652);
+    /// assert_eq!(basinpantry::LiveCellsExclusionMap::new().as_bytes().len(), 21508);
     /// ```
     pub fn as_bytes(&self) -> &[u8] {
         &self.table
@@ -134,7 +138,7 @@ impl LiveCellsExclusionMap {
     /// assert!(basinpantry::LiveCellsExclusionMap::default().apply().unwrap().is_empty());
     /// ```
     pub fn apply(&self) -> Result<Vec<OutPoint>, Refusal> {
-        let mut out = vec![0; 4 + 36 * PLACES];
+        let mut out = vec![0; 4 + 36 * OUT_POINTS];
         ffi::exclusions_apply(&self.table, &mut out)?;
         Ok(read_out_points(&out))
     }

@@ -135,7 +135,7 @@ fn at_most_64_transactions_and_512_out_points() {
 }
 
 #[test]
-fn any_bytes_are_a_table() {
+fn damaged_tables() {
     let mut bytes = vec![0xff; 12_292];
     let mut held = HeldCells::from_bytes(&bytes).unwrap();
     assert!(held.lock_held(5).unwrap().len() <= 256);
@@ -143,12 +143,57 @@ fn any_bytes_are_a_table() {
     assert!(held.take(&points(0, 3), &[], Taker::Watchtower, u64::MAX).is_ok());
     bytes.push(0);
     assert!(HeldCells::from_bytes(&bytes).is_none());
-    let mut map = LiveCellsExclusionMap::from_bytes(&vec![0xff; 27_652]).unwrap();
-    assert!(map.apply().unwrap().len() <= 576);
-    let _ = map.add(&[1; 32], Some(&spends(&points(0, 3))));
-    map.truncate(u64::MAX).unwrap();
-    assert!(map.remove(&[0xff; 32]).is_ok());
-    assert!(map.apply().is_ok());
+    // an exclusion map is read strictly: the count, the kind and the block of a pending entry, and the counts of out points
+    let mut map = LiveCellsExclusionMap::new();
+    map.add(&[1; 32], Some(&spends(&points(0, 3)))).unwrap();
+    map.add(&[2; 32], Some(&spends(&points(3, 5)))).unwrap();
+    let bytes = map.as_bytes();
+    let with = |at: usize, byte: u8| {
+        let mut bytes = bytes.to_vec();
+        bytes[at] = byte;
+        LiveCellsExclusionMap::from_bytes(&bytes)
+    };
+    assert!(with(0, 2).is_some() && with(0, 65).is_none() && with(3, 1).is_none());
+    for at in 36..40 {
+        assert!(with(at, 2).is_none());
+    }
+    assert!(with(36, 1).is_some());
+    for at in 40..48 {
+        assert!(with(at, 1).is_none());
+    }
+    assert!(with(50, 1).is_none());
+    // what stands in a hash, in an out point or behind the entries is any bytes
+    for at in [4, 35, 52, 87, 4 + 2 * 48 + 5 * 36, bytes.len() - 1] {
+        assert!(with(at, 0xff).is_some());
+    }
+    assert!(LiveCellsExclusionMap::from_bytes(&bytes[1..]).is_none());
+    assert!(LiveCellsExclusionMap::from_bytes(&vec![0xff; bytes.len()]).is_none());
+}
+
+#[test]
+fn a_hash_that_stands_twice() {
+    let mut map = LiveCellsExclusionMap::new();
+    for i in 0..4u8 {
+        map.add(&[i; 32], Some(&spends(&points(u32::from(i), u32::from(i) + 1)))).unwrap();
+    }
+    // entry 2 gets the hash of entry 1
+    let mut bytes = map.as_bytes().to_vec();
+    bytes[4 + 2 * 84..][..32].fill(1);
+    let twice = LiveCellsExclusionMap::from_bytes(&bytes).unwrap();
+    let cells = |of: &[u32]| of.iter().map(|i| point(*i)).collect::<Vec<OutPoint>>();
+    let mut map = twice.clone();
+    map.remove(&[1; 32]).unwrap();
+    assert_eq!(map.apply().unwrap(), cells(&[0, 3]));
+    let mut map = twice.clone();
+    map.add(&[1; 32], Some(&spends(&points(10, 12)))).unwrap();
+    assert_eq!(map.apply().unwrap(), cells(&[0, 10, 11, 2, 3]));
+    let mut map = twice.clone();
+    map.migrate_funding_tx(&[1; 32], &[0; 32], Some(&spends(&points(10, 12)))).unwrap();
+    assert_eq!(map.apply().unwrap(), cells(&[10, 11, 3]));
+    let mut map = twice.clone();
+    map.commit(&[1; 32], 5).unwrap();
+    map.truncate(18).unwrap();
+    assert_eq!(map.apply().unwrap(), cells(&[0, 3]));
 }
 
 #[test]

@@ -10,9 +10,9 @@ use oracle::original::exclusions::{Entries, Hash, Map};
 use oracle::original::Point;
 use oracle::standins::molecule::{readable, TRANSACTION};
 
-const BYTES: usize = 27_652;
 const TRANSACTIONS: usize = 64;
 const OUT_POINTS: usize = 512;
+const BYTES: usize = 4 + 48 * TRANSACTIONS + 36 * OUT_POINTS;
 const OVER: &str = "15 where the original has no such bound: a 65th transaction or a 513th out point";
 const ROOM: &str = "13 where the original has no such bound: the buffer of apply";
 const TWICE: &str = "a table with a transaction's hash twice, which the original can't have";
@@ -37,33 +37,57 @@ pub struct Input {
     calls: Vec<Call>,
 }
 
-/// The entries of a table, in order. An out point without a transaction above it means nothing.
-fn entries(table: &[u8]) -> Vec<Entry> {
-    let mut out: Vec<Entry> = vec![];
-    for p in places(table) {
-        let hash = p.point[..32].try_into().unwrap();
-        match p.kind {
-            0 => out.push((hash, None, vec![])),
-            1 => out.push((hash, Some(p.number), vec![])),
-            _ => out.iter_mut().last().into_iter().for_each(|e| e.2.push(p.point)),
-        }
+/// The entries of a table, in order; none where the bytes are in no form.
+fn entries(table: &[u8]) -> Option<Vec<Entry>> {
+    let number = |at: usize| u32::from_le_bytes(table[at..at + 4].try_into().unwrap());
+    if table.len() != BYTES || number(0) as usize > TRANSACTIONS {
+        return None;
     }
-    out
+    let (mut at, mut left, mut out) = (4, OUT_POINTS, vec![]);
+    for _ in 0..number(0) {
+        let block = match (number(at + 32), u64::from_le_bytes(table[at + 36..at + 44].try_into().unwrap())) {
+            (0, 0) => None,
+            (1, block) => Some(block),
+            _ => return None,
+        };
+        let points = number(at + 44) as usize;
+        left = left.checked_sub(points)?;
+        let cells = table[at + 48..][..36 * points].chunks(36).map(|c| c.try_into().unwrap()).collect();
+        out.push((table[at..at + 32].try_into().unwrap(), block, cells));
+        at += 48 + 36 * points;
+    }
+    Some(out)
 }
 /// None where a hash is entered twice.
 fn by_hash(list: &[Entry]) -> Option<Entries> {
     let map: Entries = list.iter().map(|(h, block, points)| (*h, (*block, points.clone()))).collect();
     (map.len() == list.len()).then_some(map)
 }
-fn table_of(list: &[Entry]) -> Vec<u8> {
-    let mut out = vec![];
+/// What stands in the table of these entries.
+fn bytes_of(list: &[Entry]) -> Vec<u8> {
+    let mut out = (list.len() as u32).to_le_bytes().to_vec();
     for (hash, block, points) in list {
-        let mut at = [0; 36];
-        at[..32].copy_from_slice(hash);
-        out.push(Place { point: at, kind: block.is_some() as u32, number: block.unwrap_or(0) });
-        out.extend(points.iter().map(|p| Place { point: *p, kind: 2, number: 0 }));
+        out.extend(hash);
+        out.extend((block.is_some() as u32).to_le_bytes());
+        out.extend(block.unwrap_or(0).to_le_bytes());
+        out.extend((points.len() as u32).to_le_bytes());
+        out.extend(points.concat());
     }
-    table(&mut Rng::new(list.len() as u64), &out, BYTES)
+    out
+}
+/// A table of these entries, with anything beyond them.
+fn table_of(list: &[Entry]) -> Vec<u8> {
+    let mut t = bytes_of(list);
+    let mut rng = Rng::new(list.len() as u64);
+    let rest = BYTES - t.len();
+    let anything = if rng.once_in(2) { vec![0; rest] } else { rng.bytes(rest) };
+    t.extend(anything);
+    t
+}
+/// Whether a call left this list, and what is beyond it as it was.
+fn left(before: &[u8], after: &[u8], list: &[Entry]) -> bool {
+    let stands = bytes_of(list);
+    after.starts_with(&stands) && before[stands.len()..] == after[stands.len()..]
 }
 /// The transaction that spends these.
 fn spending(points: &[Point]) -> Vec<u8> {
@@ -115,8 +139,8 @@ impl Call {
             _ => false,
         }
     }
-    fn expected(&self, map: &mut Map, length: usize) -> (u32, Source) {
-        if length != BYTES {
+    fn expected(&self, map: &mut Map, table: &[u8]) -> (u32, Source) {
+        if entries(table).is_none() {
             return (3, Source::Reader);
         }
         let after = match self.original(map) {
@@ -138,21 +162,21 @@ impl Call {
     }
     fn compare(&self, map: &mut Map, table: &mut Vec<u8>) -> Outcome {
         let before = table.clone();
-        let (expected, source) = self.expected(map, before.len());
+        let (expected, source) = self.expected(map, &before);
         let mut out = Buffer::new(if let Apply { room } = self { *room } else { 0 });
         let number = self.library(table, &mut out);
         let right = if expected != 0 {
             *table == before && out.untouched()
         } else if let Apply { .. } = self {
             // in the table's order
-            let in_table: Vec<Point> = entries(table).into_iter().flat_map(|e| e.2).collect();
+            let in_table: Vec<Point> = entries(table).unwrap_or_default().into_iter().flat_map(|e| e.2).collect();
             *table == before && out.has(&in_table) && sorted(&in_table) == sorted(&map.apply())
         } else {
-            rest_kept(&before, table) && by_hash(&entries(table)) == Some(map.entries())
+            entries(table).is_some_and(|list| left(&before, table, &list) && by_hash(&list) == Some(map.entries()))
         };
         let wrong = || {
             let shown = |e: &Entries| -> Vec<String> { e.iter().map(|(h, (b, p))| format!("{} {b:?} {}", hex(h), hex(&p.concat()))).collect() };
-            let there = by_hash(&entries(table));
+            let there = entries(table).and_then(|list| by_hash(&list));
             format!(
                 "{self:?}: expected {expected} ({source:?}), {:?}; the library says {number}, {:?}",
                 shown(&map.entries()),
@@ -171,21 +195,25 @@ impl Call {
     }
 }
 
-/// Places of any kind, and any count.
-fn odd_table(rng: &mut Rng) -> Vec<u8> {
-    let mut list = vec![];
-    for i in 0..rng.pick(&[1, 3, 20, 576]) {
-        let mut p = point(rng.below(30) as u32);
-        let kind = rng.pick(&[0, 1, 2, 2, 2, 3, u32::MAX]);
-        if kind < 2 {
-            p = [i as u8; 36];
+/// A table whose count, or the kind, the block or the count of out points of an entry, is another one; at times it is a table all the same.
+fn odd_table(rng: &mut Rng, start: &[Entry]) -> Vec<u8> {
+    let mut t = table_of(start);
+    let mut at = 4;
+    for _ in 0..start.len() {
+        if rng.once_in(start.len()) {
+            break;
         }
-        list.push(Place { point: p, kind, number: rng.pick(&[0, 100, u64::MAX]) });
+        at += 48 + 36 * t[at + 44] as usize + 256 * 36 * t[at + 45] as usize;
     }
-    let mut t = table(rng, &list, BYTES);
-    if rng.once_in(3) {
-        let count = rng.pick(&[575u32, 576, 577, 1 << 31, u32::MAX]);
-        t[..4].copy_from_slice(&count.to_le_bytes());
+    let (place, number) = match rng.below(5) {
+        0 => (0, rng.pick(&[0, 63, 64, 65, 1 << 31, u32::MAX])),
+        1 => (at + 32, rng.pick(&[0, 1, 2, 256, u32::MAX])),
+        2 => (at + 36, rng.pick(&[0, 1, u32::MAX])),
+        3 => (at + 40, rng.pick(&[0, 1, u32::MAX])),
+        _ => (at + 44, rng.pick(&[0, 1, 511, 512, 513, u32::MAX])),
+    };
+    if place + 4 <= t.len() {
+        t[place..place + 4].copy_from_slice(&number.to_le_bytes());
     }
     t
 }
@@ -260,16 +288,18 @@ impl Kind for OfExclusions {
             now = now.saturating_add(rng.pick(&[0, 0, 1, 12, 13]));
             calls.push(any_call(rng, pool, now));
         }
-        let start = if rng.once_in(30) { odd_table(rng) } else { table_of(&start) };
+        let start = if rng.once_in(10) { odd_table(rng, &start) } else { table_of(&start) };
         Input { start, calls }
     }
     fn compare(input: &Input) -> Vec<Outcome> {
         let mut table = input.start.clone();
-        let start = entries(&table);
+        let mut map = Map::default();
+        let Some(start) = entries(&table) else {
+            return input.calls.iter().take(3).map(|c| c.compare(&mut map, &mut table)).collect();
+        };
         if by_hash(&start).is_none() {
             return input.calls.iter().take(3).map(|c| c.call_alone(&mut table)).collect();
         }
-        let mut map = Map::default();
         for (hash, block, points) in &start {
             map.add(hash, &spending(points));
             block.iter().for_each(|b| map.commit(hash, *b));
@@ -291,7 +321,7 @@ impl Kind for OfExclusions {
     }
     fn smaller(input: &Input) -> Vec<Input> {
         let mut out: Vec<Input> = one_less(&input.calls).map(|calls| Input { calls, ..input.clone() }).collect();
-        let start = entries(&input.start);
+        let start = entries(&input.start).unwrap_or_default();
         let with = |start: &[Entry]| Input { start: table_of(start), ..input.clone() };
         out.extend(one_less(&start).map(|less| with(&less)));
         for (k, (hash, block, points)) in start.iter().enumerate() {
@@ -319,10 +349,9 @@ impl Kind for OfExclusions {
     fn show(input: &Input) -> String {
         let entry = |(h, b, p): &Entry| format!("  entry {} {b:?} {}\n", hex(h), hex(&p.concat()));
         let call = |c: &Call| format!("  {c:?}\n");
-        let stand = places(&input.start).len();
-        let whole = hex(&input.start[..4 + 48 * stand]);
-        let head = if table_of(&entries(&input.start)) == input.start { String::new() } else { format!("  table {whole}, which is\n") };
-        [head].into_iter().chain(entries(&input.start).iter().map(entry)).chain(input.calls.iter().map(call)).collect()
+        let start = entries(&input.start).unwrap_or_default();
+        let head = if table_of(&start) == input.start { String::new() } else { format!("  table {}, which is\n", hex(&input.start)) };
+        [head].into_iter().chain(start.iter().map(entry)).chain(input.calls.iter().map(call)).collect()
     }
 }
 

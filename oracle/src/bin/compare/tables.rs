@@ -1,4 +1,4 @@
-//! What the two tables of cells share: lent bytes of a count and places, lists of out points, buffers that are written to.
+//! What the kinds of the two tables of cells share: places of a table of holds, lists of out points, buffers that are written to.
 use crate::library::BYTE;
 use crate::parts::{damaged, point, sized_list};
 use crate::random::Rng;
@@ -22,7 +22,7 @@ impl std::fmt::Debug for Lent {
     }
 }
 
-/// An out point or a hash with four zeros, a kind, a number.
+/// An out point, a kind, a number.
 #[derive(Clone, PartialEq)]
 pub struct Place {
     pub point: Point,
