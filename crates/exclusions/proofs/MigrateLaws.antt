@@ -6,7 +6,7 @@ use mathlib.Core.List.{List, [], _∷_}
 use native.Mathlib.Omega.{arith}
 use borrow.Author.Tests.{not-true, not-false, eq-eqb, ne-eqb, lt-ltb, le-ltb, ltb-true, ltb-false}
 use lib.Dec.{ltb}
-use lib.ListN.{length, length-take}
+use lib.ListN.{length, replicate, length-take}
 use Rattle.molecule.specs.Molecule.{readable, option}
 use Rattle.transaction.specs.Ckb.{Transaction}
 use Rattle.error.specs.Refusal.{number}
@@ -15,10 +15,14 @@ use Rattle.out_points.specs.OutPoints.{eqHash, byte32At}
 use Rattle.out_points.specs.declared.{Byte32.Byte32}
 use Rattle.exclusions.specs.declared.{Row.Row, Slot.Slot, Rule.Rule, LiveCellsExclusionMap.LiveCellsExclusionMap}
 use Rattle.out_points.specs.Tables.{done, refused}
-use Rattle.exclusions.specs.Exclusions.{Entry, readRows, entriesOf, hasHash, without, entering, entered, migrateOn, migrateCall}
+use Rattle.exclusions.specs.Exclusions.{Entry, readRows, entriesOf, emptyMap, hasHash, without, entering, entered, migrateOn, migrateCall}
 use Rattle.exclusions.specs.Rows.{rowsOf, loose, entriesAt, entries, sift, isOf, placeOf}
 use Rattle.exclusions.proofs.EntryLaws.{After, entries-of}
 use Rattle.exclusions.proofs.CallLaws.{without-is}
+
+pub new-is : record { rows = replicate 576 (record { row = Row.Pending (record { a = 0; b = 0; c = 0; d = 0 }) }); count = 0 } ≡ emptyMap
+unfolding emptyMap
+new-is = refl
 
 pub new-empty : (l : List Slot) → entriesOf (record { rows = l; count = 0 }) ≡ []
 unfolding entriesOf readRows

@@ -4,7 +4,7 @@ use Prim.Native.Nat.{ℕ}
 use mathlib.Core.Bool.{Bool, true, false, not, cond}
 use mathlib.Core.List.{List, [], _∷_, _++_, map}
 use mathlib.Core.Option.{Option, none, some}
-use lib.{Dec.eqb, Dec.leb, ListN.length, ListN.take}
+use lib.{Dec.eqb, Dec.leb, ListN.length, ListN.take, ListN.replicate}
 use Rattle.units.specs.{declared.BlockNumber.BlockNumber, Units.isAtLeast}
 use Rattle.molecule.specs.Molecule.{readable, option}
 use Rattle.transaction.specs.{Ckb.Transaction, Tx.txAt, Tx.previousOutputOf}
@@ -31,6 +31,10 @@ readRows (x ∷ l) = readRow (x .row) (readRows l)
 -- the rows that stand are the first `count`, and all of the array where `count` is beyond it
 unfoldable pub entriesOf : LiveCellsExclusionMap → List Entry
 entriesOf m = readRows (take (m .count) (m .rows)) .1
+
+-- a map of zeros: no row stands
+unfoldable pub emptyMap : LiveCellsExclusionMap
+emptyMap = record { rows = replicate 576 (record { row = Row.Pending (record { a = 0; b = 0; c = 0; d = 0 }) }); count = 0 }
 
 unfoldable pub hasHash : Byte32 → Entry → Bool
 hasHash hash e = eqHash (e .hash) hash

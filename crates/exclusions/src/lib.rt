@@ -19,7 +19,7 @@ ghost use Rattle.transaction.specs.Tx.{rawField, previousOutputOf};
 ghost use Rattle.out_points.specs.OutPoints.{outPointAt, bytesOf};
 ghost use Rattle.exclusions.specs.declared.Row.{Row};
 ghost use Rattle.out_points.specs.Tables.{done, refused, told};
-ghost use Rattle.exclusions.specs.Exclusions.{entriesOf, commitCall, removeCall, truncated, applyCall, entering, addCall, entered, migrateCall};
+ghost use Rattle.exclusions.specs.Exclusions.{entriesOf, emptyMap, commitCall, removeCall, truncated, applyCall, entering, addCall, entered, migrateCall};
 ghost use Rattle.exclusions.specs.Rows.{rowsOf, looseAt, loose, keeps, keepsRow, sift, marked, isInput, inputs, isOf, placeOf, inputRow, spentRows, roomFor};
 
 // Number of blocks to keep the committed funding tx in the exclusion map.
@@ -437,6 +437,7 @@ fn is_entered(m: LiveCellsExclusionMap, hash: Byte32) -> bool
 // The map with no entry.
 pub fn new() -> LiveCellsExclusionMap
     ensures { λ r. ⌜ entriesOf r ≡ [] ⌝ }
+    ensures { λ r. ⌜ r ≡ emptyMap ⌝ }
 {
     let hash = Byte32 {
         a: 0,
