@@ -4,7 +4,7 @@
     tools/mutants.py CRATE [COUNT [SEED]]
 
 Copies crates/ and target/ to a folder of its own, makes COUNT (8) small changes in the function bodies of CRATE, one at a time: a constant one more or
-less, another comparison, a sum for a difference, true for false, another refusal, two arguments of a call swapped; and runs `rt dev CRATE` on each.
+less (of a `const` too), another comparison, a sum for a difference, true for false, another refusal, two arguments of a call swapped; and runs `rt dev CRATE` on each.
 Prints a line for each: refused (with the function whose proof fails), no program (the front end refuses it) or SURVIVED, which is either a program that
 computes the same or a contract that says too little. Ends with 1 if any survived. The contracts are left as they are: only lines outside `requires` and
 `ensures` are changed.
@@ -62,6 +62,9 @@ def changes(text):
                 if parts[i] and parts[i + 1] and parts[i] != parts[i + 1]:
                     swapped = parts[:i] + [parts[i + 1], parts[i]] + parts[i + 2:]
                     found.append((start + m.start(1), start + m.end(1), ', '.join(swapped)))
+    for m in re.finditer(r'^(?:pub )?const \w+: \w+ = (\d[\d_]*);', text, re.M):
+        n = int(m.group(1).replace('_', ''))
+        found += [(m.start(1), m.end(1), str(k)) for k in (n + 1, n - 1) if k >= 0]
     return found
 
 

@@ -14,10 +14,11 @@ use Rattle.rules.specs.Cells.{recordCells}
 use Rattle.rules.specs.Surplus.{total, added, capacityOf}
 use Rattle.rules.specs.Judge.{unfunded, covered, tokenAccount, fundingOutputDelta, accounts, contribution}
 use Rattle.rules.specs.Told.{refusal, told}
+use Rattle.accounts.specs.declared.capacity.CapacitySurplus.{CapacitySurplus}
+use Rattle.accounts.specs.declared.token.TokenSum.{TokenSum}
+use Rattle.accounts.specs.Answers.{inCapacity, inTokens}
 use Rattle.contribution.specs.declared.OutputDelta.{OutputDelta}
-use Rattle.contribution.specs.declared.capacity.CapacitySurplus.{CapacitySurplus}
-use Rattle.contribution.specs.declared.token.TokenSum.{TokenSum}
-use Rattle.contribution.specs.Answers.{delta, inCapacity, inTokens}
+use Rattle.contribution.specs.Answers.{delta}
 
 module _ (type o p s : List ℕ) (rate : ℕ) where
   module _ (g : Shannons) (m : Tokens) {size : ℕ} (es : size ≡ length p + 4) (q : CapacitySurplus)

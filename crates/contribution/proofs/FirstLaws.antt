@@ -24,18 +24,13 @@ use Rattle.rules.specs.Surplus.{isEmpty, first, capacityOf, hasAmount, amountOf
 use Rattle.rules.specs.Judge.{Figures, atFirst, growth, tokenDelta, fundingOutputDelta}
 use Rattle.rules.proofs.CellLaws.{empty-is, cells-none, cells-some}
 use Rattle.rules.proofs.Tests.{never, fine-inj}
+use Rattle.accounts.proofs.AddedLaws.{amount-there}
 use Rattle.contribution.specs.declared.OutputDelta.{OutputDelta}
 use Rattle.contribution.specs.declared.TokenDelta.{TokenDelta}
 use Rattle.contribution.specs.Answers.{firstAmount, rise, delta}
 use Rattle.contribution.specs.Answers as answers
 
 -- ---- figures
-
--- an amount that was read, or not
-pub amount-there : (o d : List ℕ) {r : TokensRead} {t : Tokens} → r ≡ tokensRead (amountAt d) → r ≡ TokensRead.Tokens t
-    → tokenCount t ≡ amountOf (record { output = o; cellData = d })
-unfolding amountOf hasAmount
-amount-there o d e f = tokens-there d e f ∙ rw (le-leb 16 (length d) (tokens-long d e f))
 
 module _ (s : List ℕ) {f : List ℕ} {n : ℕ} (ef : f ≡ rawField s 4) (en : n ≡ itemCount f) where
   counted : n ≡ itemCount (rawField s 4)
@@ -66,15 +61,6 @@ module _ (s : List ℕ) {n : ℕ} (e : n ≡ itemCount (rawField s 4)) where
     pub first-amount-some : answers.amount r ≡ firstAmount (txAt s)
     unfolding firstAmount atFirst first hasAmount cellAt
     first-amount-some = read-is r refl ∙ sym (rw (cells-some s e h, ← ed))
-
--- ---- the first added output
-
-module _ (o : List ℕ) {n : ℕ} (e : n ≡ itemCount (rawField o 4)) where
-  pub added-first : n ≡ 0 → 1 ≡ max 1 (length (txAt o .outputs))
-  added-first h = rw (span-length (itemOf (rawField o 4)) 0 (itemCount (rawField o 4)), ← e, h)
-
-  pub added-later : (n ≡ 0 → ⊥) → n ≡ max 1 (length (txAt o .outputs))
-  added-later h = rw (span-length (itemOf (rawField o 4)) 0 (itemCount (rawField o 4)), ← e) (omega arith)
 
 -- ---- the growth in tokens
 

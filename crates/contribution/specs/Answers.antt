@@ -8,11 +8,8 @@ use Rattle.rules.specs.Outcome.{Outcome, fine, refused, check, _>>_}
 use Rattle.rules.specs.Cells.{cells}
 use Rattle.rules.specs.Surplus.{first, amountOf, hasAmount}
 use Rattle.rules.specs.Judge.{Figures, atFirst}
-use Rattle.rules.specs.Told.{refusal}
 use Rattle.contribution.specs.declared.OutputDelta.{OutputDelta}
 use Rattle.contribution.specs.declared.TokenDelta.{TokenDelta}
-use Rattle.contribution.specs.declared.capacity.CapacitySurplus.{CapacitySurplus}
-use Rattle.contribution.specs.declared.token.TokenSum.{TokenSum}
 
 -- an amount, or none that can be read
 abbrev pub amount : TokensRead → Outcome ℕ
@@ -32,12 +29,3 @@ rise TokenDelta.Invalid = refused 5 []
 abbrev pub delta : OutputDelta → Outcome Figures
 delta (OutputDelta.Grows capacity token) = fine (record { capacity = shannonCount capacity; token = tokenCount token })
 delta OutputDelta.Invalid = refused 5 []
-
-abbrev pub inCapacity : CapacitySurplus → Outcome ℕ
-inCapacity (CapacitySurplus.Is s) = fine (shannonCount s)
-inCapacity (CapacitySurplus.Refused e) = refusal e
-
-abbrev pub inTokens : TokenSum → Outcome ℕ
-inTokens (TokenSum.Is t) = fine (tokenCount t)
-inTokens TokenSum.Invalid = refused 5 []
-inTokens TokenSum.Overflow = refused 7 []

@@ -1,9 +1,8 @@
 // What the peer put in: the growth of output 0, the cells that its inputs spend, and the outputs that it added.
-pub mod capacity;
-pub mod token;
-
-use crate::capacity::CapacitySurplus;
-use crate::token::TokenSum;
+use accounts::capacity;
+use accounts::capacity::CapacitySurplus;
+use accounts::token;
+use accounts::token::TokenSum;
 use error::Refusal;
 use rules::Update;
 use transaction::fields;
@@ -13,15 +12,13 @@ use units::Shannons;
 use units::Tokens;
 use units::TokensRead;
 ghost use mathlib.Core.Path.{_≡_};
-ghost use Prim.Native.Nat.{_+_, max};
+ghost use Prim.Native.Nat.{_+_};
 ghost use lib.ListN.{length};
-ghost use Rattle.arithmetic.specs.Amount.{amountAt};
-ghost use Rattle.units.specs.Units.{shannonCount, tokenCount, tokensRead};
-ghost use Rattle.molecule.specs.Layout.{itemCount};
-ghost use Rattle.transaction.specs.Tx.{txAt, rawField};
-ghost use Rattle.rules.specs.Cells.{cells, cellAt, recordCells};
-ghost use Rattle.rules.specs.Surplus.{first, capacityOf, amountOf, hasAmount};
-ghost use Rattle.rules.specs.Judge.{atFirst, tokenDelta, fundingOutputDelta, accounts, contribution};
+ghost use Rattle.units.specs.Units.{shannonCount, tokenCount};
+ghost use Rattle.transaction.specs.Tx.{txAt};
+ghost use Rattle.rules.specs.Cells.{cells, recordCells};
+ghost use Rattle.rules.specs.Surplus.{first, capacityOf};
+ghost use Rattle.rules.specs.Judge.{tokenDelta, fundingOutputDelta, accounts, contribution};
 ghost use Rattle.rules.specs.Told.{told};
 ghost use Rattle.contribution.specs.Answers.{amount, firstAmount, rise, delta};
 
@@ -35,13 +32,6 @@ pub enum OutputDelta {
 enum TokenDelta {
     Grows(Tokens),
     Invalid,
-}
-
-// The token amount that a cell's data begins with (RFC 0025).
-pub fn read_udt_amount(d: &[u8]) -> TokensRead
-    ensures { λ r. ⌜ r ≡ tokensRead (amountAt (now (d .entry))) ⌝ }
-{
-    Tokens::from_le_bytes(d)
 }
 
 // ---- output 0
@@ -66,7 +56,7 @@ fn first_amount(tx: &[u8]) -> TokensRead
         return TokensRead::Tokens(Tokens::ZERO);
     }
     let d = fields::output_data(tx, 0);
-    read_udt_amount(d)
+    accounts::read_udt_amount(d)
 }
 
 // By how many tokens output 0 grows.
@@ -116,17 +106,6 @@ pub fn funding_output_delta(ours: &[u8], peer: &[u8], udt: &[u8]) -> OutputDelta
 }
 
 // ---- the account
-
-// The index of the first output that the peer added: from our output count on, never 0.
-pub fn added_peer_outputs(ours: &[u8]) -> usize
-    ensures { λ r. ⌜ r ≡ max 1 (length (txAt (now (ours .entry)) .outputs)) ⌝ }
-{
-    let n = fields::output_count(ours) as usize;
-    if n == 0 {
-        return 1;
-    }
-    n
-}
 
 // What is left of the records over the added outputs and the growth of output 0, in capacity and in tokens.
 fn surpluses(

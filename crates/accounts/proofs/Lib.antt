@@ -1,0 +1,4 @@
+pub mod AddedLaws
+pub mod CapacityLaws
+pub mod TokenLaws
+pub mod Ways

@@ -1,0 +1,20 @@
+use Rattle.accounts.proofs.Ways.{ways}
+use Rattle.accounts.proofs.token.add_cell.Statement.{statement}
+use Rattle.accounts.proofs.token.add_cell.Tie as tie
+
+pub add-cell-spec : {M : Type 1} → statement M
+add-cell-spec =
+    tie.close
+    (tie.spec
+    (λ c κs. search ways)  -- type-script-requires
+    (λ c κs. search ways)  -- same-requires
+    (λ c. search ways)  -- returns
+    (λ c κs. search ways)  -- read-udt-amount-requires
+    (λ c. search ways)  -- enum-known-amount
+    (λ c. search ways)  -- enum-told
+    (λ c. search ways)  -- returns-2
+    (λ c κs. search ways)  -- checked-add-requires
+    (λ c. search ways)  -- enum-known-total
+    (λ c. search ways)  -- enum-told-2
+    (λ c. search ways)  -- returns-3
+    (λ c. search ways))  -- returns-4

@@ -1,0 +1,12 @@
+use Rattle.accounts.proofs.Ways.{ways}
+use Rattle.accounts.proofs.token.add_output.Statement.{statement}
+use Rattle.accounts.proofs.token.add_output.Tie as tie
+
+pub add-output-spec : {M : Type 1} → statement M
+add-output-spec =
+    tie.close
+    (tie.spec
+    (λ c κs. search ways)  -- item-requires
+    (λ c κs. search ways)  -- entry-requires
+    (λ c κs. search ways)  -- add-cell-requires
+    (λ c. search ways))  -- returns

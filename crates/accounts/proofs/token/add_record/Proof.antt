@@ -1,0 +1,13 @@
+use Rattle.accounts.proofs.Ways.{ways}
+use Rattle.accounts.proofs.token.add_record.Statement.{statement}
+use Rattle.accounts.proofs.token.add_record.Tie as tie
+
+pub add-record-spec : {M : Type 1} → statement M
+add-record-spec =
+    tie.close
+    (tie.spec
+    (λ c κs. search ways)  -- item-requires
+    (λ c κs. search ways)  -- record-output-requires
+    (λ c κs. search ways)  -- record-data-requires
+    (λ c κs. search ways)  -- add-cell-requires
+    (λ c. search ways))  -- returns
