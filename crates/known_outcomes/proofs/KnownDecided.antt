@@ -8,7 +8,7 @@ use Rattle.rules.specs.Judge.{Call, judge}
 use Rattle.known_outcomes.specs.Outcomes.{Outcome, emptyTx}
 use Rattle.known_outcomes.specs.Decided.{decided}
 use Rattle.known_outcomes.proofs.Computing.{computing}
-use Rattle.known_outcomes.proofs.Rows.{_and_, done}
+use Rattle.known_cases.proofs.Rows.{_and_, done}
 
 pub known-decided : All (λ (o : Outcome). o .computed ≡ o .expected) decided
 unfolding computing

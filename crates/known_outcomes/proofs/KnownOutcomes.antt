@@ -4,7 +4,7 @@ use Rattle.molecule.specs.Partial.{All}
 use Rattle.known_outcomes.specs.Outcomes.{Outcome, outcomes}
 use Rattle.known_outcomes.proofs.Computing.{computing}
 use Rattle.known_cases.proofs.Largest.{bytes-pass, bytes-over}
-use Rattle.known_outcomes.proofs.Rows.{_and_, done}
+use Rattle.known_cases.proofs.Rows.{_and_, done}
 
 pub known-outcomes : All (λ (o : Outcome). o .computed ≡ o .expected) outcomes
 unfolding computing

@@ -3,4 +3,3 @@ pub mod KnownDecided
 pub mod KnownOutcomes
 pub mod KnownReplay
 pub mod KnownRuns
-pub mod Rows
