@@ -1,5 +1,6 @@
 // Bytes put at the start of a lent buffer.
 use error::Refusal;
+use list_writer::MAX_BYTES;
 use molecule::write;
 use transaction_writer::Written;
 ghost use mathlib.Core.Path.{_≡_};
@@ -7,9 +8,6 @@ ghost use lib.ListN.{take};
 ghost use Rattle.rules.specs.Outcome.{fine};
 ghost use Rattle.base_writer.specs.Answer.{told, written};
 ghost use Rattle.answer_words.specs.Buffers.{lineFirst};
-
-// The longest result that is written.
-const MAX_BYTES: usize = 133_116;
 
 // Puts bytes at the start of out.
 pub fn put_first(s: &[u8], out: &mut [u8]) -> Written

@@ -1,6 +1,7 @@
 // Writes the inputs of a base transaction into a lent buffer: the present ones as they stand, then one for each picked cell, with since 0. How long they
 // are is 133,117 for all that is longer than a transaction may be. Where they do not fit nothing is written, and the place that is answered is the one
 // that was given.
+use list_writer::MAX_BYTES;
 use list_writer::capped;
 use list_writer::fits;
 use molecule::write;
@@ -15,9 +16,6 @@ ghost use Rattle.molecule.specs.Write.{Put};
 ghost use Rattle.list_writer.specs.ListWriter.{fixList, putList, putListEnd};
 ghost use Rattle.list_writer.specs.Around.{Room};
 ghost use Rattle.base_inputs.specs.BaseInputs.{picked, inputList, inputsSize};
-
-// The longest list that is written: no transaction is longer.
-const MAX_BYTES: usize = 133_116;
 
 // The present inputs, one after the other: what follows their count.
 fn present_inputs(present: &[u8]) -> &[u8]

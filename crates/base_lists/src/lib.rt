@@ -11,6 +11,3 @@ pub use outputs_data::outputs_data_size;
 pub use outputs_data::put_outputs_data;
 pub use witnesses::put_witnesses;
 pub use witnesses::witnesses_size;
-
-// The longest list that is written: no transaction is longer.
-const MAX_BYTES: usize = 133_116;

@@ -1,6 +1,6 @@
 // The outputs: the funding cell, the present ones after the first, and the change.
-use crate::MAX_BYTES;
 use cell_output::output_head;
+use list_writer::MAX_BYTES;
 use list_writer::capped;
 use list_writer::list_size;
 use list_writer::put_list;

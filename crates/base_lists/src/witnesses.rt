@@ -1,4 +1,5 @@
 // The witnesses: the placeholder of a signature for the first input, and for the first picked one behind present inputs.
+use arithmetic::sizes;
 use list_writer::list_size;
 use list_writer::put_list;
 ghost use mathlib.Core.Path.{_≡_};
@@ -122,16 +123,6 @@ fn picked_behind(present: usize, picked: usize) -> bool
     true
 }
 
-// a - b, and 0 where b is more.
-fn less(a: usize, b: usize) -> usize
-    ensures { λ r. ⌜ r ≡ a - b ⌝ }
-{
-    if a < b {
-        return 0;
-    }
-    a - b
-}
-
 // How long the witnesses are, by how many inputs are present and how many are picked.
 pub fn witnesses_size(present: usize, picked: usize) -> usize
     ensures { λ r. ⌜ r ≡ min (length (join (witnessList present picked))) 133117 ⌝ }
@@ -141,7 +132,7 @@ pub fn witnesses_size(present: usize, picked: usize) -> usize
     if !picked_behind(present, picked) {
         return list_size(89, none, 0, 0);
     }
-    let n = less(present, 1);
+    let n = sizes::saturating_sub(present, 1);
     list_size(89, none, n, 89)
 }
 
@@ -156,6 +147,6 @@ pub fn put_witnesses(out: &mut [u8], at: usize, present: usize, picked: usize) -
     if !picked_behind(present, picked) {
         return put_list(out, at, mark, none, none, none, 0, none, none, none);
     }
-    let empty = less(present, 1);
+    let empty = sizes::saturating_sub(present, 1);
     put_list(out, at, mark, none, none, none, empty, mark, none, none)
 }

@@ -1,5 +1,6 @@
 // Writes a base transaction into a lent buffer: from the lists of the present one, the lent lists, and the figures.
 use error::Refusal;
+use list_writer::MAX_BYTES;
 use molecule::write;
 use transaction_writer::Written;
 use units::Tokens;
@@ -20,9 +21,6 @@ ghost use Rattle.base_lists.specs.BaseLists.{outputList, dataList, witnessList}
 ghost use Rattle.list_writer.specs.ListWriter.{fixList, putList, putListEnd};
 ghost use Rattle.cell_deps.specs.CellDeps.{depsAt};
 ghost use Rattle.base_writer.specs.Lists.{orEmpty, listsOf, bytesOf, Capped, Fitting, FrontFits, BackFits, front, back};
-
-// The longest transaction that is written.
-const MAX_BYTES: usize = 133_116;
 
 // The figures of a base transaction: the funding cell's, how many token cells are taken, what change is left of them, and the capacity of its
 // output, 0 where there is none.

@@ -1,4 +1,5 @@
 // The cell deps of a base transaction: of four lists, one after the other, each dep where it first stands.
+use arithmetic::sizes;
 use molecule::write;
 ghost use mathlib.Core.Path.{_≡_};
 ghost use Prim.Native.Nat.{_+_, _*_, _≤_, _<_, min};
@@ -70,12 +71,6 @@ fn dep_at<'a>(
         return molecule::fix_item(present, CELL_DEP_BYTES, i);
     }
     own_dep_at(udt, lock, extra, i - n)
-}
-
-fn lesser(a: usize, b: usize) -> usize
-    ensures { λ r. ⌜ r ≡ min a b ⌝ }
-{
-    if a < b { a } else { b }
 }
 
 // Whether 32 bytes from `at` on are the same. The loop's length is known and it has no early exit, so that it is compiled to wide comparisons.
@@ -243,7 +238,7 @@ pub fn choose<'a>(
     ensures { λ r. ⌜ Chooses (now (present .entry)) (now (udt .entry)) (now (lock .entry)) (now (extra .entry)) (min (length (now (places .entry))) (length (now (sorted .entry)))) (now (places .exit)) r ⌝ }
 {
     let n = dep_count(present, udt, lock, extra);
-    let room = lesser(places.len(), sorted.len());
+    let room = sizes::min(places.len(), sorted.len());
     let mut count: usize = 0;
     let mut i: usize = 0;
     while i < n {

@@ -10,7 +10,8 @@ ghost use Rattle.molecule.specs.Write.{putAt, putEnd, Put};
 ghost use Rattle.list_writer.specs.ListWriter.{itemOr, later, ifPositive, putList, putListEnd};
 ghost use Rattle.list_writer.specs.Around.{around, headSize, listSize, places, headOf, fitsAt, Room};
 
-const MAX_BYTES: usize = 133_116;
+// The longest transaction that is written, and so the longest list: 133,120 bytes with the 4 of its size.
+pub const MAX_BYTES: usize = 133_116;
 
 // The sum of two lengths, and 133,117 for all that is more.
 pub fn capped(m: usize, n: usize) -> usize

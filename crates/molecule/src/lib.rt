@@ -3,25 +3,20 @@
 pub mod write;
 
 use arithmetic::little_endian;
+use arithmetic::sizes;
 ghost use mathlib.Core.Path.{_≡_};
 ghost use Prim.Native.Nat.{_+_, min};
 ghost use lib.ListN.{length};
 ghost use Rattle.molecule.specs.Molecule.{readable, fixvec, dynvec, array, byte};
 ghost use Rattle.molecule.specs.Layout.{part, partStart, inside, word, start, hasItems, fieldOf, fieldStart, itemCount, itemOf, itemStart, fixCount, fixItem, fixStart, content, contentStart, entryOf, entryStart};
 
-fn lesser(a: usize, b: usize) -> usize
-    ensures { λ r. ⌜ r ≡ min a b ⌝ }
-{
-    if a < b { a } else { b }
-}
-
 // The bytes from `from` up to `to`, as many of them as there are.
 pub fn part(s: &[u8], from: usize, to: usize) -> &[u8]
     ensures { λ r. ⌜ now r ≡ part (now (s .entry)) from to ⌝ }
     ensures { λ r. ⌜ r .ptr ≡ inside (s .entry .ptr) (partStart (now (s .entry)) from to) ⌝ }
 {
-    let e = lesser(to, s.len());
-    let b = lesser(from, e);
+    let e = sizes::min(to, s.len());
+    let b = sizes::min(from, e);
     &s[b..e]
 }
 

@@ -1,5 +1,6 @@
 // Writes transactions into a buffer that the caller lends.
 use error::Refusal;
+use list_writer::MAX_BYTES;
 use molecule::write;
 use transaction::fields;
 ghost use mathlib.Core.Path.{_≡_};
@@ -12,9 +13,6 @@ ghost use Rattle.molecule.specs.Molecule.{readable};
 ghost use Rattle.molecule.specs.Write.{Put};
 ghost use Rattle.transaction.specs.Ckb.{Transaction};
 ghost use Rattle.transaction_writer.specs.Written.{txBytes, txHead, putHead, headEnd, inForm, writes, leaves, txSize};
-
-// The longest transaction that is written: 133,120 bytes with the 4 of its size.
-const MAX_BYTES: usize = 133_116;
 
 // The answer of a call that writes: how many bytes it wrote, or why it wrote none.
 pub enum Written {

@@ -1,5 +1,7 @@
 // The token cells that our side pays with: the pick among those that are lent, and the change that is left of them.
+use arithmetic::sizes;
 use error::Refusal;
+use list_writer::MAX_BYTES;
 use transaction::fields;
 use units::CheckedShannons;
 use units::CheckedTokens;
@@ -19,9 +21,6 @@ ghost use Rattle.transaction.specs.Tx.{argsOf};
 ghost use Rattle.rules.specs.Outcome.{check};
 ghost use Rattle.udt_cells.specs.Pick.{summed, told, plusCell, pickFrom, pickTyped};
 ghost use Rattle.udt_cells.specs.Change.{answered, capacityFor, withChange, lent, udtInputsOutputs};
-
-// The longest transaction, and so the longest output, that is written.
-const MAX_BYTES: usize = 133_116;
 
 // A total of tokens.
 enum Total {
@@ -116,12 +115,6 @@ pub fn change_capacity(source: &[u8], udt: &[u8]) -> CheckedShannons
     units::fee::change_capacity(lock_args.len() as u64, type_args.len() as u64)
 }
 
-fn lesser(a: usize, b: usize) -> usize
-    ensures { λ r. ⌜ r ≡ min a b ⌝ }
-{
-    if a < b { a } else { b }
-}
-
 // Writes the change output, if there is change, to the start of out.
 fn put_change(
     taken: usize,
@@ -147,7 +140,7 @@ fn put_change(
             return UdtInputsOutputs::Refused(Refusal::OverflowError);
         }
     };
-    let room = lesser(out.len(), MAX_BYTES);
+    let room = sizes::min(out.len(), MAX_BYTES);
     if !cell_output::has_room(room, 0, source.len(), udt.len()) {
         return UdtInputsOutputs::Refused(Refusal::BufferTooShort);
     }

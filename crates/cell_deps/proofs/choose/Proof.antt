@@ -19,7 +19,7 @@ choose-spec =
     Inv-loop
     μ-loop
     (λ c κs. search ways)  -- dep-count-requires
-    (λ c κs. search ways)  -- lesser-requires
+    (λ c κs. search ways)  -- min-requires
     (λ c. search ways)  -- loop-holds
     (λ c. search ways)  -- add-i
     (λ c κs. search ways)  -- find-requires
@@ -30,7 +30,7 @@ choose-spec =
     (λ c κs. search ways)  -- put-place-requires
     (λ c. search ways)  -- add-count
     (λ c. search ways)  -- loop-less
-    (λ c. let p = c .before .before .before .before in let e = p .before .before .before in let d = e .before .before .before in let w = d .before .before in choose-new _ _ _ _ (w .before .loop .inv) (w .loop-test .taken) (d .find .ensures) (w .before .before .lesser .ensures) (e .before .if1 .taken) (e .if2 .left) (p .put-place .ensures .0) (p .put-place .ensures .1))  -- loop-again
+    (λ c. let p = c .before .before .before .before in let e = p .before .before .before in let d = e .before .before .before in let w = d .before .before in choose-new _ _ _ _ (w .before .loop .inv) (w .loop-test .taken) (d .find .ensures) (w .before .before .min .ensures) (e .before .if1 .taken) (e .if2 .left) (p .put-place .ensures .0) (p .put-place .ensures .1))  -- loop-again
     (λ c. search ways)  -- loop-less-2
     (λ c. let d = c .before .before in let w = d .before .before in choose-old _ _ _ _ (w .before .loop .inv) (w .loop-test .taken) (d .find .ensures) (c .if1 .left))  -- loop-again-2
     (λ c. search ways)  -- same-length-3

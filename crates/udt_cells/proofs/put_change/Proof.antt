@@ -12,7 +12,7 @@ put-change-spec =
     (λ c. search ways)  -- enum-known-capacity
     (λ c. search ways)  -- enum-told
     (λ c. search ways)  -- returns-2
-    (λ c κs. search ways)  -- lesser-requires
+    (λ c κs. search ways)  -- min-requires
     (λ c κs. search ways)  -- has-room-requires
     (λ c. search ways)  -- returns-3
     (λ c κs. search ways)  -- put-cell-output-requires

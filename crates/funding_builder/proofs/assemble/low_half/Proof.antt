@@ -1,6 +1,6 @@
 use Rattle.funding_builder.proofs.Ways.{ways}
-use Rattle.funding_builder.proofs.low_half.Statement.{statement}
-use Rattle.funding_builder.proofs.low_half.Tie as tie
+use Rattle.funding_builder.proofs.assemble.low_half.Statement.{statement}
+use Rattle.funding_builder.proofs.assemble.low_half.Tie as tie
 
 pub low-half-spec : {M : Type 1} → statement M
 low-half-spec =

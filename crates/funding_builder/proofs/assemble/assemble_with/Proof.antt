@@ -1,7 +1,7 @@
 use Rattle.funding_builder.proofs.AssembleLaws.{assembled}
 use Rattle.funding_builder.proofs.Ways.{ways}
-use Rattle.funding_builder.proofs.assemble_with.Statement.{statement}
-use Rattle.funding_builder.proofs.assemble_with.Tie as tie
+use Rattle.funding_builder.proofs.assemble.assemble_with.Statement.{statement}
+use Rattle.funding_builder.proofs.assemble.assemble_with.Tie as tie
 
 pub assemble-with-spec : {M : Type 1} → statement M
 assemble-with-spec =
