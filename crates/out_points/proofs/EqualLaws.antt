@@ -1,13 +1,17 @@
 -- When two out points are the same: one law for each way out of the tests, and that the tests say equality.
 use mathlib.Core.Path.{_≡_, refl, sym, ap, _∙_, subst}
-use Prim.Native.Nat.{ℕ, zero, suc, _+_, _-_, _≤_, _<_, min}
+use Prim.Native.Nat.{ℕ, _+_, _-_, _*_, _≤_, _<_, min}
 use mathlib.Core.List.{List, [], _∷_}
 use mathlib.Core.Bool.{Bool, true, false, not, _&&_, cond, and-true, and-false}
 use native.Mathlib.Omega.{arith}
-use borrow.Author.Tests.{eq-eqb, ne-eqb, eqb-true, not-true, not-false}
-use lib.Dec.{eqb}
-use Rattle.arithmetic.specs.LittleEndian.{u64At}
+use borrow.Author.Tests.{eq-eqb, ne-eqb, eqb-true, not-true, not-false, leb-true, leb-false, le-ltb}
+use lib.Dec.{leb, eqb}
+use lib.ListN.{length, take, drop, length-take, length-drop}
+use lib.Seq.{take-take}
+use Rattle.arithmetic.specs.LittleEndian.{le, numAt, u64At}
+use Rattle.arithmetic.proofs.LittleEndianLaws.{num-none, num-some}
 use Rattle.molecule.specs.Layout.{span, fixCount, fixItem}
+use Rattle.lists.proofs.RunLaws.{item-run}
 use Rattle.lists.proofs.SpanLaws.{span-on, span-end, span-whole}
 use Rattle.out_points.specs.declared.{Byte32.Byte32, OutPoint.OutPoint}
 use Rattle.out_points.specs.OutPoints.{eqHash, eqPoint, has, byte32At, outPointAt, pointOf, points}
@@ -41,15 +45,34 @@ module _ (p q : OutPoint) where
     unfolding eqPoint
     point-index t = sym (rw (← e, not-false r t) (and-true (eqb (p .index) (q .index))))
 
--- an item of a lent list, by its first word and whole
-module _ (s : List ℕ) (i : ℕ) (p : OutPoint) {x : List ℕ} (e : x ≡ fixItem s 36 i) where
-  pub item-word : {a : ℕ} → a ≡ u64At x 0 → (p .hash .a ≡ a → ⊥) → false ≡ eqPoint p (pointOf s i)
-  unfolding pointOf outPointAt byte32At
-  item-word f h = point-hash p (pointOf s i) (hash-a (p .hash) (pointOf s i .hash) (λ k. h (k ∙ ap (λ (y : List ℕ). u64At y 0) (sym e) ∙ sym f))) refl
+-- a number at the front of w bytes from a place on
+num-front : (k w : ℕ) (s : List ℕ) (at : ℕ) → 0 < k → k ≤ w → numAt k (take w (drop at s)) 0 ≡ numAt k s at
+num-front k w s at z h = by (leb (at + k) (length s)) refl
+  where
+    by : (t : Bool) → leb (at + k) (length s) ≡ t → numAt k (take w (drop at s)) 0 ≡ numAt k s at
+    by true e =
+        let l : at + k ≤ length s = leb-true _ _ e in
+        num-some k (take w (drop at s)) 0 (simp (length-take, length-drop) (omega arith)) ∙ ap le (take-take k w (drop at s) h) ∙ sym (num-some k s at l)
+    by false e =
+        let l : length s < at + k = leb-false _ _ e in
+        sym (num-none k (take w (drop at s)) 0 (simp (length-take, length-drop) (omega arith))) ∙ num-none k s at l
 
-  pub item-same : {q : OutPoint} {r : Bool} → q ≡ outPointAt x 0 → r ≡ eqPoint p q → r ≡ eqPoint p (pointOf s i)
-  unfolding pointOf
-  item-same f h = h ∙ ap (eqPoint p) (f ∙ ap (λ (y : List ℕ). outPointAt y 0) e)
+-- an item of a lent list, by its first word and whole
+module _ (s : List ℕ) (i : ℕ) where
+  pub word-none : {n : ℕ} → n ≡ fixCount s → n ≤ i → 0 ≡ pointOf s i .hash .a
+  unfolding pointOf outPointAt byte32At fixItem
+  word-none e h = rw (le-ltb i (fixCount s) (omega arith)) (num-none 8 [] 0 (omega arith))
+
+  pub word-some : {n a : ℕ} → n ≡ fixCount s → i < n → a ≡ u64At s (4 + 36 * i) → a ≡ pointOf s i .hash .a
+  unfolding pointOf outPointAt byte32At
+  word-some e h f = f ∙ sym (ap (λ (y : List ℕ). u64At y 0) (item-run s 36 i (omega arith)) ∙ num-front 8 36 s (4 + 36 * i) (omega arith) (omega arith))
+
+  module _ (p : OutPoint) where
+    pub item-word : {a : ℕ} → a ≡ pointOf s i .hash .a → (p .hash .a ≡ a → ⊥) → false ≡ eqPoint p (pointOf s i)
+    item-word f h = point-hash p (pointOf s i) (hash-a (p .hash) (pointOf s i .hash) (λ k. h (k ∙ sym f))) refl
+
+    pub item-same : {q : OutPoint} {r : Bool} → q ≡ pointOf s i → r ≡ eqPoint p q → r ≡ eqPoint p (pointOf s i)
+    item-same f h = h ∙ ap (eqPoint p) f
 
 -- ---- the tests say equality
 

@@ -94,17 +94,27 @@ pub fn point_of(s: &[u8], i: usize) -> OutPoint
     out_point_at(x, 0)
 }
 
+// The first word of item i, and 0 where the list has no such item.
+pub fn first_word(s: &[u8], i: usize) -> u64
+    ensures { λ r. ⌜ r ≡ pointOf (now (s .entry)) i .hash .a ⌝ }
+{
+    let n = molecule::fix_count(s) as usize;
+    if n <= i {
+        return 0;
+    }
+    little_endian::u64_at(s, 4 + 36 * i)
+}
+
 // Whether item i of a lent list is p. What follows the first word is read only where that is the same.
 fn same_item(s: &[u8], i: usize, p: OutPoint) -> bool
     ensures { λ r. ⌜ r ≡ eqPoint p (pointOf (now (s .entry)) i) ⌝ }
 {
-    let x = molecule::fix_item(s, OUT_POINT_BYTES, i);
     let hash = p.hash;
-    let a = little_endian::u64_at(x, 0);
+    let a = first_word(s, i);
     if hash.a != a {
         return false;
     }
-    let q = out_point_at(x, 0);
+    let q = point_of(s, i);
     same_point(p, q)
 }
 

@@ -1,4 +1,5 @@
 pub mod FirstLaws
+pub mod MarkLaws
 pub mod PickLaws
 pub mod TakeLaws
 pub mod TakenLaws

@@ -1,10 +1,10 @@
 -- What the functions of this crate answer; no call's contract cites it.
 use mathlib.Core.Path.{_≡_}
-use Prim.Native.Nat.{ℕ, zero, suc, _+_, _≤_, min}
+use Prim.Native.Nat.{ℕ, zero, suc, _+_, _%_, _≤_, min}
 use mathlib.Core.Bool.{Bool, true, false, not, cond}
 use mathlib.Core.List.{List, [], _∷_, _++_, map}
 use lib.Dec.{leb}
-use lib.ListN.{length, drop}
+use lib.ListN.{length, drop, getD, set}
 use Rattle.molecule.specs.Layout.{span}
 use Rattle.out_points.specs.declared.{OutPoint.OutPoint}
 use Rattle.out_points.specs.OutPoints.{eqPoint, has}
@@ -15,6 +15,16 @@ use Rattle.hold_records.specs.Holds.{recordsOf, heldBy, firsts, others}
 -- p is among the cells that are held, or spent: `isBusy` of the list of the records' cells
 unfoldable pub isAmong : List OutPoint → List OutPoint → OutPoint → Bool
 isAmong cells spent p = cond (has p cells) true (has p spent)
+
+-- the marks with those of the out points set: one stands for every out point, by the first word of its hash
+unfoldable pub marked : List OutPoint → List ℕ → List ℕ
+marked [] m = m
+marked (p ∷ l) m = marked l (set m (p .hash .a % 4096) 1)
+
+-- where its mark is 0, an out point is neither among the cells nor spent
+pub record Marks (cells spent : List OutPoint) (m : List ℕ) : Type 0 where
+  pub enough : length m ≡ 4096
+  pub unmarked : (p : OutPoint) → getD m (p .hash .a % 4096) 0 ≡ 0 → isAmong cells spent p ≡ false
 
 -- b, or its opposite
 unfoldable pub asked : Bool → Bool → Bool

@@ -9,25 +9,66 @@ use out_points::OutPoint;
 ghost use mathlib.Core.Path.{_≡_};
 ghost use mathlib.Core.Bool.{true, false};
 ghost use mathlib.Core.List.{[]};
-ghost use Prim.Native.Nat.{_+_, _*_, _≤_, _<_};
-ghost use lib.ListN.{length, drop};
+ghost use Prim.Native.Nat.{_+_, _*_, _%_, _≤_, _<_};
+ghost use lib.ListN.{length, drop, set};
 ghost use Rattle.molecule.specs.Layout.{fixCount};
 ghost use Rattle.molecule.specs.Write.{Put};
 ghost use Rattle.out_points.specs.OutPoints.{pointOf, points, bytesOf};
 ghost use Rattle.out_points.specs.Tables.{told, hasRoom, written};
 ghost use Rattle.hold_records.specs.Holds.{recordsOf, cellsOf, isBusy, firsts};
 ghost use Rattle.hold_records.specs.Rules.{putIf};
-ghost use Rattle.picks.specs.Places.{isAmong, asked, isFirst, select, Tallied, headIs, unmatched, takeFrom};
+ghost use Rattle.picks.specs.Places.{isAmong, marked, Marks, asked, isFirst, select, Tallied, headIs, unmatched, takeFrom};
 
 const MOST: usize = 256;
 
 // How many bytes the list of a table's cells has at most: a count and 256 out points.
 const CELLS_BYTES: usize = 9220;
 
-// Whether p is one of the cells, which are held, or spent.
-fn busy(cells: &[u8], spent: &[u8], p: OutPoint) -> bool
+// How many marks stand before a search: one for every out point, by the first word of its hash.
+const MARKS: usize = 4096;
+
+// Sets the mark of the out points with this first word.
+fn mark(marks: &mut [u8], word: u64)
+    ensures { λ _. ⌜ now (marks .exit) ≡ set (now (marks .entry)) (word % 4096) 1 ⌝ }
+{
+    let at = (word % 4096) as usize;
+    if marks.len() <= at {
+        return;
+    }
+    marks[at] = 1;
+}
+
+// Sets the marks of the list's out points.
+fn mark_list(s: &[u8], marks: &mut [u8])
+    ensures { λ _. ⌜ now (marks .exit) ≡ marked (points (now (s .entry))) (now (marks .entry)) ⌝ }
+{
+    let n = molecule::fix_count(s) as usize;
+    let mut i: usize = 0;
+    while i < n {
+        let word = out_points::first_word(s, i);
+        mark(marks, word);
+        i += 1;
+    }
+}
+
+// Sets the marks of both lists.
+fn mark_both(cells: &[u8], spent: &[u8], marks: &mut [u8])
+    ensures { λ _. ⌜ now (marks .exit) ≡ marked (points (now (spent .entry))) (marked (points (now (cells .entry))) (now (marks .entry))) ⌝ }
+{
+    mark_list(cells, marks);
+    mark_list(spent, marks);
+}
+
+// Whether p is one of the cells, which are held, or spent. Where its mark is not set, nothing is searched.
+fn busy(cells: &[u8], spent: &[u8], marks: &[u8], p: OutPoint) -> bool
+    requires { ⌜ Marks (points (now cells)) (points (now spent)) (now marks) ⌝ }
     ensures { λ r. ⌜ r ≡ isAmong (points (now (cells .entry))) (points (now (spent .entry))) p ⌝ }
 {
+    let hash = p.hash;
+    let at = (hash.a % 4096) as usize;
+    if marks[at] == 0 {
+        return false;
+    }
     if out_points::has_point(cells, p) {
         return true;
     }
@@ -35,10 +76,11 @@ fn busy(cells: &[u8], spent: &[u8], p: OutPoint) -> bool
 }
 
 // Whether p is busy, or whether it is free, as wanted.
-fn passes(cells: &[u8], spent: &[u8], want: bool, p: OutPoint) -> bool
+fn passes(cells: &[u8], spent: &[u8], marks: &[u8], want: bool, p: OutPoint) -> bool
+    requires { ⌜ Marks (points (now cells)) (points (now spent)) (now marks) ⌝ }
     ensures { λ r. ⌜ r ≡ asked want (isAmong (points (now (cells .entry))) (points (now (spent .entry))) p) ⌝ }
 {
-    let b = busy(cells, spent, p);
+    let b = busy(cells, spent, marks, p);
     if want {
         return b;
     }
@@ -46,19 +88,21 @@ fn passes(cells: &[u8], spent: &[u8], want: bool, p: OutPoint) -> bool
 }
 
 // Whether pick i passes, and no pick before it is the same.
-fn first(cells: &[u8], picked: &[u8], spent: &[u8], want: bool, i: usize) -> bool
+fn first(cells: &[u8], picked: &[u8], spent: &[u8], marks: &[u8], want: bool, i: usize) -> bool
     requires { ⌜ i < fixCount (now picked) ⌝ }
+    requires { ⌜ Marks (points (now cells)) (points (now spent)) (now marks) ⌝ }
     ensures { λ r. ⌜ r ≡ isFirst (λ p. asked want (isAmong (points (now (cells .entry))) (points (now (spent .entry))) p)) (pointOf (now (picked .entry))) i ⌝ }
 {
     let p = out_points::point_of(picked, i);
-    if !passes(cells, spent, want, p) {
+    if !passes(cells, spent, marks, want, p) {
         return false;
     }
     !out_points::has_before(picked, i, p)
 }
 
 // How many picks are busy, each counted once.
-fn count_busy(cells: &[u8], picked: &[u8], spent: &[u8]) -> u32
+fn count_busy(cells: &[u8], picked: &[u8], spent: &[u8], marks: &[u8]) -> u32
+    requires { ⌜ Marks (points (now cells)) (points (now spent)) (now marks) ⌝ }
     ensures { λ r. ⌜ r ≡ length (select (λ p. asked true (isAmong (points (now (cells .entry))) (points (now (spent .entry))) p)) (pointOf (now (picked .entry))) 0 (fixCount (now (picked .entry)))) ⌝ }
 {
     let n = molecule::fix_count(picked) as usize;
@@ -67,7 +111,7 @@ fn count_busy(cells: &[u8], picked: &[u8], spent: &[u8]) -> u32
     while i < n {
         let k = i;
         i += 1;
-        if first(cells, picked, spent, true, k) {
+        if first(cells, picked, spent, marks, true, k) {
             count += 1;
         }
     }
@@ -75,7 +119,15 @@ fn count_busy(cells: &[u8], picked: &[u8], spent: &[u8]) -> u32
 }
 
 // Puts those picks, one after the other from `at` on.
-fn put_busy(cells: &[u8], picked: &[u8], spent: &[u8], out: &mut [u8], at: usize) -> usize
+fn put_busy(
+    cells: &[u8],
+    picked: &[u8],
+    spent: &[u8],
+    marks: &[u8],
+    out: &mut [u8],
+    at: usize,
+) -> usize
+    requires { ⌜ Marks (points (now cells)) (points (now spent)) (now marks) ⌝ }
     requires { ⌜ at + 36 * length (select (λ p. asked true (isAmong (points (now cells)) (points (now spent)) p)) (pointOf (now picked)) 0 (fixCount (now picked))) ≤ length (now out) ⌝ }
     ensures { λ r. ⌜ Put (now (out .entry)) at (bytesOf (select (λ p. asked true (isAmong (points (now (cells .entry))) (points (now (spent .entry))) p)) (pointOf (now (picked .entry))) 0 (fixCount (now (picked .entry))))) (now (out .exit)) r ⌝ }
 {
@@ -85,7 +137,7 @@ fn put_busy(cells: &[u8], picked: &[u8], spent: &[u8], out: &mut [u8], at: usize
     while i < n {
         let k = i;
         i += 1;
-        if first(cells, picked, spent, true, k) {
+        if first(cells, picked, spent, marks, true, k) {
             let p = out_points::point_of(picked, k);
             to = out_points::put_out_point(out, to, p);
         }
@@ -94,17 +146,18 @@ fn put_busy(cells: &[u8], picked: &[u8], spent: &[u8], out: &mut [u8], at: usize
 }
 
 // Puts the list of the busy picks at the start of out, and answers whether there is room for all of it: else it puts nothing.
-fn put_named(cells: &[u8], picked: &[u8], spent: &[u8], out: &mut [u8]) -> bool
+fn put_named(cells: &[u8], picked: &[u8], spent: &[u8], marks: &[u8], out: &mut [u8]) -> bool
+    requires { ⌜ Marks (points (now cells)) (points (now spent)) (now marks) ⌝ }
     ensures { λ r. ⌜ r ≡ hasRoom (firsts (isAmong (points (now (cells .entry))) (points (now (spent .entry)))) [] (points (now (picked .entry)))) (now (out .entry)) ⌝ }
     ensures { λ _. ⌜ now (out .exit) ≡ putIf (firsts (isAmong (points (now (cells .entry))) (points (now (spent .entry)))) [] (points (now (picked .entry)))) (now (out .entry)) ⌝ }
 {
-    let n = count_busy(cells, picked, spent);
+    let n = count_busy(cells, picked, spent, marks);
     let w = n as usize;
     if out.len() < 4 + 36 * w {
         return false;
     }
     let at = write::put_u32(out, 0, n);
-    put_busy(cells, picked, spent, out, at);
+    put_busy(cells, picked, spent, marks, out, at);
     true
 }
 
@@ -115,7 +168,9 @@ pub fn put_unavailable(h: Held, picked: &[u8], spent: &[u8], out: &mut [u8]) -> 
 {
     let mut cells = [0u8; CELLS_BYTES];
     hold_records::list_cells(h, &mut cells);
-    put_named(&cells, picked, spent, out)
+    let mut marks = [0u8; MARKS];
+    mark_both(&cells, spent, &mut marks);
+    put_named(&cells, picked, spent, &marks, out)
 }
 
 // How many picks are taken, and the table with a record for each, as far as there is room.
@@ -124,7 +179,8 @@ struct Taken {
     count: u32,
 }
 
-fn tally(h: Held, cells: &[u8], picked: &[u8], spent: &[u8], owner: Owner) -> Taken
+fn tally(h: Held, cells: &[u8], picked: &[u8], spent: &[u8], marks: &[u8], owner: Owner) -> Taken
+    requires { ⌜ Marks (points (now cells)) (points (now spent)) (now marks) ⌝ }
     ensures { λ r. ⌜ Tallied owner (select (λ p. asked false (isAmong (points (now (cells .entry))) (points (now (spent .entry))) p)) (pointOf (now (picked .entry))) 0 (fixCount (now (picked .entry)))) h (r .held) (r .count) ⌝ }
 {
     let n = molecule::fix_count(picked) as usize;
@@ -136,7 +192,7 @@ fn tally(h: Held, cells: &[u8], picked: &[u8], spent: &[u8], owner: Owner) -> Ta
     while i < n {
         let k = i;
         i += 1;
-        if first(cells, picked, spent, false, k) {
+        if first(cells, picked, spent, marks, false, k) {
             count += 1;
             let last = g.count;
             if last < MOST {
@@ -203,13 +259,15 @@ fn take_free(
     cells: &[u8],
     picked: &[u8],
     spent: &[u8],
+    marks: &[u8],
     owner: Owner,
     taken: &mut [u8],
     refused: &mut [u8],
 ) -> Holds
+    requires { ⌜ Marks (points (now cells)) (points (now spent)) (now marks) ⌝ }
     ensures { λ r. ⌜ (told recordsOf (r .answer) (r .held), now (taken .exit), now (refused .exit)) ≡ takeFrom held (recordsOf live) (points (now (cells .entry))) (points (now (picked .entry))) (points (now (spent .entry))) owner (now (taken .entry)) (now (refused .entry)) ⌝ }
 {
-    let t = tally(live, cells, picked, spent, owner);
+    let t = tally(live, cells, picked, spent, marks, owner);
     let count = t.count;
     let n = molecule::fix_count(picked);
     let rest = n - count;
@@ -242,5 +300,17 @@ pub fn take_from(
 {
     let mut cells = [0u8; CELLS_BYTES];
     hold_records::list_cells(live, &mut cells);
-    take_free(held, live, &cells, picked, spent, owner, taken, refused)
+    let mut marks = [0u8; MARKS];
+    mark_both(&cells, spent, &mut marks);
+    take_free(
+        held,
+        live,
+        &cells,
+        picked,
+        spent,
+        &marks,
+        owner,
+        taken,
+        refused,
+    )
 }

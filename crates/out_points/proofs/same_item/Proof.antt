@@ -6,9 +6,8 @@ pub same-item-spec : {M : Type 1} → statement M
 same-item-spec =
     tie.close
     (tie.spec
-    (λ c κs. search ways)  -- fix-item-requires
-    (λ c κs. search ways)  -- u64-at-requires
+    (λ c κs. search ways)  -- first-word-requires
     (λ c. search ways)  -- returns
-    (λ c κs. search ways)  -- out-point-at-requires
+    (λ c κs. search ways)  -- point-of-requires
     (λ c κs. search ways)  -- same-point-requires
     (λ c. search ways))  -- returns-2

@@ -10,10 +10,10 @@ use Rattle.picks.proofs.count_busy.Statement.{statement}
 use Rattle.picks.proofs.count_busy.Tie as tie
 
 abbrev Inv-loop : tie.InvT-loop
-Inv-loop cells picked spent n count₀ i₀ count i = Counting (λ p. asked true (isAmong (points cells) (points spent) p)) (pointOf picked) n i count (length (select (λ p. asked true (isAmong (points cells) (points spent) p)) (pointOf picked) 0 (fixCount picked)))
+Inv-loop cells picked spent marks n count₀ i₀ count i = Counting (λ p. asked true (isAmong (points cells) (points spent) p)) (pointOf picked) n i count (length (select (λ p. asked true (isAmong (points cells) (points spent) p)) (pointOf picked) 0 (fixCount picked)))
 
 abbrev μ-loop : tie.MeasureT-loop
-μ-loop cells picked spent n count₀ i₀ count i = n - i
+μ-loop cells picked spent marks n count₀ i₀ count i = n - i
 
 pub count-busy-spec : {M : Type 1} → statement M
 count-busy-spec =

@@ -10,10 +10,10 @@ use Rattle.picks.proofs.put_busy.Statement.{statement}
 use Rattle.picks.proofs.put_busy.Tie as tie
 
 abbrev Inv-loop : tie.InvT-loop
-Inv-loop cells picked spent out₀ at n to₀ i₀ out to i = Naming (λ p. asked true (isAmong (points cells) (points spent) p)) (pointOf picked) n (fixCount picked) i out₀ at out to
+Inv-loop cells picked spent marks out₀ at n to₀ i₀ out to i = Naming (λ p. asked true (isAmong (points cells) (points spent) p)) (pointOf picked) n (fixCount picked) i out₀ at out to
 
 abbrev μ-loop : tie.MeasureT-loop
-μ-loop cells picked spent out₀ at n to₀ i₀ out to i = n - i
+μ-loop cells picked spent marks out₀ at n to₀ i₀ out to i = n - i
 
 pub put-busy-spec : {M : Type 1} → statement M
 put-busy-spec =

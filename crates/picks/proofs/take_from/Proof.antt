@@ -10,8 +10,12 @@ take-from-spec =
     (tie.spec
     (λ c. search ways)  -- slice-aggregate-list-cells
     (λ c κs. search ways)  -- list-cells-requires
+    (λ c. search ways)  -- slice-aggregate-mark-both
+    (λ c. search ways)  -- slice-aggregate-mark-both-2
+    (λ c κs. search ways)  -- mark-both-requires
     (λ c. search ways)  -- slice-aggregate-take-free
+    (λ c. search ways)  -- slice-aggregate-take-free-2
     (λ c κs. search ways)  -- take-free-requires
     (λ c. search ways)  -- same-length
     (λ c. search ways)  -- same-length-2
-    (λ c. take-among _ _ _ _ _ _ _ _ (c .before .before .before .before .before .before .before .before .before .list-cells .ensures .1) (omega arith) (c .before .before .before .before .take-free .ensures)))  -- returns
+    (λ c. take-among _ _ _ _ _ _ _ _ (c .before .before .before .before .before .before .before .before .before .before .before .before .before .before .list-cells .ensures .1) (omega arith) (c .before .before .before .before .take-free .ensures)))  -- returns
