@@ -1,25 +1,27 @@
 -- The table of holds read and written: one law for each way out of the functions.
-use mathlib.Core.Path.{_≡_, refl, ap, _∙_}
-use Prim.Native.Nat.{ℕ, _+_, _*_, _^_, _≤_, _<_, min}
+use mathlib.Core.Path.{_≡_, refl, sym, ap, _∙_, subst}
+use Prim.Native.Nat.{ℕ, zero, suc, _+_, _*_, _^_, _≤_, _<_, min}
 use mathlib.Core.Bool.{Bool, true, false, cond}
 use mathlib.Core.List.{List, [], _++_, map}
+use native.Mathlib.Nat.{zero-add}
 use native.Mathlib.Omega.{arith}
 use borrow.Author.Tests.{eq-eqb, ne-eqb}
 use lib.Dec.{eqb}
-use lib.ListN.{length, take, replicate, length-map}
+use lib.ListN.{length, take, getD, set, replicate, length-map, List·getD-map}
 use Rattle.arithmetic.specs.LittleEndian.{toLe, AllBytes}
 use Rattle.units.specs.declared.{Millis.Millis}
-use Rattle.molecule.specs.Layout.{fixCount}
+use Rattle.molecule.specs.Layout.{span, fixCount}
 use Rattle.molecule.specs.Partial.{All}
 use Rattle.molecule.specs.Write.{putAt, putEnd, Put}
 use Rattle.out_points.specs.OutPoints.{Fit}
 use Rattle.hold_records.specs.declared.{Owner.Owner, Hold.Hold, Held.Held}
 use Rattle.hold_records.specs.Holds.{recordsOf}
-use Rattle.hold_records.proofs.LoopLaws.{stands}
+use Rattle.hold_records.proofs.LoopLaws.{stands, Keeping, keep-into, keep-yes, keep-no}
 use Rattle.arithmetic.proofs.LittleEndianLaws.{length-toLe}
+use Rattle.molecule.proofs.Offsets.{span-length}
 use Rattle.molecule.proofs.WriteLaws.{did, length-kept}
 use Rattle.table_bytes.specs.declared.{Place.Place}
-use Rattle.table_bytes.specs.Places.{FitPlace, places, placesBytes}
+use Rattle.table_bytes.specs.Places.{FitPlace, placeOf, places, placesBytes}
 use Rattle.table_bytes.proofs.AgainLaws.{count-zero}
 use Rattle.table_bytes.proofs.LoopLaws.{Reading, read-end, Putting, put-end, put-fit, put-long}
 use Rattle.table_bytes.proofs.TableLaws.{table-short, table-room, table-put, records-back, records-put, records-again}
@@ -63,6 +65,38 @@ same-hold r = ap (λ (o : Owner). record { point = r .point; owner = o }) (by (r
 pub held-read : {s : List ℕ} {g : List Hold} {i n : ℕ} → Reading holdOf s 256 g i → 256 ≤ i → n ≡ fixCount s → _≡_ {A = Held} (record { records = g; count = n }) (heldOf s)
 unfolding heldOf
 held-read r h e = rw (read-end r h, e)
+
+-- those that a test f keeps
+held-whole : (s : List ℕ) → length (heldOf s .records) ≡ 256
+unfolding heldOf
+held-whole s = length-map (places 256 s) holdOf ∙ span-length (placeOf s) 0 256
+
+held-count : (s : List ℕ) → heldOf s .count ≡ fixCount s
+unfolding heldOf
+held-count s = refl
+
+span-place : (s : List ℕ) (d : Place) (j i k : ℕ) → i < k → getD (span (placeOf s) j k) i d ≡ placeOf s (j + i)
+unfolding span
+span-place s d j i zero h = absurd (omega arith)
+span-place s d j zero (suc k) h = ap (placeOf s) (omega arith)
+span-place s d j (suc i) (suc k) h = span-place s d (suc j) i k (omega arith) ∙ ap (placeOf s) (omega arith)
+
+held-place : (s : List ℕ) (i : ℕ) → i < 256 → getD (heldOf s .records) i (holdOf (placeOf s i)) ≡ holdOf (placeOf s i)
+unfolding heldOf
+held-place s i h = List·getD-map holdOf (places 256 s) i (placeOf s i) ∙ ap holdOf (span-place s (placeOf s i) 0 i 256 h ∙ ap (placeOf s) (zero-add i))
+
+pub sift-start : (f : Hold → Bool) (s : List ℕ) (g : Held) {c n : ℕ} → c ≡ fixCount s → n ≡ min c 256 → length (g .records) ≡ 256 → Keeping f (heldOf s) g n 0 0
+sift-start f s g e h l = keep-into f (heldOf s) g (h ∙ ap (λ (x : ℕ). min x 256) (e ∙ sym (held-count s))) (held-whole s) l
+
+module _ {f : Hold → Bool} (s : List ℕ) {g : Held} {n to i : ℕ} (k : Keeping f (heldOf s) g n to i) {p : Place} {x : Hold} {r : Bool} (h : i < n) (ep : p ≡ placeOf s i) (ex : x ≡ holdOf p) (er : r ≡ f x) where
+  item : getD (heldOf s .records) i (holdOf (placeOf s i)) ≡ x
+  item = let m = k .most in held-place s i (omega arith) ∙ sym (ex ∙ ap holdOf ep)
+
+  pub sift-yes : r ≡ true → Keeping f (heldOf s) (record { records = set (g .records) to x; count = g .count }) n (to + 1) (i + 1)
+  sift-yes t = subst (λ (y : Hold). Keeping f (heldOf s) (record { records = set (g .records) to y; count = g .count }) n (to + 1) (i + 1)) item (keep-yes k _ h (er ∙ ap f (sym item)) t)
+
+  pub sift-no : r ≡ false → Keeping f (heldOf s) g n to (i + 1)
+  sift-no t = keep-no k _ h (er ∙ ap f (sym item)) t
 
 module _ {h : Held} {n : ℕ} {out : List ℕ} {at i : ℕ} {after : List ℕ} {next : ℕ} (w : Putting placeFor (h .records) (h .count) n out at i after next) (l : n ≤ i) where
   held-end : Put out at (placesBytes (map placeFor (recordsOf h))) after next

@@ -3,6 +3,7 @@ use crate::HELD_BYTES;
 use error::Answer;
 use error::Refusal;
 use hold_records::Holds;
+use hold_records::Rule;
 use hold_records::Taker;
 use units::Millis;
 ghost use mathlib.Core.Path.{_≡_};
@@ -72,9 +73,13 @@ pub fn lock_held(held: &mut [u8], time: Millis, out: &mut [u8]) -> Answer
     if held.len() != HELD_BYTES {
         return Answer::Refused(Refusal::LentBytesUnreadable);
     }
-    let h = crate::read_held(held);
-    let r = held_cells::lock_held(h, time, out);
-    leave(held, r)
+    let rule = Rule::Live(time);
+    let left = crate::read_kept(held, rule);
+    if !hold_records::put_cells(left, 0, out) {
+        return Answer::Refused(Refusal::BufferTooShort);
+    }
+    crate::write_held(left, held);
+    Answer::Done
 }
 
 // The cells of `picked` that are held at `time` or in `spent`.

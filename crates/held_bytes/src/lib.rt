@@ -2,6 +2,7 @@
 use hold_records::Held;
 use hold_records::Hold;
 use hold_records::Owner;
+use hold_records::Rule;
 use molecule::write;
 use table_bytes::Place;
 use units::Millis;
@@ -9,7 +10,9 @@ ghost use mathlib.Core.Path.{_≡_};
 ghost use Prim.Native.Nat.{_≤_};
 ghost use lib.ListN.{length};
 ghost use Rattle.molecule.specs.Write.{putAt};
+ghost use Rattle.out_points.specs.Tables.{keep};
 ghost use Rattle.hold_records.specs.Holds.{recordsOf};
+ghost use Rattle.hold_records.specs.Rules.{isKept};
 ghost use Rattle.table_bytes.specs.Places.{FitPlace};
 ghost use Rattle.held_bytes.specs.HeldBytes.{holdOf, placeFor, heldOf, heldAt, heldBytes};
 
@@ -72,6 +75,28 @@ pub fn read_held(s: &[u8]) -> Held
         i += 1;
     }
     g.count = molecule::fix_count(s) as usize;
+    g
+}
+
+// The records of the lent table that `rule` keeps, in order: no other place is read.
+pub fn read_kept(s: &[u8], rule: Rule) -> Held
+    ensures { λ r. ⌜ recordsOf r ≡ keep (isKept rule) (recordsOf (heldOf (now (s .entry)))) ⌝ }
+{
+    let mut g = hold_records::empty();
+    let count = molecule::fix_count(s) as usize;
+    let n = hold_records::used(count);
+    let mut to: usize = 0;
+    let mut i: usize = 0;
+    while i < n {
+        let p = table_bytes::place_of(s, i);
+        let x = hold_of(p);
+        i += 1;
+        if hold_records::kept(x, rule) {
+            g.records[to] = x;
+            to += 1;
+        }
+    }
+    g.count = to;
     g
 }
 

@@ -42,9 +42,13 @@ pub record Keeping (f : Hold → Bool) (h g : Held) (n to i : ℕ) : Type 0 wher
   pub whole : length (h .records) ≡ 256
   pub kept : take to (g .records) ≡ keep f (take i (h .records))
 
-pub keep-none : (f : Hold → Bool) (h : Held) {n : ℕ} → n ≡ min (h .count) 256 → length (h .records) ≡ 256 → Keeping f h h n 0 0
+-- into any table g
+pub keep-into : (f : Hold → Bool) (h g : Held) {n : ℕ} → n ≡ min (h .count) 256 → length (h .records) ≡ 256 → length (g .records) ≡ 256 → Keeping f h g n 0 0
 unfolding keep
-keep-none f h e l = record { within = omega arith; behind = omega arith; most = e; long = l; whole = l; kept = refl }
+keep-into f h g e w l = record { within = omega arith; behind = omega arith; most = e; long = l; whole = w; kept = refl }
+
+pub keep-none : (f : Hold → Bool) (h : Held) {n : ℕ} → n ≡ min (h .count) 256 → length (h .records) ≡ 256 → Keeping f h h n 0 0
+keep-none f h e l = keep-into f h h e l l
 
 module _ {f : Hold → Bool} {h g : Held} {n to i : ℕ} (k : Keeping f h g n to i) where
   pub keep-yes : (d : Hold) {r : Bool} → i < n → r ≡ f (getD (h .records) i d) → r ≡ true

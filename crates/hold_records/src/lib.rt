@@ -110,7 +110,8 @@ fn not_of(r: Hold, holder: u64) -> bool
     }
 }
 
-fn kept(r: Hold, rule: Rule) -> bool
+// Whether a table is to keep the record.
+pub fn kept(r: Hold, rule: Rule) -> bool
     ensures { λ b. ⌜ b ≡ isKept rule r ⌝ }
 {
     match rule {
