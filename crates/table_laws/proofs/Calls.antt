@@ -1,5 +1,5 @@
 -- What a call leaves, for any property of a list of records: the new list, or the table that it was given.
-use mathlib.Core.Path.{_≡_, refl, sym, subst}
+use mathlib.Core.Path.{_≡_, refl, sym, ap, subst}
 use Prim.Native.Nat.{ℕ, _+_}
 use mathlib.Core.List.{List, [], _++_, map}
 use mathlib.Core.Bool.{Bool, true, false, not, cond}
@@ -13,10 +13,10 @@ use Rattle.error.specs.declared.{Answer.Answer}
 use Rattle.out_points.specs.declared.OutPoint.{OutPoint}
 use Rattle.out_points.specs.OutPoints.{points}
 use Rattle.out_points.specs.Tables.{keep, done, refused, told, hasRoom, written}
-use Rattle.hold_records.specs.declared.{Owner.Owner, Hold.Hold, Held.Held, Holds.Holds, Taker.Taker}
+use Rattle.hold_records.specs.declared.{Owner.Owner, Hold.Hold, Held.Held, Taker.Taker}
 use Rattle.hold_records.specs.Holds.{recordsOf, heldBy, cellsOf, atMost256, isNotOf, holdFunding, isUnnamed, releaseForWatchtower, renewAll, holdForWatchtower, lockHeld, isLive, isBusy, firsts, others, ownerFor, takeCells}
 use Rattle.held_cells.proofs.CallLaws.{After}
-use Rattle.table_laws.specs.Holds.{Took, Locked}
+use Rattle.table_laws.specs.Holds.{Table, byValue, Took, Locked}
 
 -- the records that have not ended
 abbrev pub unended : Held → Millis → List Hold
@@ -52,13 +52,13 @@ module _ (P : List Hold → Type 0) (h : Held) where
   either₃ false n out₁ out₂ a g = refl
 
   -- what a call answered, read back from the table that it returned
-  pub back : (r : Holds) (a : After) → told recordsOf (r .answer) (r .held) ≡ a → Fine a → P (recordsOf h) → P (recordsOf (r .held))
+  pub back : (a : Answer) (g : Held) (o : After) → told recordsOf a g ≡ o → Fine o → P (recordsOf h) → P (recordsOf g)
   unfolding told
-  back r a e g s = by (r .answer) (subst Fine (sym e) g)
+  back a g o e f s = by a (subst Fine (sym e) f)
     where
-      by : (v : Answer) → Fine (told recordsOf v (r .held)) → P (recordsOf (r .held))
-      by Answer.Done g = g
-      by (Answer.Refused x) g = subst (λ (k : Held). P (recordsOf k)) (sym g) s
+      by : (v : Answer) → Fine (told recordsOf v g) → P (recordsOf g)
+      by Answer.Done f = f
+      by (Answer.Refused x) f = subst (λ (k : Held). P (recordsOf k)) (sym f) s
 
   at-most : (l : List Hold) → P l → Fine (atMost256 h l)
   unfolding atMost256
@@ -93,6 +93,32 @@ module _ (P : List Hold → Type 0) (h : Held) where
       (either₃ (hasRoom rest out₂) 13 out₁ out₂ _
       (either₃ (leb (length left + length taken) 256) 14 out₁ out₂ (done (left ++ map (heldBy (ownerFor taker now)) taken), written taken out₁, written rest out₂) s))))
 
+-- ---- a table by value, or another that means one: what a call does to the meaning is what the definition gives, or nothing
+
+pub data Step (a : Answer) (h g : Held) (o : After) : Type 0 where
+  goes : told recordsOf a g ≡ o → Step a h g o
+  stays : g ≡ h → Step a h g o
+
+pub record Faithful {T O : Type 0} (F : Table T O) : Type 0 where
+  pub alone : (s t : T) (a : Answer) (o : After) → F .says a t ≡ F .gives s o → Step a (F .held s) (F .held t) o
+  pub beside : (s t : T) (a : Answer) (b c : List ℕ) (o : After × List ℕ) → (F .says a t, c) ≡ F .givesWith s b o → Step a (F .held s) (F .held t) (o .0)
+  pub both : (s t : T) (a : Answer) (b₁ b₂ c₁ c₂ : List ℕ) (o : After × List ℕ × List ℕ) → (F .says a t, c₁, c₂) ≡ F .givesTwo s b₁ b₂ o → Step a (F .held s) (F .held t) (o .0)
+  pub beside-done : (s t : T) (b c : List ℕ) (o : After × List ℕ) → (F .says Answer.Done t, c) ≡ F .givesWith s b o → (told recordsOf Answer.Done (F .held t), c) ≡ o
+  pub both-done : (s t : T) (b₁ b₂ c₁ c₂ : List ℕ) (o : After × List ℕ × List ℕ) → (F .says Answer.Done t, c₁, c₂) ≡ F .givesTwo s b₁ b₂ o → (told recordsOf Answer.Done (F .held t), c₁, c₂) ≡ o
+
+pub by-value : Faithful byValue
+by-value = record {
+  alone = λ s t a o e. goes e;
+  beside = λ s t a b c o e. goes (ap (λ (x : After × List ℕ). x .0) e);
+  both = λ s t a b₁ b₂ c₁ c₂ o e. goes (ap (λ (x : After × List ℕ × List ℕ). x .0) e);
+  beside-done = λ s t b c o e. e;
+  both-done = λ s t b₁ b₂ c₁ c₂ o e. e;
+}
+
+pub moved : (P : List Hold → Type 0) {a : Answer} {h g : Held} {o : After} → Step a h g o → Fine P h o → P (recordsOf h) → P (recordsOf g)
+moved P {a} {h} {g} {o} (goes e) f s = back P h a g o e f s
+moved P (stays e) f s = subst (λ (k : Held). P (recordsOf k)) (sym e) s
+
 -- ---- what a call that is done leaves
 
 abbrev Ended₂ : List Hold → List ℕ → After × List ℕ → Type 0
@@ -103,45 +129,46 @@ abbrev Ended₃ : List Hold → List ℕ → List ℕ → After × List ℕ × L
 Ended₃ l a b (done k, x, y) = (k ≡ l) × (x ≡ a) × (y ≡ b)
 Ended₃ l a b (refused n g, x, y) = Unit {0}
 
-pub locked-done : {h : Held} {r : Holds} {now : Millis} {after : List ℕ} (t : Locked h r now after) → after ≡ written (cellsOf (unended h now)) (t .out)
-unfolding lockHeld told
-locked-done {h} {r} {now} {after} t =
-    let l : List Hold = unended h now in
-    let a : List ℕ = written (cellsOf l) (t .out) in
-    let e : Ended₂ l a (lockHeld h now (t .out)) = by (hasRoom (cellsOf l) (t .out)) in
-    let d : Ended₂ l a (told recordsOf (r .answer) (r .held), after) = subst (Ended₂ l a) (sym (t .says)) e in
-    let f : Ended₂ l a (told recordsOf Answer.Done (r .held), after) = subst (λ (v : Answer). Ended₂ l a (told recordsOf v (r .held), after)) (t .answered) d in
-    f .1
-  where
-    by : (c : Bool) → Ended₂ (unended h now) (written (cellsOf (unended h now)) (t .out))
-        (cond {A = After × List ℕ} c (done (unended h now), written (cellsOf (unended h now)) (t .out)) (refused 13 h, t .out))
-    by true = (refl, refl)
-    by false = tt
+module _ {T O : Type 0} {F : Table T O} (f : Faithful F) where
+  pub locked-done : {s t : T} {now : Millis} {after : List ℕ} (l : Locked F s t now after) → after ≡ written (cellsOf (unended (F .held s) now)) (l .out)
+  unfolding lockHeld told
+  locked-done {s} {t} {now} {after} l =
+      let left : List Hold = unended (F .held s) now in
+      let a : List ℕ = written (cellsOf left) (l .out) in
+      let e : Ended₂ left a (lockHeld (F .held s) now (l .out)) = by left (l .out) (hasRoom (cellsOf left) (l .out)) in
+      let d : Ended₂ left a (told recordsOf Answer.Done (F .held t), after) = subst (Ended₂ left a) (sym (f .beside-done s t (l .out) after _ (l .says))) e in
+      d .1
+    where
+      by : (left : List Hold) (out : List ℕ) (c : Bool) → Ended₂ left (written (cellsOf left) out) (cond {A = After × List ℕ} c (done left, written (cellsOf left) out) (refused 13 (F .held s), out))
+      by left out true = (refl, refl)
+      by left out false = tt
 
 module _ (l : List Hold) (a b : List ℕ) (h : Held) (out₁ out₂ : List ℕ) where
   or-refused : (c : Bool) (n : ℕ) (x : After × List ℕ × List ℕ) → Ended₃ l a b x → Ended₃ l a b (cond {A = After × List ℕ × List ℕ} c x (refused n h, out₁, out₂))
   or-refused true n x g = g
   or-refused false n x g = tt
 
-pub take-done : {h : Held} {r : Holds} {picked spent : List ℕ} {taker : Taker} {now : Millis} {taken refused : List ℕ} (t : Took h r picked spent taker now taken refused)
-    → (recordsOf (r .held) ≡ unended h now ++ map (heldBy (ownerFor taker now)) (given h now (points spent) (points picked)))
-    × (taken ≡ written (given h now (points spent) (points picked)) (t .out₁))
-    × (refused ≡ written (kept h now (points spent) (points picked)) (t .out₂))
-unfolding takeCells told
-take-done {h} {r} {picked} {spent} {taker} {now} {taken} {refused} t =
-    let left : List Hold = unended h now in
-    let gave : List OutPoint = given h now (points spent) (points picked) in
-    let rest : List OutPoint = kept h now (points spent) (points picked) in
-    let l : List Hold = left ++ map (heldBy (ownerFor taker now)) gave in
-    let a : List ℕ = written gave (t .out₁) in
-    let b : List ℕ = written rest (t .out₂) in
-    let or = or-refused l a b h (t .out₁) (t .out₂) in
-    let e : Ended₃ l a b (takeCells h picked spent taker now (t .out₁) (t .out₂)) =
-    or (readable OutPoints picked) 3 _
-    (or (readable OutPoints spent) 3 _
-    (or (hasRoom gave (t .out₁)) 13 _
-    (or (hasRoom rest (t .out₂)) 13 _
-    (or (leb (length left + length gave) 256) 14 (done l, a, b) (refl, refl, refl)))))
-    in
-    let d : Ended₃ l a b (told recordsOf (r .answer) (r .held), taken, refused) = subst (Ended₃ l a b) (sym (t .says)) e in
-    subst (λ (v : Answer). Ended₃ l a b (told recordsOf v (r .held), taken, refused)) (t .answered) d
+module _ {T O : Type 0} {F : Table T O} (f : Faithful F) where
+  pub take-done : {s t : T} {picked spent : List ℕ} {taker : Taker} {now : Millis} {taken refused : List ℕ} (k : Took F s t picked spent taker now taken refused)
+      → (recordsOf (F .held t) ≡ unended (F .held s) now ++ map (heldBy (ownerFor taker now)) (given (F .held s) now (points spent) (points picked)))
+      × (taken ≡ written (given (F .held s) now (points spent) (points picked)) (k .out₁))
+      × (refused ≡ written (kept (F .held s) now (points spent) (points picked)) (k .out₂))
+  unfolding takeCells told
+  take-done {s} {t} {picked} {spent} {taker} {now} {taken} {refused} k =
+      let h : Held = F .held s in
+      let left : List Hold = unended h now in
+      let gave : List OutPoint = given h now (points spent) (points picked) in
+      let rest : List OutPoint = kept h now (points spent) (points picked) in
+      let l : List Hold = left ++ map (heldBy (ownerFor taker now)) gave in
+      let a : List ℕ = written gave (k .out₁) in
+      let b : List ℕ = written rest (k .out₂) in
+      let or = or-refused l a b h (k .out₁) (k .out₂) in
+      let e : Ended₃ l a b (takeCells h picked spent taker now (k .out₁) (k .out₂)) =
+      or (readable OutPoints picked) 3 _
+      (or (readable OutPoints spent) 3 _
+      (or (hasRoom gave (k .out₁)) 13 _
+      (or (hasRoom rest (k .out₂)) 13 _
+      (or (leb (length left + length gave) 256) 14 (done l, a, b) (refl, refl, refl)))))
+      in
+      let d : Ended₃ l a b (told recordsOf Answer.Done (F .held t), taken, refused) = subst (Ended₃ l a b) (sym (f .both-done s t (k .out₁) (k .out₂) taken refused _ (k .says))) e in
+      d

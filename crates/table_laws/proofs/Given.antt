@@ -13,10 +13,10 @@ use Rattle.out_points.specs.Tables.{keep}
 use Rattle.out_points.proofs.EqualLaws.{point-same, point-refl}
 use Rattle.out_points.proofs.ListLaws.{length-points}
 use Rattle.out_points.proofs.AgainLaws.{written-back, points-fit, count-fits}
-use Rattle.hold_records.specs.declared.{Hold.Hold, Held.Held, Holds.Holds, Taker.Taker}
+use Rattle.hold_records.specs.declared.{Hold.Hold, Held.Held, Taker.Taker}
 use Rattle.hold_records.specs.Holds.{recordsOf, cellsOf, isLive, isBusy, isNew, firsts, others, ownerFor}
-use Rattle.table_laws.specs.Holds.{Stands, Took, Locked, InRange, HeldRefused, GivenHeld, LockedRefused, NotGiven, StaysHeld, GivenOnce}
-use Rattle.table_laws.proofs.Calls.{unended, isFree, given, kept, locked-done, take-done}
+use Rattle.table_laws.specs.Holds.{Table, byValue, Stands, Took, Locked, InRange, HeldRefused, GivenHeld, LockedRefused, NotGiven, StaysHeld, GivenOnce}
+use Rattle.table_laws.proofs.Calls.{unended, Faithful, by-value, isFree, given, kept, locked-done, take-done}
 use Rattle.table_laws.proofs.Holds.{busy-not-given}
 use Rattle.table_laws.proofs.Stands.{stands-keep, stands-has, taken-stands, still}
 
@@ -80,29 +80,30 @@ module _ (f : Hold → Bool) where
 
 -- ---- the written lists, read back
 
-module _ {h : Held} {r : Holds} {picked spent : List ℕ} {taker : Taker} {now : Millis} {taken refused : List ℕ} (t : Took h r picked spent taker now taken refused) where
-  short : length (points picked) < 2 ^ 32
-  short = let a = length-points picked in let b = count-fits picked (t .lent) in omega arith
+module _ {T O : Type 0} {F : Table T O} (f : Faithful F) where
+  module _ {s t : T} {picked spent : List ℕ} {taker : Taker} {now : Millis} {taken refused : List ℕ} (k : Took F s t picked spent taker now taken refused) where
+    short : length (points picked) < 2 ^ 32
+    short = let a = length-points picked in let b = count-fits picked (k .lent) in omega arith
 
-  taken-is : points taken ≡ given h now (points spent) (points picked)
-  taken-is =
-      let f = isFree h now (points spent) in
-      let a = firsts-few f [] (points picked) in
-      let b = short in
-      ap points (take-done t .1) ∙ written-back (given h now (points spent) (points picked)) (t .out₁) (omega arith) (firsts-fit f [] (points picked) (points-fit picked (t .lent)))
+    taken-is : points taken ≡ given (F .held s) now (points spent) (points picked)
+    taken-is =
+        let g = isFree (F .held s) now (points spent) in
+        let a = firsts-few g [] (points picked) in
+        let b = short in
+        ap points (take-done f k .1) ∙ written-back (given (F .held s) now (points spent) (points picked)) (k .out₁) (omega arith) (firsts-fit g [] (points picked) (points-fit picked (k .lent)))
 
-  refused-is : points refused ≡ kept h now (points spent) (points picked)
-  refused-is =
-      let f = isFree h now (points spent) in
-      let a = others-few f [] (points picked) in
-      let b = short in
-      ap points (take-done t .2) ∙ written-back (kept h now (points spent) (points picked)) (t .out₂) (omega arith) (others-fit f [] (points picked) (points-fit picked (t .lent)))
+    refused-is : points refused ≡ kept (F .held s) now (points spent) (points picked)
+    refused-is =
+        let g = isFree (F .held s) now (points spent) in
+        let a = others-few g [] (points picked) in
+        let b = short in
+        ap points (take-done f k .2) ∙ written-back (kept (F .held s) now (points spent) (points picked)) (k .out₂) (omega arith) (others-fit g [] (points picked) (points-fit picked (k .lent)))
 
-locked-is : {h : Held} {r : Holds} {now : Millis} {after : List ℕ} → InRange h → Locked h r now after → points after ≡ cellsOf (unended h now)
-locked-is {h} {r} {now} {after} i t =
-    let a = keep-few (isLive now) (recordsOf h) in
-    let b = i .few in
-    ap points (locked-done t) ∙ written-back (cellsOf (unended h now)) (t .out) (omega arith) (keep-fit (isLive now) (recordsOf h) (i .fit))
+  locked-is : {s t : T} {now : Millis} {after : List ℕ} → InRange (F .held s) → Locked F s t now after → points after ≡ cellsOf (unended (F .held s) now)
+  locked-is {s} {t} {now} {after} i l =
+      let a = keep-few (isLive now) (recordsOf (F .held s)) in
+      let b = i .few in
+      ap points (locked-done f l) ∙ written-back (cellsOf (unended (F .held s) now)) (l .out) (omega arith) (keep-fit (isLive now) (recordsOf (F .held s)) (i .fit))
 
 -- ---- the laws
 
@@ -125,18 +126,6 @@ live-busy : (h : Held) (now : Millis) (spent : List OutPoint) (x : Hold) → Sta
 unfolding isBusy
 live-busy h now spent x s l = rw (stands-has x (unended h now) (stands-keep x (isLive now) (recordsOf h) l s))
 
-pub held-refused : HeldRefused
-held-refused h r picked spent taker now taken refused t x s l =
-    let b = live-busy h now (points spent) x s l in (
-      ap (has (x .point)) (taken-is t) ∙ busy-not-given (unended h now) (points spent) (x .point) (points picked) b,
-      ap (has (x .point)) (refused-is t) ∙ others-has (isFree h now (points spent)) (x .point) [] (points picked) (ap not b),
-    )
-
-pub given-held : GivenHeld
-given-held h r picked spent taker now taken refused t p k =
-    subst (Stands _) (sym (take-done t .0))
-    (taken-stands (ownerFor taker now) p (unended h now) (given h now (points spent) (points picked)) (sym (ap (has p) (taken-is t)) ∙ k))
-
 -- of one pick, and nothing spent
 one-pick : (left : List Hold) (p : OutPoint)
     → (has p (cellsOf left) ≡ has p (others (λ q. not (isBusy left [] q)) [] (p ∷ []))) × (has p (cellsOf left) ≡ not (has p (firsts (λ q. not (isBusy left [] q)) [] (p ∷ []))))
@@ -147,19 +136,51 @@ one-pick left p = by (has p (cellsOf left))
     by true = (rw (point-refl p), refl)
     by false = (refl, rw (point-refl p))
 
-pub locked-refused : LockedRefused
-locked-refused h now i r after l q picked spent taker taken refused t p e f =
-    let o = one-pick (unended h now) p in
-    let a : has p (points after) ≡ has p (cellsOf (unended h now)) = ap (has p) (locked-is i l) in
-    let g : given h now (points spent) (points picked) ≡ given h now [] (p ∷ []) = rw (e, f) in
-    let k : kept h now (points spent) (points picked) ≡ kept h now [] (p ∷ []) = rw (e, f) in
-    (a ∙ o .0 ∙ sym (ap (has p) (refused-is t ∙ k)), a ∙ o .1 ∙ sym (ap (λ (x : List OutPoint). not (has p x)) (taken-is t ∙ g)))
+-- of any form of table that means one by value
+module _ {T O : Type 0} {F : Table T O} (f : Faithful F) where
+  pub refuses-held : HeldRefused F
+  refuses-held s t picked spent taker now taken refused k x q l =
+      let b = live-busy (F .held s) now (points spent) x q l in (
+        ap (has (x .point)) (taken-is f k) ∙ busy-not-given (unended (F .held s) now) (points spent) (x .point) (points picked) b,
+        ap (has (x .point)) (refused-is f k) ∙ others-has (isFree (F .held s) now (points spent)) (x .point) [] (points picked) (ap not b),
+      )
 
-not-given : (x : Hold) (h : Held) → Stands x (recordsOf h) → NotGiven x h
-not-given x h s r picked spent taker now taken refused t l = held-refused h r picked spent taker now taken refused t x s l .0
+  pub holds-given : GivenHeld F
+  holds-given s t picked spent taker now taken refused k p e =
+      subst (Stands _) (sym (take-done f k .0))
+      (taken-stands (ownerFor taker now) p (unended (F .held s) now) (given (F .held s) now (points spent) (points picked)) (sym (ap (has p) (taken-is f k)) ∙ e))
 
-pub stays-held : StaysHeld
-stays-held x g h s cs = let t = still x s cs in (t, not-given x h t)
+  pub refuses-locked : LockedRefused F
+  refuses-locked s now i t after l u picked spent taker taken refused k p e g =
+      let h : Held = F .held s in
+      let o = one-pick (unended h now) p in
+      let a : has p (points after) ≡ has p (cellsOf (unended h now)) = ap (has p) (locked-is f i l) in
+      let v : given h now (points spent) (points picked) ≡ given h now [] (p ∷ []) = rw (e, g) in
+      let w : kept h now (points spent) (points picked) ≡ kept h now [] (p ∷ []) = rw (e, g) in
+      (a ∙ o .0 ∙ sym (ap (has p) (refused-is f k ∙ w)), a ∙ o .1 ∙ sym (ap (λ (x : List OutPoint). not (has p x)) (taken-is f k ∙ v)))
 
-pub given-once : GivenOnce
-given-once f h r picked spent taker now taken refused t p k cs = not-given _ h (still _ (given-held f r picked spent taker now taken refused t p k) cs)
+  not-given : (x : Hold) (s : T) → Stands x (recordsOf (F .held s)) → NotGiven F x s
+  not-given x s q t picked spent taker now taken refused k l = refuses-held s t picked spent taker now taken refused k x q l .0
+
+  pub holds-on : StaysHeld F
+  holds-on x s t q cs = let r = still f x q cs in (r, not-given x t r)
+
+  pub gives-once : GivenOnce F
+  gives-once s t u picked spent taker now taken refused k p e cs = not-given _ u (still f _ (holds-given s t picked spent taker now taken refused k p e) cs)
+
+-- by value
+
+pub held-refused : HeldRefused byValue
+held-refused = refuses-held by-value
+
+pub given-held : GivenHeld byValue
+given-held = holds-given by-value
+
+pub locked-refused : LockedRefused byValue
+locked-refused = refuses-locked by-value
+
+pub stays-held : StaysHeld byValue
+stays-held = holds-on by-value
+
+pub given-once : GivenOnce byValue
+given-once = gives-once by-value

@@ -10,12 +10,11 @@ use Rattle.out_points.specs.declared.OutPoint.{OutPoint}
 use Rattle.out_points.specs.OutPoints.{eqPoint, has, points}
 use Rattle.out_points.proofs.EqualLaws.{point-same, point-refl}
 use Rattle.out_points.specs.Tables.{keep, renew}
-use Rattle.hold_records.specs.declared.{Owner.Owner, Hold.Hold, Held.Held}
+use Rattle.hold_records.specs.declared.{Owner.Owner, Hold.Hold}
 use Rattle.hold_records.specs.Holds.{recordsOf, heldBy, byOwner, cellsOf, isNotOf, isUnnamed, isTowerOn, renewAll, isLive, isBusy, isNew, firsts, ownerFor}
-use Rattle.held_cells.proofs.CallLaws.{After}
 use Rattle.table_laws.specs.Holds as run
-use Rattle.table_laws.specs.Holds.{Called, Reached, towers, OneEach}
-use Rattle.table_laws.proofs.Calls.{unended, back, hold-fine, watch-fine, release-fine, locked-fine, take-fine}
+use Rattle.table_laws.specs.Holds.{Table, byValue, Called, Reached, towers, OneEach}
+use Rattle.table_laws.proofs.Calls.{unended, Faithful, by-value, moved, hold-fine, watch-fine, release-fine, locked-fine, take-fine}
 
 abbrev Single : List Hold → Type 0
 Single l = (p : OutPoint) → towers p l ≤ 1
@@ -205,22 +204,29 @@ funding-single holder f l ps s p =
     let d = s p in
     omega arith
 
-step : {g h : Held} → Called g h → Single (recordsOf g) → Single (recordsOf h)
-step (run.hold {h} r holder cells e) s = back Single h r _ e (hold-fine Single h holder cells (funding-single holder (isNotOf holder) (recordsOf h) (points cells) s)) s
-step (run.watch {h} r cells now e) s = back Single h r _ e (watch-fine Single h cells now (renew-all (later now (record { 0 = 1800000 })) (points cells) (recordsOf h) s)) s
-step (run.release {h} r cells e) s = back Single h r _ e (release-fine Single h cells (keep-single (isUnnamed (points cells)) (recordsOf h) s)) s
-step (run.locked {h} r now out after e) s = back Single h r _ (ap (λ (x : After × List ℕ). x .0) e) (locked-fine Single h now out (keep-single (isLive now) (recordsOf h) s)) s
-step (run.take {h} r picked spent taker now out₁ out₂ after₁ after₂ e) s =
-    back Single h r _ (ap (λ (x : After × List ℕ × List ℕ). x .0) e)
-    (take-fine Single h picked spent taker now out₁ out₂ (take-single (unended h now) (points spent) (points picked) (ownerFor taker now) (keep-single (isLive now) (recordsOf h) s))) s
+module _ {T O : Type 0} {F : Table T O} (f : Faithful F) where
+  step : {s t : T} → Called F s t → Single (recordsOf (F .held s)) → Single (recordsOf (F .held t))
+  step (run.hold {s} {t} a holder cells e) q =
+      moved Single (f .alone s t a _ e) (hold-fine Single (F .held s) holder cells (funding-single holder (isNotOf holder) (recordsOf (F .held s)) (points cells) q)) q
+  step (run.watch {s} {t} a cells now e) q =
+      moved Single (f .alone s t a _ e) (watch-fine Single (F .held s) cells now (renew-all (later now (record { 0 = 1800000 })) (points cells) (recordsOf (F .held s)) q)) q
+  step (run.release {s} {t} a cells e) q = moved Single (f .alone s t a _ e) (release-fine Single (F .held s) cells (keep-single (isUnnamed (points cells)) (recordsOf (F .held s)) q)) q
+  step (run.locked {s} {t} a now out after e) q = moved Single (f .beside s t a out after _ e) (locked-fine Single (F .held s) now out (keep-single (isLive now) (recordsOf (F .held s)) q)) q
+  step (run.take {s} {t} a picked spent taker now out₁ out₂ after₁ after₂ e) q =
+      moved Single (f .both s t a out₁ out₂ after₁ after₂ _ e)
+      (take-fine Single (F .held s) picked spent taker now out₁ out₂
+      (take-single (unended (F .held s) now) (points spent) (points picked) (ownerFor taker now) (keep-single (isLive now) (recordsOf (F .held s)) q))) q
 
-single : {h : Held} → Reached h → Single (recordsOf h)
-unfolding towers
-single (run.empty e) = subst Single (sym e) (λ p. omega arith)
-single (run.next r c) = step c (single r)
+  single : {s : T} → Reached F s → Single (recordsOf (F .held s))
+  unfolding towers
+  single (run.empty e) = subst Single (sym e) (λ p. omega arith)
+  single (run.next r c) = step c (single r)
 
-pub one-each : {h : Held} → Reached h → OneEach h
-one-each r = single r
+  pub each-once : OneEach F
+  each-once s r = single r
+
+pub one-each : OneEach byValue
+one-each = each-once by-value
 
 -- ---- who gets a cell
 

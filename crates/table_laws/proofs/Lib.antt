@@ -2,4 +2,5 @@ pub mod Calls
 pub mod Exclusions
 pub mod Given
 pub mod Holds
+pub mod Lent
 pub mod Stands

@@ -10,13 +10,12 @@ use Rattle.out_points.specs.declared.{OutPoint.OutPoint}
 use Rattle.out_points.specs.OutPoints.{eqPoint, has, points}
 use Rattle.out_points.proofs.EqualLaws.{point-same, point-refl}
 use Rattle.out_points.specs.Tables.{keep, renew}
-use Rattle.hold_records.specs.declared.{Owner.Owner, Hold.Hold, Held.Held}
+use Rattle.hold_records.specs.declared.{Owner.Owner, Hold.Hold}
 use Rattle.hold_records.specs.Holds.{recordsOf, heldBy, byOwner, cellsOf, isNotOf, isUnnamed, isTowerOn, renewAll, isLive}
-use Rattle.held_cells.proofs.CallLaws.{After}
 use Rattle.held_cells.proofs.RenewLaws.{tower}
 use Rattle.table_laws.specs.Holds as run
-use Rattle.table_laws.specs.Holds.{Called, Stands, here, there, outlives, Outlived}
-use Rattle.table_laws.proofs.Calls.{unended, back, hold-fine, watch-fine, release-fine, locked-fine, take-fine}
+use Rattle.table_laws.specs.Holds.{Table, Called, Stands, here, there, outlives, Outlived}
+use Rattle.table_laws.proofs.Calls.{unended, Faithful, moved, hold-fine, watch-fine, release-fine, locked-fine, take-fine}
 
 -- ---- which calls it outlives
 
@@ -93,19 +92,22 @@ stands-has r l (there x k s) = by (eqPoint (r .point) (x .point)) (stands-has r 
 
 -- ---- over any list of calls
 
-outlived : (x : Hold) {g h : Held} (c : Called g h) → outlives x c ≡ true → Stands x (recordsOf g) → Stands x (recordsOf h)
-unfolding outlives
-outlived x (run.hold {h} r holder cells e) o s =
-    back (Stands x) h r _ e (hold-fine (Stands x) h holder cells (stands-append x (keep (isNotOf holder) (recordsOf h)) _ (stands-keep x (isNotOf holder) (recordsOf h) o s))) s
-outlived x (run.watch {h} r cells now e) o s =
-    back (Stands x) h r _ e (watch-fine (Stands x) h cells now (stands-renewed (later now (record { 0 = 1800000 })) x (points cells) (recordsOf h) o s)) s
-outlived x (run.release {h} r cells e) o s = back (Stands x) h r _ e (release-fine (Stands x) h cells (stands-keep x (isUnnamed (points cells)) (recordsOf h) o s)) s
-outlived x (run.locked {h} r now out after e) o s =
-    back (Stands x) h r _ (ap (λ (y : After × List ℕ). y .0) e) (locked-fine (Stands x) h now out (stands-keep x (isLive now) (recordsOf h) o s)) s
-outlived x (run.take {h} r picked spent taker now out₁ out₂ after₁ after₂ e) o s =
-    back (Stands x) h r _ (ap (λ (y : After × List ℕ × List ℕ). y .0) e)
-    (take-fine (Stands x) h picked spent taker now out₁ out₂ (stands-append x (unended h now) _ (stands-keep x (isLive now) (recordsOf h) o s))) s
+module _ {T O : Type 0} {F : Table T O} (f : Faithful F) (x : Hold) where
+  outlived : {s t : T} (c : Called F s t) → outlives x c ≡ true → Stands x (recordsOf (F .held s)) → Stands x (recordsOf (F .held t))
+  unfolding outlives
+  outlived (run.hold {s} {t} a holder cells e) o q =
+      moved (Stands x) (f .alone s t a _ e)
+      (hold-fine (Stands x) (F .held s) holder cells (stands-append x (keep (isNotOf holder) (recordsOf (F .held s))) _ (stands-keep x (isNotOf holder) (recordsOf (F .held s)) o q))) q
+  outlived (run.watch {s} {t} a cells now e) o q =
+      moved (Stands x) (f .alone s t a _ e) (watch-fine (Stands x) (F .held s) cells now (stands-renewed (later now (record { 0 = 1800000 })) x (points cells) (recordsOf (F .held s)) o q)) q
+  outlived (run.release {s} {t} a cells e) o q =
+      moved (Stands x) (f .alone s t a _ e) (release-fine (Stands x) (F .held s) cells (stands-keep x (isUnnamed (points cells)) (recordsOf (F .held s)) o q)) q
+  outlived (run.locked {s} {t} a now out after e) o q =
+      moved (Stands x) (f .beside s t a out after _ e) (locked-fine (Stands x) (F .held s) now out (stands-keep x (isLive now) (recordsOf (F .held s)) o q)) q
+  outlived (run.take {s} {t} a picked spent taker now out₁ out₂ after₁ after₂ e) o q =
+      moved (Stands x) (f .both s t a out₁ out₂ after₁ after₂ _ e)
+      (take-fine (Stands x) (F .held s) picked spent taker now out₁ out₂ (stands-append x (unended (F .held s) now) _ (stands-keep x (isLive now) (recordsOf (F .held s)) o q))) q
 
-pub still : (x : Hold) {g h : Held} → Stands x (recordsOf g) → Outlived x g h → Stands x (recordsOf h)
-still x s run.none = s
-still x s (run.then cs c o) = outlived x c o (still x s cs)
+  pub still : {s t : T} → Stands x (recordsOf (F .held s)) → Outlived F x s t → Stands x (recordsOf (F .held t))
+  still q run.none = q
+  still q (run.then cs c o) = outlived c o (still q cs)

@@ -1,2 +1,3 @@
+pub mod LentSteps
 pub mod StepLaws
 pub mod Ways

@@ -1,5 +1,5 @@
 -- What a call's contract says is a step.
-use mathlib.Core.Path.{_≡_}
+use mathlib.Core.Path.{_≡_, subst}
 use Prim.Native.Nat.{ℕ}
 use mathlib.Core.List.{List}
 use Rattle.units.specs.declared.{Millis.Millis, BlockNumber.BlockNumber}
@@ -14,29 +14,30 @@ use Rattle.table_laws.specs.Holds as holds
 use Rattle.table_laws.specs.Exclusions as maps
 
 module _ {h : Held} (r : Holds) where
-  pub hold-step : (holder : ℕ) (cells : List ℕ) → told recordsOf (r .answer) (r .held) ≡ holdFunding h holder cells → holds.Called h (r .held)
-  hold-step holder cells e = holds.hold r holder cells e
+  pub hold-step : (holder : ℕ) (cells : List ℕ) → told recordsOf (r .answer) (r .held) ≡ holdFunding h holder cells → holds.Called holds.byValue h (r .held)
+  hold-step holder cells e = holds.hold (r .answer) holder cells e
 
-  pub release-step : (cells : List ℕ) → told recordsOf (r .answer) (r .held) ≡ releaseForWatchtower h cells → holds.Called h (r .held)
-  release-step cells e = holds.release r cells e
+  pub release-step : (cells : List ℕ) → told recordsOf (r .answer) (r .held) ≡ releaseForWatchtower h cells → holds.Called holds.byValue h (r .held)
+  release-step cells e = holds.release (r .answer) cells e
 
-  pub watch-step : (cells : List ℕ) (time : Millis) → told recordsOf (r .answer) (r .held) ≡ holdForWatchtower h cells time → holds.Called h (r .held)
-  watch-step cells time e = holds.watch r cells time e
+  pub watch-step : (cells : List ℕ) (time : Millis) → told recordsOf (r .answer) (r .held) ≡ holdForWatchtower h cells time → holds.Called holds.byValue h (r .held)
+  watch-step cells time e = holds.watch (r .answer) cells time e
 
-  pub lock-step : (time : Millis) (out after : List ℕ) → (told recordsOf (r .answer) (r .held), after) ≡ lockHeld h time out → holds.Called h (r .held)
-  lock-step time out after e = holds.locked r time out after e
+  pub lock-step : (time : Millis) (out after : List ℕ) → (told recordsOf (r .answer) (r .held), after) ≡ lockHeld h time out → holds.Called holds.byValue h (r .held)
+  lock-step time out after e = holds.locked (r .answer) time out after e
 
   pub take-step : (picked spent : List ℕ) (taker : Taker) (time : Millis) (out₁ out₂ after₁ after₂ : List ℕ)
-      → (told recordsOf (r .answer) (r .held), after₁, after₂) ≡ takeCells h picked spent taker time out₁ out₂ → holds.Called h (r .held)
-  take-step picked spent taker time out₁ out₂ after₁ after₂ e = holds.take r picked spent taker time out₁ out₂ after₁ after₂ e
+      → (told recordsOf (r .answer) (r .held), after₁, after₂) ≡ takeCells h picked spent taker time out₁ out₂ → holds.Called holds.byValue h (r .held)
+  take-step picked spent taker time out₁ out₂ after₁ after₂ e = holds.take (r .answer) picked spent taker time out₁ out₂ after₁ after₂ e
 
-  pub lock-done : (time : Millis) (out after : List ℕ) → (told recordsOf (r .answer) (r .held), after) ≡ lockHeld h time out → (r .answer ≡ Answer.Done → holds.Locked h r time after)
-  lock-done time out after e d = record { out = out; says = e; answered = d }
+  pub lock-done : (time : Millis) (out after : List ℕ) → (told recordsOf (r .answer) (r .held), after) ≡ lockHeld h time out → (r .answer ≡ Answer.Done → holds.Locked holds.byValue h (r .held) time after)
+  lock-done time out after e d = record { out = out; says = subst (λ (a : Answer). (told recordsOf a (r .held), after) ≡ lockHeld h time out) d e }
 
   pub take-done : (picked spent : List ℕ) (taker : Taker) (time : Millis) (out₁ out₂ after₁ after₂ : List ℕ)
       → (told recordsOf (r .answer) (r .held), after₁, after₂) ≡ takeCells h picked spent taker time out₁ out₂
-      → (AllBytes picked → r .answer ≡ Answer.Done → holds.Took h r picked spent taker time after₁ after₂)
-  take-done picked spent taker time out₁ out₂ after₁ after₂ e b d = record { out₁ = out₁; out₂ = out₂; says = e; answered = d; lent = b }
+      → (AllBytes picked → r .answer ≡ Answer.Done → holds.Took holds.byValue h (r .held) picked spent taker time after₁ after₂)
+  take-done picked spent taker time out₁ out₂ after₁ after₂ e b d =
+      record { out₁ = out₁; out₂ = out₂; says = subst (λ (a : Answer). (told recordsOf a (r .held), after₁, after₂) ≡ takeCells h picked spent taker time out₁ out₂) d e; lent = b }
 
 module _ {m : LiveCellsExclusionMap} (r : Excluded) where
   pub commit-step : (hash : List ℕ) (block : BlockNumber) → told entriesOf (r .answer) (r .map) ≡ commitCall m hash block → maps.Called m (r .map)

@@ -1,5 +1,5 @@
 // Each call on the table of holds with, beside its own contract, that it is a step of a list of calls (`Called`, crates/table_laws): the laws over such
-// lists are about calls of the code. `Locked` and `Took` are what those laws say of a call that is done. The same for the exclusion map in `maps`.
+// lists are about calls of the code. `Locked` and `Took` are what those laws say of a call that is done. The same for a lent table in `lent`, and for the exclusion map in `maps`.
 use hold_records::Held;
 use hold_records::Holds;
 use hold_records::Taker;
@@ -9,35 +9,36 @@ ghost use Rattle.arithmetic.specs.LittleEndian.{AllBytes};
 ghost use Rattle.error.specs.declared.{Answer.Answer};
 ghost use Rattle.out_points.specs.Tables.{told};
 ghost use Rattle.hold_records.specs.Holds.{recordsOf, holdFunding, releaseForWatchtower, holdForWatchtower, lockHeld, takeCells};
-ghost use Rattle.table_laws.specs.Holds.{Called, Locked, Took};
+ghost use Rattle.table_laws.specs.Holds.{byValue, Called, Locked, Took};
 
+pub mod lent;
 pub mod maps;
 
 pub fn hold_funding(held: Held, holder: u64, cells: &[u8]) -> Holds
     ensures { λ r. ⌜ told recordsOf (r .answer) (r .held) ≡ holdFunding held holder (now (cells .entry)) ⌝ }
-    ensures { λ r. ⌜ Called held (r .held) ⌝ }
+    ensures { λ r. ⌜ Called byValue held (r .held) ⌝ }
 {
     held_cells::hold_funding(held, holder, cells)
 }
 
 pub fn release_for_watchtower(held: Held, cells: &[u8]) -> Holds
     ensures { λ r. ⌜ told recordsOf (r .answer) (r .held) ≡ releaseForWatchtower held (now (cells .entry)) ⌝ }
-    ensures { λ r. ⌜ Called held (r .held) ⌝ }
+    ensures { λ r. ⌜ Called byValue held (r .held) ⌝ }
 {
     held_cells::release_for_watchtower(held, cells)
 }
 
 pub fn hold_for_watchtower(held: Held, cells: &[u8], time: Millis) -> Holds
     ensures { λ r. ⌜ told recordsOf (r .answer) (r .held) ≡ holdForWatchtower held (now (cells .entry)) time ⌝ }
-    ensures { λ r. ⌜ Called held (r .held) ⌝ }
+    ensures { λ r. ⌜ Called byValue held (r .held) ⌝ }
 {
     held_cells::hold_for_watchtower(held, cells, time)
 }
 
 pub fn lock_held(held: Held, time: Millis, out: &mut [u8]) -> Holds
     ensures { λ r. ⌜ (told recordsOf (r .answer) (r .held), now (out .exit)) ≡ lockHeld held time (now (out .entry)) ⌝ }
-    ensures { λ r. ⌜ Called held (r .held) ⌝ }
-    ensures { λ r. ⌜ (r .answer ≡ Answer.Done → Locked held r time (now (out .exit))) ⌝ }
+    ensures { λ r. ⌜ Called byValue held (r .held) ⌝ }
+    ensures { λ r. ⌜ (r .answer ≡ Answer.Done → Locked byValue held (r .held) time (now (out .exit))) ⌝ }
 {
     held_cells::lock_held(held, time, out)
 }
@@ -52,8 +53,8 @@ pub fn take(
     refused: &mut [u8],
 ) -> Holds
     ensures { λ r. ⌜ (told recordsOf (r .answer) (r .held), now (taken .exit), now (refused .exit)) ≡ takeCells held (now (picked .entry)) (now (spent .entry)) taker time (now (taken .entry)) (now (refused .entry)) ⌝ }
-    ensures { λ r. ⌜ Called held (r .held) ⌝ }
-    ensures { λ r. ⌜ (AllBytes (now (picked .entry)) → r .answer ≡ Answer.Done → Took held r (now (picked .entry)) (now (spent .entry)) taker time (now (taken .exit)) (now (refused .exit))) ⌝ }
+    ensures { λ r. ⌜ Called byValue held (r .held) ⌝ }
+    ensures { λ r. ⌜ (AllBytes (now (picked .entry)) → r .answer ≡ Answer.Done → Took byValue held (r .held) (now (picked .entry)) (now (spent .entry)) taker time (now (taken .exit)) (now (refused .exit))) ⌝ }
 {
     held_cells::take(held, picked, spent, taker, time, taken, refused)
 }

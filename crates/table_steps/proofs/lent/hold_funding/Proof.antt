@@ -1,0 +1,11 @@
+use Rattle.table_steps.proofs.Ways.{ways}
+use Rattle.table_steps.proofs.lent.hold_funding.Statement.{statement}
+use Rattle.table_steps.proofs.lent.hold_funding.Tie as tie
+
+pub hold-funding-spec : {M : Type 1} → statement M
+hold-funding-spec =
+    tie.close
+    (tie.spec
+    (λ c κs. search ways)  -- hold-funding-requires
+    (λ c. search ways)  -- same-length
+    (λ c. search ways))  -- returns
