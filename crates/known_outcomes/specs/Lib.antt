@@ -1,5 +1,6 @@
 pub mod CaseFiles
 pub mod Decided
+pub mod FullTables
 pub mod Outcomes
 pub mod Replays
 pub mod Runs

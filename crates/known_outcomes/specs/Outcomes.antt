@@ -71,21 +71,21 @@ abbrev pub tokensTx : List ℕ
 tokensTx = spending (inputs 2) (token 100 ∷ []) (amount 5 ∷ [])
 
 -- two cells, of index 1 and 2
-abbrev cellA : OutPoint
+abbrev pub cellA : OutPoint
 cellA = record { hash = record { a = 0; b = 0; c = 0; d = 0 }; index = 1 }
 
-abbrev cellB : OutPoint
+abbrev pub cellB : OutPoint
 cellB = record { hash = record { a = 0; b = 0; c = 0; d = 0 }; index = 2 }
 
-abbrev ms : ℕ → Millis
+abbrev pub ms : ℕ → Millis
 ms n = record { 0 = n }
 
 -- room for so many out points
-abbrev room : ℕ → List ℕ
+abbrev pub room : ℕ → List ℕ
 room n = replicate (4 + 36 * n) 0
 
 -- a call's number, and the index of each out point in the buffer that it leaves
-abbrev listed : ℕ × List ℕ → List ℕ
+abbrev pub listed : ℕ × List ℕ → List ℕ
 listed (n, out) = n ∷ map (λ p. p .index) (points out)
 
 -- the number of a call that returns a table, and what the table then means

@@ -1,0 +1,14 @@
+-- Every refusal of the calls on holds is what the definitions compute.
+use mathlib.Core.Path.{_≡_, refl}
+use Rattle.molecule.specs.Partial.{All}
+use Rattle.hold_records.specs.Holds.{isNotOf, holdFunding, isUnnamed, releaseForWatchtower, lockHeld}
+use Rattle.known_outcomes.specs.Outcomes.{Outcome}
+use Rattle.known_outcomes.specs.FullTables.{fullTables}
+use Rattle.known_outcomes.proofs.Computing.{computing}
+use Rattle.known_outcomes.proofs.Rows.{_and_, done}
+
+pub known-full-tables : All (λ (o : Outcome). o .computed ≡ o .expected) fullTables
+unfolding computing isNotOf holdFunding isUnnamed releaseForWatchtower lockHeld
+known-full-tables =
+    refl and refl and refl and refl and refl and refl and refl and refl and refl and refl and refl and refl
+    and refl and refl and refl and refl and refl and refl and refl and refl and refl and refl and refl and refl and done
