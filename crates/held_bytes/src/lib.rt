@@ -1,6 +1,7 @@
 // The table of holds as lent bytes.
 use hold_records::Held;
 use hold_records::Hold;
+use hold_records::MOST_RECORDS;
 use hold_records::Owner;
 use hold_records::Rule;
 use molecule::write;
@@ -20,9 +21,6 @@ pub mod calls;
 
 // How many bytes a lent table has: a count and 256 places.
 pub const HELD_BYTES: usize = 12_292;
-
-// How many places.
-const MOST: usize = 256;
 
 // What a place holds: kind 0 is a funding, and the number its holder; any other the watchtower, and the number the end.
 fn hold_of(p: Place) -> Hold
@@ -68,7 +66,7 @@ pub fn read_held(s: &[u8]) -> Held
 {
     let mut g = hold_records::empty();
     let mut i: usize = 0;
-    while i < MOST {
+    while i < MOST_RECORDS {
         let p = table_bytes::place_of(s, i);
         let x = hold_of(p);
         g.records[i] = x;

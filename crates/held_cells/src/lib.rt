@@ -5,6 +5,7 @@ use error::Refusal;
 use hold_records::Held;
 use hold_records::Hold;
 use hold_records::Holds;
+use hold_records::MOST_RECORDS;
 use hold_records::Owner;
 use hold_records::Rule;
 use hold_records::Taker;
@@ -27,8 +28,6 @@ pub const WATCHTOWER_HOLD_MS: u64 = 1_800_000;
 
 // How long a cell that the watchtower took stays held while its transaction is built and sent.
 pub const WATCHTOWER_PICK_HOLD_MS: u64 = 60_000;
-
-const MOST: usize = 256;
 
 // Whether a record stays when the watchtower's holds on `cells` go.
 fn unnamed(r: Hold, cells: &[u8]) -> bool
@@ -143,7 +142,7 @@ fn renew_all(h: Held, cells: &[u8], end: Millis) -> Holds
     while i < n {
         let point = out_points::point_of(cells, i);
         let at = tower_place(g, point);
-        if MOST <= at {
+        if MOST_RECORDS <= at {
             return hold_records::refuse(h, Refusal::TooManyHolds);
         }
         let owner = Owner::Watchtower(end);
@@ -179,7 +178,7 @@ pub fn hold_funding(held: Held, holder: u64, cells: &[u8]) -> Holds
     let rest = hold_records::keep(held, rule);
     let count = rest.count;
     let n = molecule::fix_count(cells) as usize;
-    if MOST - count < n {
+    if MOST_RECORDS - count < n {
         return hold_records::refuse(held, Refusal::TooManyHolds);
     }
     let g = append(rest, holder, cells, n);

@@ -1,4 +1,5 @@
 // Records of holds on cells, and what works on them alone: the table goes in by value and comes back by value.
+use arithmetic::sizes;
 use error::Answer;
 use error::Refusal;
 use molecule::write;
@@ -19,7 +20,7 @@ ghost use Rattle.hold_records.specs.Rules.{isKept, putIf};
 ghost use Rattle.hold_records.specs.Holds.{recordsOf, cellsOf, emptyTable, isNotOf, isLive};
 
 // The most records that a table holds.
-const MOST: usize = 256;
+pub const MOST_RECORDS: usize = 256;
 
 // Who holds a cell: an opening's funding, by its holder, or the watchtower, until an end.
 pub enum Owner {
@@ -82,10 +83,10 @@ pub fn empty() -> Held
 pub fn used(count: usize) -> usize
     ensures { λ r. ⌜ r ≡ min count 256 ⌝ }
 {
-    if count < MOST {
+    if count < MOST_RECORDS {
         return count;
     }
-    MOST
+    MOST_RECORDS
 }
 
 // Whether a record still holds at `now`: funding always, a watchtower until its end.
@@ -167,22 +168,12 @@ fn put_points(h: Held, from: usize, out: &mut [u8], at: usize) -> usize
     to
 }
 
-// The difference, and 0 where there is none.
-fn less(a: usize, b: usize) -> usize
-    ensures { λ r. ⌜ r ≡ a - b ⌝ }
-{
-    if a < b {
-        return 0;
-    }
-    a - b
-}
-
 // Puts the list of the cells of the records from `from` on at the start of out, and answers whether there is room for all of it: else it puts nothing.
 pub fn put_cells(h: Held, from: usize, out: &mut [u8]) -> bool
     ensures { λ r. ⌜ r ≡ hasRoom (cellsOf (drop from (recordsOf h))) (now (out .entry)) ⌝ }
     ensures { λ _. ⌜ now (out .exit) ≡ putIf (cellsOf (drop from (recordsOf h))) (now (out .entry)) ⌝ }
 {
-    let n = less(used(h.count), from);
+    let n = sizes::saturating_sub(used(h.count), from);
     if out.len() < 4 + 36 * n {
         return false;
     }

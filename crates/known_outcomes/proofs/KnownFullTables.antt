@@ -5,7 +5,7 @@ use Rattle.hold_records.specs.Holds.{isNotOf, holdFunding, isUnnamed, releaseFo
 use Rattle.known_outcomes.specs.Outcomes.{Outcome}
 use Rattle.known_outcomes.specs.FullTables.{fullTables}
 use Rattle.known_outcomes.proofs.Computing.{computing}
-use Rattle.known_outcomes.proofs.Rows.{_and_, done}
+use Rattle.known_cases.proofs.Rows.{_and_, done}
 
 pub known-full-tables : All (λ (o : Outcome). o .computed ≡ o .expected) fullTables
 unfolding computing isNotOf holdFunding isUnnamed releaseForWatchtower lockHeld

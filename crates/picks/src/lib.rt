@@ -3,6 +3,7 @@ use error::Refusal;
 use hold_records::Held;
 use hold_records::Hold;
 use hold_records::Holds;
+use hold_records::MOST_RECORDS;
 use hold_records::Owner;
 use molecule::write;
 use out_points::OutPoint;
@@ -18,8 +19,6 @@ ghost use Rattle.out_points.specs.Tables.{told, hasRoom, written};
 ghost use Rattle.hold_records.specs.Holds.{recordsOf, cellsOf, isBusy, firsts};
 ghost use Rattle.hold_records.specs.Rules.{putIf};
 ghost use Rattle.picks.specs.Places.{isAmong, marked, Marks, asked, isFirst, select, Tallied, headIs, unmatched, takeFrom};
-
-const MOST: usize = 256;
 
 // How many bytes the list of a table's cells has at most: a count and 256 out points.
 const CELLS_BYTES: usize = 9220;
@@ -195,7 +194,7 @@ fn tally(h: Held, cells: &[u8], picked: &[u8], spent: &[u8], marks: &[u8], owner
         if first(cells, picked, spent, marks, false, k) {
             count += 1;
             let last = g.count;
-            if last < MOST {
+            if last < MOST_RECORDS {
                 let point = out_points::point_of(picked, k);
                 g.records[last] = Hold { point, owner };
                 g.count = last + 1;
@@ -278,7 +277,7 @@ fn take_free(
         return hold_records::refuse(held, Refusal::BufferTooShort);
     }
     let from = hold_records::used(live.count);
-    if MOST - from < count as usize {
+    if MOST_RECORDS - from < count as usize {
         return hold_records::refuse(held, Refusal::TooManyHolds);
     }
     let after = t.held;

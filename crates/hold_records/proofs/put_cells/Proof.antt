@@ -7,7 +7,7 @@ put-cells-spec =
     tie.close
     (tie.spec
     (λ c κs. search ways)  -- used-requires
-    (λ c κs. search ways)  -- less-requires
+    (λ c κs. search ways)  -- saturating-sub-requires
     (λ c. search ways)  -- mul-if1
     (λ c. search ways)  -- add-if1
     (λ c. search ways)  -- returns

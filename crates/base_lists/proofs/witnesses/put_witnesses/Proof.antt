@@ -17,7 +17,7 @@ put-witnesses-spec =
     (λ c κs. search ways)  -- put-list-requires
     (λ c. search ways)  -- same-length
     (λ c. search ways)  -- returns
-    (λ c κs. search ways)  -- less-requires
+    (λ c κs. search ways)  -- saturating-sub-requires
     (λ c κs. search ways)  -- put-list-requires-2
     (λ c. search ways)  -- same-length-2
     (λ c. search ways))  -- returns-2

@@ -12,6 +12,6 @@ witnesses-size-spec =
     (λ c κs. search ways)  -- picked-behind-requires
     (λ c κs. search ways)  -- list-size-requires
     (λ c. search ways)  -- returns
-    (λ c κs. search ways)  -- less-requires
+    (λ c κs. search ways)  -- saturating-sub-requires
     (λ c κs. search ways)  -- list-size-requires-2
     (λ c. search ways))  -- returns-2
