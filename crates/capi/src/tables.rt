@@ -1,4 +1,4 @@
-// The calls on tables of cells that the caller keeps as bytes and lends to each call: thin functions over crates held_bytes and exclusion_bytes.
+// The calls on tables of cells that the caller keeps as bytes and lends to each call: thin functions over crates held_bytes and exclusions.
 use hold_records::Taker;
 use units::BlockNumber;
 use units::Millis;
@@ -6,11 +6,11 @@ ghost use mathlib.Core.Path.{_≡_};
 ghost use mathlib.Core.Bool.{cond};
 ghost use Rattle.hold_records.specs.declared.{Taker.Taker};
 ghost use Rattle.hold_records.specs.Holds.{holdFunding, releaseForWatchtower, holdForWatchtower, lockHeld, unavailable, takeCells};
-ghost use Rattle.exclusions.specs.Exclusions.{commitOn, removeOn, applyOn, addOn, migrateOn};
+ghost use Rattle.exclusion_entries.specs.Exclusions.{commitOn, removeOn, truncateOn, applyOn, addOn, migrateOn};
 ghost use Rattle.table_bytes.specs.Lent.{lentTable, lentWith, lentWithTwo, lentRead, withBytes, toldNumber};
 ghost use Rattle.held_bytes.specs.HeldBytes.{heldOf, heldAt, heldBytes};
 ghost use Rattle.exclusion_entries.specs.Entries.{excludedAt};
-ghost use Rattle.exclusion_bytes.specs.ExclusionBytes.{lentMap, lentList, truncateOn};
+ghost use Rattle.exclusions.specs.LentMap.{lentMap, lentList};
 
 // ---- holds
 
@@ -105,7 +105,7 @@ pub extern "C" fn basinpantry_take(
 pub extern "C" fn basinpantry_exclusions_add(map: &mut [u8], hash: &[u8], tx: &[u8]) -> u32
     ensures { λ r. ⌜ toldNumber (withBytes excludedAt) r (now (map .exit)) ≡ lentMap (now (map .entry)) (addOn (now (map .entry)) (excludedAt (now (map .entry))) (now (hash .entry)) (now (tx .entry))) ⌝ }
 {
-    let a = exclusion_bytes::calls::add(map, hash, tx);
+    let a = exclusions::add(map, hash, tx);
     a.number() as u32
 }
 
@@ -115,7 +115,7 @@ pub extern "C" fn basinpantry_exclusions_commit(map: &mut [u8], hash: &[u8], blo
     ensures { λ r. ⌜ toldNumber (withBytes excludedAt) r (now (map .exit)) ≡ lentMap (now (map .entry)) (commitOn (now (map .entry)) (excludedAt (now (map .entry))) (now (hash .entry)) (record { 0 = block })) ⌝ }
 {
     let number = BlockNumber(block);
-    let a = exclusion_bytes::calls::commit(map, hash, number);
+    let a = exclusions::commit(map, hash, number);
     a.number() as u32
 }
 
@@ -124,7 +124,7 @@ pub extern "C" fn basinpantry_exclusions_commit(map: &mut [u8], hash: &[u8], blo
 pub extern "C" fn basinpantry_exclusions_remove(map: &mut [u8], hash: &[u8]) -> u32
     ensures { λ r. ⌜ toldNumber (withBytes excludedAt) r (now (map .exit)) ≡ lentMap (now (map .entry)) (removeOn (now (map .entry)) (excludedAt (now (map .entry))) (now (hash .entry))) ⌝ }
 {
-    let a = exclusion_bytes::calls::remove(map, hash);
+    let a = exclusions::remove(map, hash);
     a.number() as u32
 }
 
@@ -138,7 +138,7 @@ pub extern "C" fn basinpantry_exclusions_migrate_funding_tx(
 ) -> u32
     ensures { λ r. ⌜ toldNumber (withBytes excludedAt) r (now (map .exit)) ≡ lentMap (now (map .entry)) (migrateOn (now (map .entry)) (excludedAt (now (map .entry))) (now (old .entry)) (now (new .entry)) (now (tx .entry))) ⌝ }
 {
-    let a = exclusion_bytes::calls::migrate_funding_tx(map, old, new, tx);
+    let a = exclusions::migrate_funding_tx(map, old, new, tx);
     a.number() as u32
 }
 
@@ -148,7 +148,7 @@ pub extern "C" fn basinpantry_exclusions_truncate(map: &mut [u8], tip: u64) -> u
     ensures { λ r. ⌜ toldNumber (withBytes excludedAt) r (now (map .exit)) ≡ lentMap (now (map .entry)) (truncateOn (now (map .entry)) (excludedAt (now (map .entry))) (record { 0 = tip })) ⌝ }
 {
     let number = BlockNumber(tip);
-    let a = exclusion_bytes::calls::truncate(map, number);
+    let a = exclusions::truncate(map, number);
     a.number() as u32
 }
 
@@ -157,6 +157,6 @@ pub extern "C" fn basinpantry_exclusions_truncate(map: &mut [u8], tip: u64) -> u
 pub extern "C" fn basinpantry_exclusions_apply(map: &[u8], out: &mut [u8]) -> u32
     ensures { λ r. ⌜ (r, now (out .exit)) ≡ lentList (now (map .entry)) (now (out .entry)) (applyOn (excludedAt (now (map .entry))) (now (out .entry))) ⌝ }
 {
-    let a = exclusion_bytes::calls::apply(map, out);
+    let a = exclusions::apply(map, out);
     a.number() as u32
 }

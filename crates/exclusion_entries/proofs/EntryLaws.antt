@@ -5,7 +5,7 @@ use mathlib.Core.Bool.{Bool, true, false, cond}
 use mathlib.Core.List.{List, [], _∷_, _++_, append-assoc}
 use mathlib.Core.Option.{Option, none, some}
 use native.Mathlib.Omega.{arith}
-use borrow.Author.Tests.{leb-true, eqb-true}
+use borrow.Author.Tests.{le-leb, leb-true, eqb-true}
 use lib.Dec.{eqb, leb}
 use lib.ListN.{length, take, drop, length-append, length-drop, take-append-drop}
 use lib.Seq.{take-add, drop-drop}
@@ -19,7 +19,7 @@ use Rattle.out_points.proofs.PointLaws.{length-hash}
 use Rattle.out_points.proofs.ListLaws.{length-points, length-list}
 use Rattle.molecule.proofs.ItemsLaws.{bytes-drop}
 use Rattle.out_points.proofs.AgainLaws.{word-again, bytes-again, list-before, word-back, num-fits, points-fit, count-fits, behind}
-use Rattle.exclusions.specs.Exclusions.{Entry, excluded}
+use Rattle.exclusion_entries.specs.Exclusions.{Entry, excluded}
 use Rattle.exclusion_entries.specs.Entries.{kindOf, blockOf, stateBytes, entryBytes, entriesBytes, FitEntry, stateOf, entryOf, sizeOf, entriesIn, isEntry, areEntries}
 
 -- ---- one entry
@@ -96,7 +96,42 @@ entry-fits x b = record {
     by true = omega arith
     by false = num-fits 8 x 36 b
 
--- an entry whose numbers fit, whatever bytes follow
+-- what is read of an entry that was written, whatever bytes follow
+kind-back : (e : Entry) (z : List ℕ) → u32At (entryBytes e ++ z) 32 ≡ kindOf (e .committed)
+unfolding entryBytes stateBytes kindOf
+kind-back e z =
+    let N = toLe 8 (blockOf (e .committed)) in
+    ap (λ (x : List ℕ). u32At x 32) (simp append-assoc) ∙ word-back 4 (kindOf (e .committed)) (hashBytes (e .hash)) (N ++ (pointList (e .points) ++ z)) 32 (length-hash (e .hash)) (fits (e .committed))
+  where
+    fits : (c : Option BlockNumber) → kindOf c < 256 ^ 4
+    fits none = omega arith
+    fits (some b) = omega arith
+
+block-back : (e : Entry) (z : List ℕ) → blockOf (e .committed) < 2 ^ 64 → u64At (entryBytes e ++ z) 36 ≡ blockOf (e .committed)
+unfolding entryBytes stateBytes
+block-back e z h =
+    let K = toLe 4 (kindOf (e .committed)) in
+    ap (λ (x : List ℕ). u64At x 36) (simp append-assoc)
+    ∙ word-back 8 (blockOf (e .committed)) (hashBytes (e .hash) ++ K) (pointList (e .points) ++ z) 36 (simp (length-append, length-hash, length-toLe)) h
+
+count-back : (e : Entry) (z : List ℕ) → length (e .points) < 2 ^ 32 → u32At (entryBytes e ++ z) 44 ≡ length (e .points)
+unfolding entryBytes stateBytes pointList
+count-back e z h =
+    let K = toLe 4 (kindOf (e .committed)) in
+    let N = toLe 8 (blockOf (e .committed)) in
+    ap (λ (x : List ℕ). u32At x 44) (simp append-assoc)
+    ∙ word-back 4 (length (e .points)) (hashBytes (e .hash) ++ K ++ N) (bytesOf (e .points) ++ z) 44 (simp (length-append, length-hash, length-toLe)) h
+
+entry-is : (e : Entry) (z : List ℕ) → isEntry (entryBytes e ++ z) ≡ true
+unfolding isEntry kindOf blockOf
+entry-is e z = by (e .committed) (kind-back e z) (block-back e z)
+  where
+    by : (c : Option BlockNumber) → u32At (entryBytes e ++ z) 32 ≡ kindOf c → (blockOf c < 2 ^ 64 → u64At (entryBytes e ++ z) 36 ≡ blockOf c)
+        → cond (eqb (u32At (entryBytes e ++ z) 32) 0) (eqb (u64At (entryBytes e ++ z) 36) 0) (eqb (u32At (entryBytes e ++ z) 32) 1) ≡ true
+    by none k b = rw (k, b (omega arith))
+    by (some n) k b = rw k
+
+-- and where its numbers fit, all of it
 pub entry-back : (e : Entry) (z : List ℕ) → FitEntry e → entryOf (entryBytes e ++ z) ≡ e
 unfolding entryOf entryBytes stateBytes stateOf kindOf blockOf hashBytes byte32At
 entry-back e z f =
@@ -112,17 +147,11 @@ entry-back e z f =
     let eb : u64At s 8 ≡ e .hash .b = ap (λ (x : List ℕ). u64At x 8) (simp append-assoc) ∙ word-back 8 (e .hash .b) A (C ++ (D ++ (K ++ (N ++ (P ++ z))))) 8 (length-toLe 8 (e .hash .a)) (f .b-fits) in
     let ec : u64At s 16 ≡ e .hash .c = ap (λ (x : List ℕ). u64At x 16) (simp append-assoc) ∙ word-back 8 (e .hash .c) (A ++ B) (D ++ (K ++ (N ++ (P ++ z)))) 16 (simp (length-append, length-toLe)) (f .c-fits) in
     let ed : u64At s 24 ≡ e .hash .d = ap (λ (x : List ℕ). u64At x 24) (simp append-assoc) ∙ word-back 8 (e .hash .d) (A ++ B ++ C) (K ++ (N ++ (P ++ z))) 24 (simp (length-append, length-toLe)) (f .d-fits) in
-    let ek : u32At s 32 ≡ kindOf (e .committed) = ap (λ (x : List ℕ). u32At x 32) (simp append-assoc) ∙ word-back 4 (kindOf (e .committed)) (A ++ B ++ C ++ D) (N ++ (P ++ z)) 32 (simp (length-append, length-toLe)) (kind-fits (e .committed)) in
-    let en : u64At s 36 ≡ blockOf (e .committed) = ap (λ (x : List ℕ). u64At x 36) (simp append-assoc) ∙ word-back 8 (blockOf (e .committed)) (A ++ B ++ C ++ D ++ K) (P ++ z) 36 (simp (length-append, length-toLe)) (f .block-fits) in
     let g : s ≡ A ++ B ++ C ++ D ++ K ++ N ++ (P ++ z) = simp append-assoc in
     let ep : points (drop 44 s) ≡ e .points =
     ap (λ (x : List ℕ). points (drop 44 x)) g ∙ ap points (behind (A ++ B ++ C ++ D ++ K ++ N) (P ++ z) 44 (simp (length-append, length-toLe))) ∙ list-before (e .points) z (f .count-fits) (f .points-fit) in
-    rw (ea, eb, ec, ed, ek, en, ep) (ap (λ (c : Option BlockNumber). record { hash = e .hash; committed = c; points = e .points }) (state-back (e .committed)))
+    rw (ea, eb, ec, ed, kind-back e z, block-back e z (f .block-fits), ep) (ap (λ (c : Option BlockNumber). record { hash = e .hash; committed = c; points = e .points }) (state-back (e .committed)))
   where
-    kind-fits : (c : Option BlockNumber) → kindOf c < 256 ^ 4
-    kind-fits none = omega arith
-    kind-fits (some b) = omega arith
-
     state-back : (c : Option BlockNumber) → stateOf (kindOf c) (blockOf c) ≡ c
     state-back none = refl
     state-back (some b) = refl
@@ -150,6 +179,17 @@ entries-back (e ∷ l) z f =
     let d : drop (sizeOf s) s ≡ entriesBytes l ++ z = ap (λ (n : ℕ). drop n s) c ∙ behind (entryBytes e) (entriesBytes l ++ z) (length (entryBytes e)) refl in
     ap (λ (x : List ℕ). entryOf x ∷ entriesIn (length l) (drop (sizeOf x) x)) (append-assoc (entryBytes e) (entriesBytes l) z)
     ∙ ap₂ (λ (a : Entry) (r : List Entry). a ∷ r) h (ap (entriesIn (length l)) d ∙ entries-back l z (f .1))
+
+-- with at most m out points in all they have the form
+pub entries-are : (l : List Entry) (m : ℕ) (z : List ℕ) → length (excluded l) ≤ m → m < 2 ^ 32 → areEntries (length l) m (entriesBytes l ++ z) ≡ true
+unfolding areEntries entriesBytes excluded
+entries-are [] m z h k = refl
+entries-are (e ∷ l) m z h k =
+    let y = entriesBytes l ++ z in
+    let n = length-append (e .points) (excluded l) in
+    let d : drop (48 + 36 * length (e .points)) (entryBytes e ++ y) ≡ y = behind (entryBytes e) y (48 + 36 * length (e .points)) (length-entry e) in
+    ap (areEntries (suc (length l)) m) (append-assoc (entryBytes e) (entriesBytes l) z)
+    ∙ rw (entry-is e y, count-back e y (omega arith), le-leb (length (e .points)) m (omega arith), d) (entries-are l (m - length (e .points)) z (omega arith) (omega arith))
 
 -- what a turn of the pass knows: the entry at the start of x is one, and the others follow
 module _ (n m : ℕ) (x : List ℕ) (k : areEntries (suc n) m x ≡ true) where

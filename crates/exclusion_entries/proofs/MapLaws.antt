@@ -4,20 +4,20 @@ use Prim.Native.Nat.{ℕ, zero, suc, _+_, _-_, _*_, _^_, _≤_, _<_}
 use mathlib.Core.Bool.{Bool, true, false, cond}
 use mathlib.Core.List.{List, [], _++_, append-assoc}
 use native.Mathlib.Omega.{arith}
-use borrow.Author.Tests.{eqb-true, leb-true, eq-eqb}
+use borrow.Author.Tests.{eqb-true, leb-true, eq-eqb, le-leb}
 use lib.Dec.{eqb, leb}
 use lib.ListN.{length, take, drop, replicate, length-append, length-drop, length-replicate}
 use lib.Seq.{drop-drop, take-at, take-add}
 use Rattle.arithmetic.specs.LittleEndian.{le, toLe, AllBytes, numAt, u32At}
 use Rattle.arithmetic.proofs.LittleEndianLaws.{length-toLe, num-some}
 use Rattle.molecule.specs.Partial.{All}
-use Rattle.molecule.specs.Write.{splice}
-use Rattle.molecule.proofs.WriteLaws.{splice-zero}
+use Rattle.molecule.specs.Write.{splice, putAt}
+use Rattle.molecule.proofs.WriteLaws.{put-yes, splice-zero}
 use Rattle.molecule.proofs.ItemsLaws.{bytes-drop}
 use Rattle.out_points.proofs.AgainLaws.{word-again, word-back, behind}
-use Rattle.exclusions.specs.Exclusions.{Entry, excluded}
+use Rattle.exclusion_entries.specs.Exclusions.{Entry, excluded}
 use Rattle.exclusion_entries.specs.Entries.{entryBytes, entriesBytes, mapBytes, FitEntry, entryOf, sizeOf, entriesIn, excludedAt, areEntries, isMap}
-use Rattle.exclusion_entries.proofs.EntryLaws.{length-entry, points-count, first-room, rest-are, entries-long, entries-fit, entries-back, entries-again, points-most}
+use Rattle.exclusion_entries.proofs.EntryLaws.{length-entry, points-count, entries-long, entries-fit, entries-back, entries-are, first-room, rest-are, entries-again, entries-size, points-most}
 use Rattle.exclusion_entries.proofs.SpliceLaws.{splice-same}
 
 -- ---- what the form says
@@ -108,14 +108,36 @@ pub map-fits : (s : List ℕ) → AllBytes s → All FitEntry (excludedAt s)
 unfolding excludedAt
 map-fits s b = entries-fit (u32At s 0) (drop 4 s) (bytes-drop 4 s b)
 
-pub map-back : (l : List Entry) (z : List ℕ) → length l < 2 ^ 32 → All FitEntry l → excludedAt (mapBytes l ++ z) ≡ l
-unfolding excludedAt mapBytes
-map-back l z h f =
-    let C = toLe 4 (length l) in
-    let g : C ++ entriesBytes l ++ z ≡ C ++ (entriesBytes l ++ z) = append-assoc C (entriesBytes l) z in
-    let c : u32At (C ++ entriesBytes l ++ z) 0 ≡ length l = ap (λ (x : List ℕ). u32At x 0) g ∙ word-back 4 (length l) [] (entriesBytes l ++ z) 0 refl h in
-    let d : drop 4 (C ++ entriesBytes l ++ z) ≡ entriesBytes l ++ z = ap (drop 4) g ∙ behind C (entriesBytes l ++ z) 4 (length-toLe 4 (length l)) in
-    ap₂ entriesIn c d ∙ entries-back l z f
+pub map-size : (l : List Entry) → length (mapBytes l) ≡ 4 + 48 * length l + 36 * length (excluded l)
+unfolding mapBytes
+map-size l = omega (arith, length-append (toLe 4 (length l)) (entriesBytes l), length-toLe 4 (length l), entries-size l)
+
+module _ (l : List Entry) (z : List ℕ) where
+  count-back : length l < 2 ^ 32 → u32At (mapBytes l ++ z) 0 ≡ length l
+  unfolding mapBytes
+  count-back h = ap (λ (x : List ℕ). u32At x 0) (append-assoc (toLe 4 (length l)) (entriesBytes l) z) ∙ word-back 4 (length l) [] (entriesBytes l ++ z) 0 refl h
+
+  rest-back : drop 4 (mapBytes l ++ z) ≡ entriesBytes l ++ z
+  unfolding mapBytes
+  rest-back = ap (drop 4) (append-assoc (toLe 4 (length l)) (entriesBytes l) z) ∙ behind (toLe 4 (length l)) (entriesBytes l ++ z) 4 (length-toLe 4 (length l))
+
+  pub map-back : length l < 2 ^ 32 → All FitEntry l → excludedAt (mapBytes l ++ z) ≡ l
+  unfolding excludedAt
+  map-back h f = ap₂ entriesIn (count-back h) rest-back ∙ entries-back l z f
+
+  map-is : length l ≤ 64 → length (excluded l) ≤ 512 → length (mapBytes l ++ z) ≡ 21508 → isMap (mapBytes l ++ z) ≡ true
+  unfolding isMap
+  map-is h k n =
+      rw (eq-eqb (length (mapBytes l ++ z)) 21508 n, count-back (omega arith), le-leb (length l) 64 h, rest-back) (entries-are l 512 z k (omega arith))
+
+-- a table of at most so many entries and out points, put where one was
+pub put-is : (s : List ℕ) (l : List Entry) → isMap s ≡ true → length l ≤ 64 → length (excluded l) ≤ 512 → isMap (putAt s 0 (mapBytes l)) ≡ true
+put-is s l g h k =
+    let n = map-size l in
+    let x = mapBytes l ++ drop (length (mapBytes l)) s in
+    let e : putAt s 0 (mapBytes l) ≡ x = put-yes s 0 (mapBytes l) (omega (arith, map-long s g)) ∙ splice-zero s (mapBytes l) in
+    let d = length-append (mapBytes l) (drop (length (mapBytes l)) s) in
+    ap isMap e ∙ map-is l (drop (length (mapBytes l)) s) h k (omega (arith, length-drop (length (mapBytes l)) s, map-long s g))
 
 pub splice-back : (s : List ℕ) (l : List Entry) {o : List ℕ} → length l < 2 ^ 32 → All FitEntry l → o ≡ splice s 0 (mapBytes l) → excludedAt o ≡ l
 splice-back s l h f e = ap excludedAt (e ∙ splice-zero s (mapBytes l)) ∙ map-back l (drop (length (mapBytes l)) s) h f

@@ -9,7 +9,7 @@ use Rattle.arithmetic.specs.LittleEndian.{u32At, u64At}
 use Rattle.units.specs.{declared.BlockNumber.BlockNumber, Units.isAtLeast}
 use Rattle.out_points.specs.declared.{Byte32.Byte32}
 use Rattle.out_points.specs.OutPoints.{eqHash, byte32At}
-use Rattle.exclusions.specs.Exclusions.{hasHash, isRecent}
+use Rattle.exclusion_entries.specs.Exclusions.{hasHash, isRecent}
 use Rattle.exclusion_entries.specs.declared.{Rule.Rule}
 use Rattle.exclusion_entries.specs.Entries.{stateOf, entryOf, isEntry}
 use Rattle.exclusion_entries.specs.Survey.{keeps, takes}

@@ -8,7 +8,7 @@ use borrow.Author.Tests.{not-true, not-false}
 use lib.ListN.{length, take, drop, length-append}
 use Rattle.molecule.specs.Partial.{All}
 use Rattle.out_points.specs.Tables.{keep, renew}
-use Rattle.exclusions.specs.Exclusions.{Entry, excluded}
+use Rattle.exclusion_entries.specs.Exclusions.{Entry, excluded}
 use Rattle.exclusion_entries.specs.declared.{Rule.Rule, Survey.Survey}
 use Rattle.exclusion_entries.specs.Entries.{entryBytes, entriesBytes, excludedAt, isMap}
 use Rattle.exclusion_entries.specs.Survey.{keeps, takes, stay, ahead, behind, front, loses, lostOne, tookOne, stayed, turned, sweep, start, surveyOf}

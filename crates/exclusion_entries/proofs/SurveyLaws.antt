@@ -13,7 +13,7 @@ use Rattle.units.specs.declared.{BlockNumber.BlockNumber}
 use Rattle.molecule.specs.Layout.{part, word, fixCount}
 use Rattle.out_points.specs.declared.{Byte32.Byte32}
 use Rattle.out_points.specs.OutPoints.{eqHash, byte32At}
-use Rattle.exclusions.specs.Exclusions.{hasHash}
+use Rattle.exclusion_entries.specs.Exclusions.{hasHash}
 use Rattle.exclusion_entries.specs.declared.{Rule.Rule, Words.Words, Survey.Survey}
 use Rattle.exclusion_entries.specs.Entries.{entryOf, sizeOf, entriesIn, excludedAt, isEntry, areEntries, isMap}
 use Rattle.exclusion_entries.specs.Survey.{keeps, takes, lostOne, tookOne, stayed, turned, sweep, start, wordsOf, mayTouch, stepped, surveyOf}

@@ -8,7 +8,7 @@ use Rattle.arithmetic.specs.LittleEndian.{toLe, u32At, u64At}
 use Rattle.units.specs.declared.{BlockNumber.BlockNumber}
 use Rattle.molecule.specs.Partial.{All}
 use Rattle.out_points.specs.OutPoints.{Fit, byte32At, points, hashBytes, pointList}
-use Rattle.exclusions.specs.Exclusions.{Entry}
+use Rattle.exclusion_entries.specs.Exclusions.{Entry}
 
 -- ---- written: the hash (32), the kind (4), the block (8), the list of the out points
 

@@ -5,7 +5,7 @@ use mathlib.Core.List.{List, [], _∷_}
 use lib.{Dec.eqb, ListN.length}
 use Rattle.arithmetic.specs.LittleEndian.{u64At}
 use Rattle.out_points.specs.Tables.{keep}
-use Rattle.exclusions.specs.Exclusions.{Entry, hasHash, isRecent}
+use Rattle.exclusion_entries.specs.Exclusions.{Entry, hasHash, isRecent}
 use Rattle.exclusion_entries.specs.declared.{Rule.Rule, Words.Words, Survey.Survey}
 use Rattle.exclusion_entries.specs.Entries.{entryOf, excludedAt, isEntry, isMap}
 

@@ -7,7 +7,7 @@ ghost use mathlib.Core.Path.{_≡_};
 ghost use mathlib.Core.Bool.{true, false};
 ghost use Prim.Native.Nat.{_≤_};
 ghost use Rattle.arithmetic.specs.LittleEndian.{u32At};
-ghost use Rattle.exclusions.specs.Exclusions.{hasHash, isRecent};
+ghost use Rattle.exclusion_entries.specs.Exclusions.{hasHash, isRecent};
 ghost use Rattle.exclusion_entries.specs.Entries.{entryOf, isEntry};
 ghost use Rattle.exclusion_entries.specs.Survey.{keeps, takes, stayed, turned, start, wordsOf, mayTouch, stepped, surveyOf};
 

@@ -1,49 +1,297 @@
--- The ways out of the calls.
-use mathlib.Core.Path.{_≡_, sym, ap, _∙_}
-use Prim.Native.Nat.{ℕ}
-use mathlib.Core.Bool.{false}
-use mathlib.Core.List.{List, map}
-use borrow.Author.Tests.{eq-eqb, ne-eqb}
+-- The calls on a lent map: one law for each way out.
+use mathlib.Core.Path.{_≡_, refl, sym, ap, ap₂, _∙_}
+use Prim.Native.Nat.{ℕ, _+_, _*_, _^_, _≤_, _<_}
+use mathlib.Core.Bool.{Bool, true, false, not, cond}
+use mathlib.Core.List.{List, [], _∷_, _++_, map}
+use native.Mathlib.Omega.{arith}
+use borrow.Author.Tests.{le-leb, lt-leb, eq-eqb, ne-eqb, not-true, not-false}
 use lib.ListN.{length}
-use Rattle.units.specs.declared.BlockNumber.{BlockNumber}
-use Rattle.error.specs.Refusal.{number}
-use Rattle.error.specs.declared.Refusal.{Refusal}
-use Rattle.out_points.specs.OutPoints.{byte32At}
-use Rattle.out_points.specs.declared.Byte32.{Byte32}
-use Rattle.exclusions.specs.declared.{Rule.Rule, LiveCellsExclusionMap.LiveCellsExclusionMap}
-use Rattle.out_points.specs.Tables.{done, refused}
-use Rattle.exclusions.specs.Exclusions.{entriesOf, hasHash, committedAt, commitOn, commitCall, without, removeOn, removeCall, truncated}
-use Rattle.exclusions.specs.Rows.{rowsOf, entries, keeps, sift, marked}
-use Rattle.exclusions.proofs.EntryLaws.{After, entries-of, entries-marked, entries-sift}
+use Rattle.arithmetic.specs.LittleEndian.{toLe, AllBytes}
+use Rattle.arithmetic.proofs.LittleEndianLaws.{length-toLe}
+use Rattle.error.specs.declared.{Refusal.Refusal, Answer.Answer}
+use Rattle.error.specs.Refusal.{number, answered}
+use Rattle.units.specs.declared.{BlockNumber.BlockNumber}
+use Rattle.molecule.specs.Molecule.{readable, option}
+use Rattle.molecule.specs.Partial.{All}
+use Rattle.molecule.specs.Write.{splice, putAt}
+use Rattle.molecule.proofs.HeaderLaws.{option-readable}
+use Rattle.molecule.proofs.WriteLaws.{put-yes, splice-zero, splice-length}
+use Rattle.transaction.specs.Ckb.{Transaction}
+use Rattle.out_points.specs.declared.{Byte32.Byte32}
+use Rattle.out_points.specs.OutPoints.{byte32At, bytesOf, pointList}
+use Rattle.out_points.specs.Tables.{Outcome, done, told, keep, renew, hasRoom, written}
+use Rattle.out_points.proofs.ListLaws.{length-list, length-bytes}
+use Rattle.exclusion_entries.specs.Exclusions.{Entry, hasHash, committedAt, commitOn, without, removeOn, truncated, truncateOn, excluded, applyOn, pending, fitting, entering, addOn, entered, migrateOn}
+use Rattle.table_bytes.specs.Lent.{After, leaving, withBytes}
+use Rattle.exclusion_entries.specs.declared.{Rule.Rule, Survey.Survey}
+use Rattle.exclusion_entries.specs.Entries.{mapBytes, FitEntry, excludedAt, isMap}
+use Rattle.exclusion_entries.specs.Survey.{keeps, takes, stay, loses, surveyOf}
+use Rattle.exclusion_entries.proofs.EntryLaws.{entries-size}
+use Rattle.exclusion_entries.proofs.MapLaws.{map-long, map-few, map-count, map-points, map-same, map-fits, map-size, splice-back}
+use Rattle.exclusion_entries.proofs.SpliceLaws.{splice-under}
+use Rattle.exclusion_entries.proofs.StayLaws.{stay-size, stay-all, told-lost, told-points, told-bad, told-good}
+use Rattle.exclusions.specs.LentMap.{lentMap, lentList}
+use Rattle.exclusions.proofs.EnterLaws.{read-yes}
 
--- what a rule that leaves one hash out leaves
-pub without-is : (m : LiveCellsExclusionMap) (h : Byte32) (g : LiveCellsExclusionMap) → rowsOf g ≡ sift (Rule.Except h) false (rowsOf m) → entriesOf g ≡ without h (entriesOf m)
-unfolding without keeps hasHash
-without-is m h g k = entries-of g ∙ (ap entries k ∙ (entries-sift (Rule.Except h) (rowsOf m) false ∙ ap (without h) (sym (entries-of m))))
+read-none : (tx : List ℕ) → length tx ≡ 0 → readable (option Transaction) tx ≡ true
+read-none tx z = option-readable Transaction tx ∙ rw (eq-eqb (length tx) 0 z)
 
-module _ (m : LiveCellsExclusionMap) (s : List ℕ) where
-  pub commit-bad : (block : BlockNumber) {r : After} → (length s ≡ 32 → ⊥) → r ≡ refused (number Refusal.LentBytesUnreadable) m → r ≡ commitCall m s block
-  unfolding commitOn number
-  commit-bad block n e = e ∙ rw (ne-eqb (length s) 32 n)
+-- ---- bytes that are no table
 
-  pub commit-done : (block : BlockNumber) {h : Byte32} (g : LiveCellsExclusionMap) {r : After} → length s ≡ 32 → h ≡ byte32At s 0
-      → rowsOf g ≡ map (marked h block) (rowsOf m) → r ≡ done (entriesOf g) → r ≡ commitCall m s block
-  unfolding commitOn
-  commit-done block {h} g {r} n e k t =
-      let w : entriesOf g ≡ map (committedAt h block) (entriesOf m)
-      = entries-of g ∙ (ap entries k ∙ (entries-marked h block (rowsOf m) ∙ ap (map (committedAt h block)) (sym (entries-of m)))) in
-      t ∙ (ap done w ∙ rw (eq-eqb (length s) 32 n, e))
+module _ {T : Type 0} (s : List ℕ) (o : Outcome T (List Entry)) where
+  pub lent-bad : (rule : Rule) {v : Survey} → v ≡ surveyOf rule s → not (v .good) ≡ true → told (withBytes excludedAt) (Answer.Refused Refusal.LentBytesUnreadable) s ≡ lentMap s o
+  unfolding lentMap told number
+  lent-bad rule e h = rw (told-bad rule s e h)
 
-  pub remove-bad : {r : After} → (length s ≡ 32 → ⊥) → r ≡ refused (number Refusal.LentBytesUnreadable) m → r ≡ removeCall m s
-  unfolding removeOn number
-  remove-bad n e = e ∙ rw (ne-eqb (length s) 32 n)
+  lent-on : {a : After (List Entry)} → isMap s ≡ true → a ≡ leaving mapBytes s o → a ≡ lentMap s o
+  unfolding lentMap
+  lent-on g e = e ∙ rw g
 
-  pub remove-done : {h : Byte32} (g : LiveCellsExclusionMap) {r : After} → length s ≡ 32 → h ≡ byte32At s 0
-      → rowsOf g ≡ sift (Rule.Except h) false (rowsOf m) → r ≡ done (entriesOf g) → r ≡ removeCall m s
-  unfolding removeOn
-  remove-done {h} g {r} n e k t = t ∙ (ap done (without-is m h g k) ∙ rw (eq-eqb (length s) 32 n, e))
+-- ---- a table that stays as it was
 
-pub truncate-done : (m : LiveCellsExclusionMap) (tip : BlockNumber) (g : LiveCellsExclusionMap) → rowsOf g ≡ sift (Rule.Fresh tip) false (rowsOf m)
-    → entriesOf g ≡ truncated tip (entriesOf m)
-unfolding truncated keeps
-truncate-done m tip g k = entries-of g ∙ (ap entries k ∙ (entries-sift (Rule.Fresh tip) (rowsOf m) false ∙ ap (truncated tip) (sym (entries-of m))))
+same-left : (s : List ℕ) → isMap s ≡ true → AllBytes s → told (withBytes excludedAt) Answer.Done s ≡ leaving {T = List ℕ} mapBytes s (done (excludedAt s))
+unfolding told leaving withBytes
+same-left s g b =
+    let L = excludedAt s in
+    let room : 0 + length (mapBytes L) ≤ length s = omega (arith, map-size L, map-count s g, map-few s g, map-points s g, map-long s g) in
+    ap (λ (x : List ℕ). done (L, x)) (sym (put-yes s 0 (mapBytes L) room ∙ map-same s g b))
+
+-- ---- only entries that stay
+
+kept-left : (rule : Rule) (s : List ℕ) {o : List ℕ} → isMap s ≡ true → AllBytes s → o ≡ splice s 0 (mapBytes (stay (keeps rule) (takes rule) false (excludedAt s)))
+    → told (withBytes excludedAt) Answer.Done o ≡ leaving {T = List ℕ} mapBytes s (done (stay (keeps rule) (takes rule) false (excludedAt s)))
+unfolding told leaving withBytes
+kept-left rule s {o} g b e =
+    let L = excludedAt s in
+    let K = stay (keeps rule) (takes rule) false L in
+    let less = stay-size (keeps rule) (takes rule) false L in
+    let few : length K < 2 ^ 32 = omega (arith, entries-size K, entries-size L, map-count s g, map-few s g, map-points s g) in
+    let room : 0 + length (mapBytes K) ≤ length s = omega (arith, map-size K, entries-size K, entries-size L, map-count s g, map-few s g, map-points s g, map-long s g) in
+    let means : excludedAt o ≡ K = splice-back s K few (stay-all (keeps rule) (takes rule) FitEntry false L (map-fits s b)) e in
+    ap₂ (λ (l : List Entry) (x : List ℕ). done (l, x)) means (e ∙ sym (put-yes s 0 (mapBytes K) room))
+
+-- by a rule that takes none, the entries that stay are those that are kept
+stay-keep : (f p : Entry → Bool) → ((e : Entry) → p e ≡ false) → (l : List Entry) → stay f p false l ≡ keep f l
+unfolding stay keep
+stay-keep f p n [] = refl
+stay-keep f p n (e ∷ l) = rw (n e, stay-keep f p n l)
+
+stay-removed : (h : Byte32) (l : List Entry) → stay (keeps (Rule.Remove h)) (takes (Rule.Remove h)) false l ≡ without h l
+unfolding keeps takes without
+stay-removed h l = stay-keep (keeps (Rule.Remove h)) (takes (Rule.Remove h)) (λ e. refl) l
+
+stay-truncated : (tip : BlockNumber) (l : List Entry) → stay (keeps (Rule.Truncate tip)) (takes (Rule.Truncate tip)) false l ≡ truncated tip l
+unfolding keeps takes truncated
+stay-truncated tip l = stay-keep (keeps (Rule.Truncate tip)) (takes (Rule.Truncate tip)) (λ e. refl) l
+
+-- ---- add
+
+keep-all : (f : Entry → Bool) → ((e : Entry) → f e ≡ true) → (l : List Entry) → keep f l ≡ l
+unfolding keep
+keep-all f n [] = refl
+keep-all f n (e ∷ l) = rw (n e) (ap (λ (r : List Entry). e ∷ r) (keep-all f n l))
+
+entering-some : (s : List ℕ) (l : List Entry) (hash : Byte32) (tx : List ℕ) → (length tx ≡ 0 → ⊥) → fitting s (renew (hasHash hash) (pending hash tx) l) ≡ entering s l hash tx
+unfolding entering
+entering-some s l hash tx z = rw (ne-eqb (length tx) 0 z)
+
+module _ (s hash tx : List ℕ) (rule : Rule) {v : Survey} (ev : v ≡ surveyOf rule s) (g : not (v .good) ≡ false) {r : Bool} (er : r ≡ readable (option Transaction) tx) where
+  abbrev added : Outcome (List ℕ) (List Entry)
+  added = addOn s (excludedAt s) hash tx
+
+  pub add-bad-tx : not r ≡ true → told (withBytes excludedAt) (Answer.Refused Refusal.OurTransactionUnreadable) s ≡ lentMap s (addOn s (excludedAt s) hash tx)
+  unfolding told leaving addOn number
+  add-bad-tx h = lent-on s added (told-good rule s ev g) (rw (← er, not-true r h))
+
+  module _ (h : not r ≡ false) where
+    pub add-bad-hash : (length hash ≡ 32 → ⊥) → told (withBytes excludedAt) (Answer.Refused Refusal.LentBytesUnreadable) s ≡ lentMap s (addOn s (excludedAt s) hash tx)
+    unfolding told leaving addOn number
+    add-bad-hash n = lent-on s added (told-good rule s ev g) (rw (← er, not-false r h, ne-eqb (length hash) 32 n))
+
+    module _ (n : length hash ≡ 32) where
+      enters : entering s (excludedAt s) (byte32At hash 0) tx ≡ added
+      unfolding addOn
+      enters = rw (← er, not-false r h, eq-eqb (length hash) 32 n)
+
+      pub add-none : AllBytes s → length tx ≡ 0 → told (withBytes excludedAt) Answer.Done s ≡ lentMap s (addOn s (excludedAt s) hash tx)
+      unfolding entering
+      add-none b z =
+          let i = told-good rule s ev g in
+          lent-on s added i (same-left s i b ∙ ap (leaving mapBytes s) (sym (rw (eq-eqb (length tx) 0 z)) ∙ enters))
+
+pub add-done : (s hash tx : List ℕ) (h : Byte32) {v : Survey} {r : Bool} {a : After (List Entry)} → v ≡ surveyOf (Rule.Enter h) s → not (v .good) ≡ false → r ≡ readable (option Transaction) tx → not r ≡ false → length hash ≡ 32
+    → (length tx ≡ 0 → ⊥) → h ≡ byte32At hash 0 → a ≡ leaving mapBytes s (fitting s (renew (takes (Rule.Enter h)) (pending h tx) (keep (keeps (Rule.Enter h)) (excludedAt s)))) → a ≡ lentMap s (addOn s (excludedAt s) hash tx)
+unfolding keeps takes
+add-done s hash tx h ev g er k n z eh e =
+    lent-on s (addOn s (excludedAt s) hash tx) (told-good (Rule.Enter h) s ev g)
+    (e ∙ ap (leaving mapBytes s)
+    (ap (λ (l : List Entry). fitting s (renew (hasHash h) (pending h tx) l)) (keep-all (λ e. true) (λ e. refl) (excludedAt s)) ∙ entering-some s (excludedAt s) h tx z ∙ ap (λ (b : Byte32). entering s (excludedAt s) b tx) eh
+    ∙ enters s hash tx (Rule.Enter h) ev g er k n))
+
+-- ---- commit, remove, truncate
+
+module _ (s hash : List ℕ) (rule : Rule) {v : Survey} (ev : v ≡ surveyOf rule s) (g : not (v .good) ≡ false) where
+  pub commit-bad : (block : BlockNumber) → (length hash ≡ 32 → ⊥) → told (withBytes excludedAt) (Answer.Refused Refusal.LentBytesUnreadable) s ≡ lentMap s (commitOn s (excludedAt s) hash block)
+  unfolding told leaving commitOn number
+  commit-bad block n = lent-on s (commitOn s (excludedAt s) hash block) (told-good rule s ev g) (rw (ne-eqb (length hash) 32 n))
+
+  pub commit-done : (block : BlockNumber) {h : Byte32} {o : List ℕ} → length hash ≡ 32 → h ≡ byte32At hash 0 → excludedAt o ≡ map (committedAt h block) (excludedAt s) → o ≡ putAt s 0 (mapBytes (map (committedAt h block) (excludedAt s)))
+      → told (withBytes excludedAt) Answer.Done o ≡ lentMap s (commitOn s (excludedAt s) hash block)
+  unfolding told leaving withBytes commitOn
+  commit-done block n eh m e =
+      lent-on s (commitOn s (excludedAt s) hash block) (told-good rule s ev g)
+      (rw (eq-eqb (length hash) 32 n, ← eh) (ap₂ (λ (l : List Entry) (x : List ℕ). done (l, x)) m e))
+
+  pub remove-bad : (length hash ≡ 32 → ⊥) → told (withBytes excludedAt) (Answer.Refused Refusal.LentBytesUnreadable) s ≡ lentMap s (removeOn s (excludedAt s) hash)
+  unfolding told leaving removeOn number
+  remove-bad n = lent-on s (removeOn s (excludedAt s) hash) (told-good rule s ev g) (rw (ne-eqb (length hash) 32 n))
+
+pub remove-done : (s hash : List ℕ) (h : Byte32) {v : Survey} {o : List ℕ} → v ≡ surveyOf (Rule.Remove h) s → not (v .good) ≡ false → AllBytes s → length hash ≡ 32 → h ≡ byte32At hash 0
+    → o ≡ splice s 0 (mapBytes (stay (keeps (Rule.Remove h)) (takes (Rule.Remove h)) false (excludedAt s))) → told (withBytes excludedAt) Answer.Done o ≡ lentMap s (removeOn s (excludedAt s) hash)
+unfolding removeOn
+remove-done s hash h ev g b n eh e =
+    let i = told-good (Rule.Remove h) s ev g in
+    lent-on s (removeOn s (excludedAt s) hash) i
+    (kept-left (Rule.Remove h) s i b e ∙ ap (leaving mapBytes s) (sym (rw (eq-eqb (length hash) 32 n, ← eh) (ap done (sym (stay-removed h (excludedAt s)))))))
+
+pub truncate-done : (s : List ℕ) (tip : BlockNumber) {v : Survey} {o : List ℕ} → v ≡ surveyOf (Rule.Truncate tip) s → not (v .good) ≡ false → AllBytes s
+    → o ≡ splice s 0 (mapBytes (stay (keeps (Rule.Truncate tip)) (takes (Rule.Truncate tip)) false (excludedAt s))) → told (withBytes excludedAt) Answer.Done o ≡ lentMap s (truncateOn s (excludedAt s) tip)
+unfolding truncateOn
+truncate-done s tip ev g b e =
+    let i = told-good (Rule.Truncate tip) s ev g in
+    lent-on s (truncateOn s (excludedAt s) tip) i (kept-left (Rule.Truncate tip) s i b e ∙ ap (λ (l : List Entry). leaving {T = List ℕ} mapBytes s (done l)) (stay-truncated tip (excludedAt s)))
+
+-- ---- apply
+
+module _ (s out : List ℕ) {v : Survey} (ev : v ≡ surveyOf Rule.All s) where
+  pub apply-bad : (o : ℕ × List ℕ) → not (v .good) ≡ true → (answered (Answer.Refused Refusal.LentBytesUnreadable), out) ≡ lentList s out o
+  unfolding lentList answered number
+  apply-bad o h = rw (told-bad Rule.All s ev h)
+
+  module _ (g : not (v .good) ≡ false) where
+    is : isMap s ≡ true
+    is = told-good Rule.All s ev g
+
+    all : stay (keeps Rule.All) (takes Rule.All) false (excludedAt s) ≡ excludedAt s
+    unfolding keeps takes
+    all = stay-keep (keeps Rule.All) (takes Rule.All) (λ e. refl) (excludedAt s) ∙ keep-all (keeps Rule.All) (λ e. refl) (excludedAt s)
+
+    counted : v .points ≡ length (excluded (excludedAt s))
+    counted = told-points Rule.All s is ev ∙ ap (λ (l : List Entry). length (excluded l)) all
+
+    list-length : length (pointList (excluded (excludedAt s))) ≡ 4 + 36 * v .points
+    list-length = length-list (excluded (excludedAt s)) ∙ ap (λ (k : ℕ). 4 + 36 * k) (sym counted)
+
+    pub apply-short : {k : ℕ} → k ≡ 4 + 36 * v .points → length out < k → (answered (Answer.Refused Refusal.BufferTooShort), out) ≡ lentList s out (applyOn (excludedAt s) out)
+    unfolding lentList applyOn answered number hasRoom
+    apply-short e h = rw (is, lt-leb (length (pointList (excluded (excludedAt s)))) (length out) (omega (arith, list-length)))
+
+    pub apply-room : {k : ℕ} → k ≡ 4 + 36 * v .points → k ≤ length out → 4 + 36 * length (excluded (excludedAt s)) ≤ length out
+    apply-room e h = omega (arith, counted)
+
+    pub apply-done : {k : ℕ} {o₁ o₂ : List ℕ} → k ≡ 4 + 36 * v .points → k ≤ length out → o₁ ≡ splice out 4 (bytesOf (excluded (excludedAt s))) → o₂ ≡ putAt o₁ 0 (toLe 4 (v .points))
+        → (answered Answer.Done, o₂) ≡ lentList s out (applyOn (excludedAt s) out)
+    unfolding lentList applyOn answered hasRoom written pointList
+    apply-done {k} {o₁} {o₂} e h e₁ e₂ =
+        let ps = excluded (excludedAt s) in
+        let C = toLe 4 (v .points) in
+        let lC : length C ≡ 4 = length-toLe 4 (v .points) in
+        let z : 0 + length C ≡ 4 = omega arith in
+        let lb = length-bytes ps in
+        let c = counted in
+        let l : length o₁ ≡ length out = ap length e₁ ∙ splice-length out 4 (bytesOf ps) (omega arith) in
+        let same : o₂ ≡ splice out 0 (C ++ bytesOf ps) =
+        e₂ ∙ put-yes o₁ 0 C (omega arith) ∙ ap (λ (x : List ℕ). splice x 0 C) (e₁ ∙ ap (λ (j : ℕ). splice out j (bytesOf ps)) (sym z)) ∙ splice-under out 0 C (bytesOf ps) (omega arith) in
+        rw (is, le-leb (length (pointList ps)) (length out) (omega (arith, list-length)))
+        (ap (λ (x : List ℕ). (0, x)) (same ∙ ap (λ (j : ℕ). splice out 0 (toLe 4 j ++ bytesOf ps)) c ∙ splice-zero out (pointList ps)))
+
+-- ---- migrate
+
+lost-entered : (o h : Byte32) (l : List Entry) → loses (keeps (Rule.Migrate o h)) (takes (Rule.Migrate o h)) l ≡ entered o l
+unfolding loses keeps entered
+lost-entered o h [] = refl
+lost-entered o h (e ∷ l) = by (lost-entered o h l) (hasHash o e)
+  where
+    by : loses (keeps (Rule.Migrate o h)) (takes (Rule.Migrate o h)) l ≡ entered o l → (t : Bool) → cond (not t) (loses (keeps (Rule.Migrate o h)) (takes (Rule.Migrate o h)) l) true ≡ cond t true (entered o l)
+    by r true = refl
+    by r false = r
+
+-- of an unknown hash nothing goes
+without-none : (o : Byte32) (l : List Entry) → entered o l ≡ false → without o l ≡ l
+unfolding without keep entered
+without-none o [] e = refl
+without-none o (x ∷ l) e = by (without-none o l) (hasHash o x) e
+  where
+    by : (entered o l ≡ false → without o l ≡ l) → (t : Bool) → cond t true (entered o l) ≡ false → cond (not t) (x ∷ without o l) (without o l) ≡ x ∷ l
+    by r true f = absurd (let z : _≡_ {A = ℕ} 0 1 = cc in omega arith)
+    by r false f = ap (λ (k : List Entry). x ∷ k) (r f)
+
+module _ (s old new tx : List ℕ) where
+  abbrev moved : Outcome (List ℕ) (List Entry)
+  moved = migrateOn s (excludedAt s) old new tx
+
+  module _ (rule : Rule) {v : Survey} (ev : v ≡ surveyOf rule s) (g : not (v .good) ≡ false) where
+    pub migrate-bad-tx : {r : Bool} → r ≡ readable (option Transaction) tx → not r ≡ true → told (withBytes excludedAt) (Answer.Refused Refusal.OurTransactionUnreadable) s ≡ lentMap s (migrateOn s (excludedAt s) old new tx)
+    unfolding told leaving migrateOn number
+    migrate-bad-tx {r} er h = lent-on s moved (told-good rule s ev g) (rw (← er, not-true r h))
+
+    module _ (y : readable (option Transaction) tx ≡ true) where
+      bad-old : (length old ≡ 32 → ⊥) → told (withBytes excludedAt) (Answer.Refused Refusal.LentBytesUnreadable) s ≡ lentMap s (migrateOn s (excludedAt s) old new tx)
+      unfolding told leaving migrateOn number
+      bad-old n = lent-on s moved (told-good rule s ev g) (rw (y, ne-eqb (length old) 32 n))
+
+      bad-new : length old ≡ 32 → (length new ≡ 32 → ⊥) → told (withBytes excludedAt) (Answer.Refused Refusal.LentBytesUnreadable) s ≡ lentMap s (migrateOn s (excludedAt s) old new tx)
+      unfolding told leaving migrateOn number
+      bad-new m n = lent-on s moved (told-good rule s ev g) (rw (y, eq-eqb (length old) 32 m, ne-eqb (length new) 32 n))
+
+    pub migrate-bad-old : {r : Bool} → r ≡ readable (option Transaction) tx → not r ≡ false → (length old ≡ 32 → ⊥) → told (withBytes excludedAt) (Answer.Refused Refusal.LentBytesUnreadable) s ≡ lentMap s (migrateOn s (excludedAt s) old new tx)
+    migrate-bad-old er h = bad-old (read-yes tx er h)
+
+    pub migrate-bad-new : {r : Bool} → r ≡ readable (option Transaction) tx → not r ≡ false → length old ≡ 32 → (length new ≡ 32 → ⊥)
+        → told (withBytes excludedAt) (Answer.Refused Refusal.LentBytesUnreadable) s ≡ lentMap s (migrateOn s (excludedAt s) old new tx)
+    migrate-bad-new er h = bad-new (read-yes tx er h)
+
+    pub none-bad-old : length tx ≡ 0 → (length old ≡ 32 → ⊥) → told (withBytes excludedAt) (Answer.Refused Refusal.LentBytesUnreadable) s ≡ lentMap s (migrateOn s (excludedAt s) old new tx)
+    none-bad-old z = bad-old (read-none tx z)
+
+    pub none-bad-new : length tx ≡ 0 → length old ≡ 32 → (length new ≡ 32 → ⊥) → told (withBytes excludedAt) (Answer.Refused Refusal.LentBytesUnreadable) s ≡ lentMap s (migrateOn s (excludedAt s) old new tx)
+    none-bad-new z = bad-new (read-none tx z)
+
+  module _ (m : length old ≡ 32) (n : length new ≡ 32) {o : Byte32} (eo : o ≡ byte32At old 0) where
+    goes : readable (option Transaction) tx ≡ true → cond (entered o (excludedAt s)) (entering s (without o (excludedAt s)) (byte32At new 0) tx) (done (excludedAt s)) ≡ moved
+    unfolding migrateOn
+    goes y = rw (y, eq-eqb (length old) 32 m, eq-eqb (length new) 32 n, eo)
+
+    pub none-done : {v : Survey} {a : List ℕ} → length tx ≡ 0 → v ≡ surveyOf (Rule.Remove o) s → not (v .good) ≡ false → AllBytes s
+        → a ≡ splice s 0 (mapBytes (stay (keeps (Rule.Remove o)) (takes (Rule.Remove o)) false (excludedAt s))) → told (withBytes excludedAt) Answer.Done a ≡ lentMap s (migrateOn s (excludedAt s) old new tx)
+    unfolding entering
+    none-done z ev g b e =
+        let i = told-good (Rule.Remove o) s ev g in
+        let L = excludedAt s in
+        lent-on s moved i
+        (kept-left (Rule.Remove o) s i b e
+        ∙ ap (leaving mapBytes s) (ap done (stay-removed o L) ∙ by (entered o L) refl ∙ goes (read-none tx z)))
+      where
+        by : (t : Bool) → entered o (excludedAt s) ≡ t
+            → _≡_ {A = Outcome (List ℕ) (List Entry)} (done (without o (excludedAt s))) (cond (entered o (excludedAt s)) (entering s (without o (excludedAt s)) (byte32At new 0) tx) (done (excludedAt s)))
+        by true k = rw (k, eq-eqb (length tx) 0 z)
+        by false k = rw k (ap done (without-none o (excludedAt s) k))
+
+    module _ (h : Byte32) {v : Survey} (ev : v ≡ surveyOf (Rule.Migrate o h) s) (g : not (v .good) ≡ false) {r : Bool} (er : r ≡ readable (option Transaction) tx) (k : not r ≡ false) where
+      is-entered : v .lost ≡ entered o (excludedAt s)
+      is-entered = told-lost (Rule.Migrate o h) s (told-good (Rule.Migrate o h) s ev g) ev ∙ lost-entered o h (excludedAt s)
+
+      pub migrate-unknown : AllBytes s → not (v .lost) ≡ true → told (withBytes excludedAt) Answer.Done s ≡ lentMap s (migrateOn s (excludedAt s) old new tx)
+      migrate-unknown b u =
+          let i = told-good (Rule.Migrate o h) s ev g in
+          let q : entered o (excludedAt s) ≡ false = sym is-entered ∙ not-true (v .lost) u in
+          lent-on s moved i (same-left s i b ∙ ap (leaving mapBytes s) (rw q at (goes (read-yes tx er k))))
+
+      pub migrate-done : {a : After (List Entry)} → not (v .lost) ≡ false → (length tx ≡ 0 → ⊥) → h ≡ byte32At new 0
+          → a ≡ leaving mapBytes s (fitting s (renew (takes (Rule.Migrate o h)) (pending h tx) (keep (keeps (Rule.Migrate o h)) (excludedAt s)))) → a ≡ lentMap s (migrateOn s (excludedAt s) old new tx)
+      unfolding keeps takes without
+      migrate-done u z eh e =
+          let i = told-good (Rule.Migrate o h) s ev g in
+          let q : entered o (excludedAt s) ≡ true = sym is-entered ∙ not-false (v .lost) u in
+          lent-on s moved i
+          (e ∙ ap (leaving mapBytes s) (entering-some s (without o (excludedAt s)) h tx z ∙ ap (λ (b : Byte32). entering s (without o (excludedAt s)) b tx) eh ∙ (rw q at (goes (read-yes tx er k)))))

@@ -1,11 +1,8 @@
-pub mod RowLaws
-pub mod LoopLaws
-pub mod EntryLaws
-pub mod InputLaws
-pub mod PlaceLaws
-pub mod RenewLaws
+pub mod ApplyLaws
 pub mod CallLaws
-pub mod AddLaws
-pub mod MigrateLaws
-pub mod Examples
+pub mod EnterLaws
+pub mod MarkLaws
+pub mod MoveLaws
+pub mod PutLaws
+pub mod SiftLaws
 pub mod Ways

@@ -1,2 +1,2 @@
-pub mod Exclusions
-pub mod Rows
+pub mod LentMap
+pub mod Steps

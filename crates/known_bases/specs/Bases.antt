@@ -12,16 +12,8 @@ use Rattle.rules.specs.Outcome.{Outcome, fine, refused}
 use Rattle.funding_cell.specs.declared.{FundingRequest.FundingRequest}
 use Rattle.base_writer.specs.Answer.{written}
 use Rattle.funding_builder.specs.Base.{Lent, buildBase}
+use Rattle.known_cases.specs.Rows.{Row, _gives_}
 use Rattle.known_cases.specs.Cases.{plainScript, expectedLock, ourLock, tokenType, input, inputs, dep, output, plain, token, amount, transaction, spending}
-
--- what is computed, and what the paper says
-pub record Row : Type 0 where
-  pub computed : List ℕ
-  pub expected : List ℕ
-
-infix 20 _gives_
-abbrev _gives_ : List ℕ → List ℕ → Row
-c gives e = record { computed = c; expected = e }
 
 -- ---- what is lent
 
@@ -92,7 +84,7 @@ tokenBase =
     (amount 81 ∷ [] ∷ amount 10 ∷ [])
     (placeholder ∷ placeholder ∷ [])
 
-abbrev pub rows : List Row
+abbrev pub rows : List (Row (List ℕ))
 rows =
     -- written: from none; and tokens picked behind present inputs. Bytes beyond keep their value
     (answer fromNone 5 300 gives 0 ∷ 250 ∷ [])

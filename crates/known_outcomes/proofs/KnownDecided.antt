@@ -2,15 +2,15 @@
 use mathlib.Core.Path.{_≡_, refl}
 use Prim.Native.Nat.{ℕ}
 use mathlib.Core.List.{List, []}
-use Rattle.molecule.specs.Partial.{All}
 use Rattle.rules.specs.Cells.{readOurs}
 use Rattle.rules.specs.Judge.{Call, judge}
-use Rattle.known_outcomes.specs.Outcomes.{Outcome, emptyTx}
+use Rattle.known_outcomes.specs.Outcomes.{emptyTx}
 use Rattle.known_outcomes.specs.Decided.{decided}
 use Rattle.known_outcomes.proofs.Computing.{computing}
+use Rattle.known_cases.specs.Rows.{AllRight}
 use Rattle.known_cases.proofs.Rows.{_and_, done}
 
-pub known-decided : All (λ (o : Outcome). o .computed ≡ o .expected) decided
+pub known-decided : AllRight decided
 unfolding computing
 known-decided =
     refl and refl and refl and refl and refl and refl and refl and refl and refl and refl and refl and refl and refl

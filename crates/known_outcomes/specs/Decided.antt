@@ -8,8 +8,9 @@ use Rattle.molecule.specs.Items.{join}
 use Rattle.molecule.specs.Molecule.{Value, option, encode}
 use Rattle.transaction.specs.Ckb.{CellOutput, Record, Records}
 use Rattle.rules.specs.Judge.{Call}
+use Rattle.known_cases.specs.Rows.{Row, _gives_}
 use Rattle.known_cases.specs.Cases.{plainScript, expectedLock, ourLock, input, inputs, dep, deps, output, plain, token, amount, transaction, spending, usual, holding, cell, notLive, atRate, offer, untyped, typed, answer}
-use Rattle.known_outcomes.specs.Outcomes.{Outcome, _gives_, emptyTx, peerTx}
+use Rattle.known_outcomes.specs.Outcomes.{emptyTx, peerTx}
 
 -- an update that adds one input to `usual` or to `holding`: the outputs then, their data, and the record
 abbrev adding : List (Value CellOutput) → List (List ℕ) → Value (option Record) → Call
@@ -20,7 +21,7 @@ abbrev lending : List ℕ → Call
 lending bytes = record { peer = spending (inputs 3) (plain 100 ∷ []) ([] ∷ []); records = bytes; source = ourLock; rate = 1000 }
 
 -- a first update
-abbrev first : List Outcome
+abbrev first : List (Row (List ℕ))
 first =
     -- typed, from none: 7 brought in and 5 at output 0, 2 are left; from the 68-byte transaction just as from none, typed and untyped
     (answer (typed [] (offer (holding 5) (cell (token 1000) (amount 7) ∷ []))) gives 0 ∷ 900 ∷ 2 ∷ [])
@@ -38,7 +39,7 @@ first =
     ∷ []
 
 -- a later one
-abbrev later : List Outcome
+abbrev later : List (Row (List ℕ))
 later =
     -- membership, not a count: ours [d, d], the peer's [d, e]
     (answer (untyped (transaction 0 (dep 0 ∷ dep 0 ∷ []) [] (inputs 1) (plain 100 ∷ []) ([] ∷ []) []) (offer (transaction 0 (deps 2) [] (inputs 1) (plain 100 ∷ []) ([] ∷ []) []) [])) gives 0 ∷ 0 ∷ 0 ∷ [])
@@ -59,7 +60,7 @@ later =
     ∷ (answer (typed (holding (2 ^ 64)) (adding (token 100 ∷ []) (amount (2 ^ 64 - 1) ∷ []) (cell (token 10) (amount 1)))) gives 5 ∷ [])
     ∷ []
 
-abbrev refusals : List Outcome
+abbrev refusals : List (Row (List ℕ))
 refusals =
     -- no bytes are no transaction of the peer's
     (answer (untyped [] (offer [] [])) gives 2 ∷ [])
@@ -87,5 +88,5 @@ refusals =
     ∷ (answer (untyped [] (atRate (2 ^ 64 - 1) usual (cell (plain 304) [] ∷ []))) gives 8 ∷ 204 ∷ ((2 ^ 64 - 1) / 1000) ∷ (2 ^ 64 - 1) ∷ 205 ∷ [])
     ∷ []
 
-abbrev pub decided : List Outcome
+abbrev pub decided : List (Row (List ℕ))
 decided = first ++ later ++ refusals

@@ -8,7 +8,9 @@ use Rattle.out_points.specs.OutPoints.{pointList}
 use Rattle.out_points.specs.Tables as table
 use Rattle.hold_records.specs.declared.{Owner.Owner, Hold.Hold, Held.Held, Taker.Taker}
 use Rattle.hold_records.specs.Holds.{recordsOf, heldBy, holdFunding, holdForWatchtower, releaseForWatchtower, lockHeld, unavailable, takeCells}
-use Rattle.known_outcomes.specs.Outcomes.{Outcome, _gives_, cellA, cellB, ms, room, listed}
+use Rattle.known_cases.specs.Rows.{Row, _gives_}
+use Rattle.known_tables.specs.Exclusions.{listed}
+use Rattle.known_outcomes.specs.Outcomes.{cellA, cellB, ms, room}
 
 -- n records of holder 5 on a cell of index 0
 abbrev cell0 : OutPoint
@@ -55,7 +57,7 @@ short n = 9 ∷ replicate n 9
 abbrev taking : Held → List ℕ → List ℕ → List ℕ → List ℕ → List ℕ
 taking h picked spent b c = afterTwo (takeCells h picked spent (Taker.Funding 1) (ms 1000) b c)
 
-abbrev pub fullTables : List Outcome
+abbrev pub fullTables : List (Row (List ℕ))
 fullTables =
     -- hold_funding: over 256 records get 14, just 256 pass, and those of the holder itself are dropped first
     (after (holdFunding (full 256) 1 A) gives 14 ∷ 256 ∷ [])

@@ -1,8 +1,8 @@
 -- The known outcomes (01-scope.md, "Case file and known outcomes", the starred ones), as one table: what the definitions compute, and what the
 -- paper says. proofs/KnownOutcomes.antt proves all rows at once.
 use Prim.Native.Nat.{ℕ, _+_, _-_, _*_, _^_}
-use mathlib.Core.List.{List, [], _∷_, _++_, map}
-use mathlib.Core.Option.{Option, none, some}
+use mathlib.Core.List.{List, [], _∷_, _++_}
+use mathlib.Core.Option.{none, some}
 use lib.ListN.{length, replicate}
 use Rattle.units.specs.declared.{Shannons.Shannons, CheckedShannons.CheckedShannons}
 use Rattle.arithmetic.specs.LittleEndian.{toLe}
@@ -11,28 +11,20 @@ use Rattle.units.specs.Fee.{requiredFee, changeCapacity}
 use Rattle.molecule.specs.Molecule.{Value, encode}
 use Rattle.transaction.specs.Ckb.{Script, CellOutput, TokenCell, TokenCells}
 use Rattle.rules.specs.Outcome as verdict
-use Rattle.units.specs.declared.{Millis.Millis, BlockNumber.BlockNumber}
-use Rattle.out_points.specs.declared.{Byte32.Byte32, OutPoint.OutPoint}
-use Rattle.out_points.specs.OutPoints.{points, pointList}
+use Rattle.units.specs.declared.{Millis.Millis}
+use Rattle.out_points.specs.declared.{OutPoint.OutPoint}
+use Rattle.out_points.specs.OutPoints.{pointList}
 use Rattle.out_points.specs.Tables as table
 use Rattle.hold_records.specs.declared.{Hold.Hold, Held.Held, Taker.Taker}
 use Rattle.hold_records.specs.Holds.{holdForWatchtower, unavailable, takeCells}
-use Rattle.exclusions.specs.declared.{Row.Row, Slot.Slot, LiveCellsExclusionMap.LiveCellsExclusionMap}
-use Rattle.exclusions.specs.Exclusions.{Entry, entriesOf, commitCall, truncated, applyCall, addCall}
 use Rattle.funding_cell.specs.declared.{FundingRequest.FundingRequest}
 use Rattle.funding_cell.specs.FundingCell.{buildFundingCell}
 use Rattle.udt_cells.specs.Change.{Built, udtInputsOutputs}
 use Rattle.case_file.specs.CaseFile.{caseLine}
 use Rattle.known_outcomes.specs.CaseFiles.{ascii, file, fileAt, firstFile}
+use Rattle.known_tables.specs.Exclusions.{listed, excludedBy}
+use Rattle.known_cases.specs.Rows.{Row, _gives_}
 use Rattle.known_cases.specs.Cases.{plainScript, expectedLock, ourLock, tokenType, inputs, output, plain, token, amount, spending, crowd, cell, notLive, atRate, offer, untyped, numbers, answer}
-
-pub record Outcome : Type 0 where
-  pub computed : List ℕ
-  pub expected : List ℕ
-
-infix 20 _gives_
-abbrev pub _gives_ : List ℕ → List ℕ → Outcome
-c gives e = record { computed = c; expected = e }
 
 abbrev bytes : List ℕ → List ℕ
 bytes s = length s ∷ []
@@ -84,10 +76,6 @@ ms n = record { 0 = n }
 abbrev pub room : ℕ → List ℕ
 room n = replicate (4 + 36 * n) 0
 
--- a call's number, and the index of each out point in the buffer that it leaves
-abbrev pub listed : ℕ × List ℕ → List ℕ
-listed (n, out) = n ∷ map (λ p. p .index) (points out)
-
 -- the number of a call that returns a table, and what the table then means
 abbrev numberOf : {T M : Type 0} → table.Outcome T M → ℕ
 numberOf (table.done l) = 0
@@ -115,31 +103,6 @@ taken (o, out₁, out₂) = listed (numberOf o, out₁)
 
 abbrev turnedAway : table.Outcome Held (List Hold) × List ℕ × List ℕ → List ℕ
 turnedAway (o, out₁, out₂) = listed (numberOf o, out₂)
-
--- ---- the exclusion map
-
--- a map that means these entries
-abbrev rowFor : Byte32 → Option BlockNumber → Row
-rowFor hash none = Row.Pending hash
-rowFor hash (some block) = Row.Committed hash block
-
-abbrev rowsFor : List Entry → List Slot
-rowsFor [] = []
-rowsFor (e ∷ l) = record { row = rowFor (e .hash) (e .committed) } ∷ (map (λ p. record { row = Row.Input p }) (e .points) ++ rowsFor l)
-
-abbrev mapOf : List Entry → LiveCellsExclusionMap
-mapOf l = record { rows = rowsFor l; count = length (rowsFor l) }
-
--- a transaction's hash, and what is in the map when it was added and committed at 100
-abbrev hashOf7 : List ℕ
-hashOf7 = replicate 32 7
-
-abbrev committed100 : List Entry
-committed100 = meantBy (commitCall (mapOf (meantBy (addCall (mapOf []) hashOf7 (spending (inputs 2) [] [])))) hashOf7 (record { 0 = 100 }))
-
--- what is excluded at a tip: the out points that it spends, of index 0 and 1
-abbrev excludedAt : ℕ → List ℕ
-excludedAt tip = listed (applyCall (mapOf (truncated (record { 0 = tip }) (entriesOf (mapOf committed100)))) (room 2))
 
 -- a request of local 5, reserve 7, remote 11, reserve 13
 abbrev figures : FundingRequest
@@ -180,7 +143,7 @@ withArgs n = encode Script (replicate 32 1, (0, (replicate n 0, tt)))
 abbrev crowded : ℕ → ℕ → List ℕ
 crowded ins ds = file [] [] (crowd ins 1 ds 0 .peer) (replicate ins (cell (plain 200000) []))
 
-abbrev pub outcomes : List Outcome
+abbrev pub outcomes : List (Row (List ℕ))
 outcomes =
     -- version 0 and empty lists: 68 bytes, size 72
     (measured emptyTx gives 68 ∷ 72 ∷ [])
@@ -239,7 +202,7 @@ outcomes =
     ∷ (taken pickedAAB gives 0 ∷ 1 ∷ 2 ∷ [])
     ∷ (turnedAway pickedAAB gives 0 ∷ 1 ∷ [])
     -- committed 100: kept at tip 99 and 112, dropped at 113
-    ∷ (excludedAt 99 gives 0 ∷ 0 ∷ 1 ∷ [])
-    ∷ (excludedAt 112 gives 0 ∷ 0 ∷ 1 ∷ [])
-    ∷ (excludedAt 113 gives 0 ∷ [])
+    ∷ (excludedBy 99 gives 0 ∷ 0 ∷ 1 ∷ [])
+    ∷ (excludedBy 112 gives 0 ∷ 0 ∷ 1 ∷ [])
+    ∷ (excludedBy 113 gives 0 ∷ [])
     ∷ []

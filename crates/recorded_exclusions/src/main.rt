@@ -1,14 +1,10 @@
-// Runs recorded calls on the table of exclusions through the library. They come on standard input, in the form that tools/recorded_tables.py
-// describes, in sequences that each start from the empty table. A call is wrong if the library answers it by another number than is recorded, writes
-// another list, touches a lent byte behind it, or leaves another table.
+// Runs recorded calls on the exclusion map through the library. They come on standard input, in the form that tools/recorded_tables.py describes, in
+// sequences that each start from the empty map. A call is wrong if the library answers it by another number than is recorded, writes another list, touches
+// a lent byte behind it, leaves other entries in the lent map, or refuses and leaves another byte there than before.
 use arithmetic::little_endian;
 use error::Answer;
-use exclusions::Excluded;
-use exclusions::LiveCellsExclusionMap;
-use exclusions::Row;
-use exclusions::Slot;
-use out_points::Byte32;
-use out_points::OutPoint;
+use exclusion_entries::MAP_BYTES;
+use molecule::write;
 use recorded_calls::COUNTS;
 use recorded_calls::FILL;
 use units::BlockNumber;
@@ -18,48 +14,41 @@ const ROOM: usize = 600_000;
 
 const LIST_ROOM: usize = 20_000;
 
-// ---- a call's fields
+// ---- one call
 
 // The block of a commitment, or the tip.
 fn block(call: &[u8]) -> BlockNumber {
     BlockNumber(little_endian::u64_at(recorded_calls::field(call, 0), 4))
 }
 
-// ---- one call
-
-fn answered(map: LiveCellsExclusionMap, answer: Answer) -> Excluded {
-    Excluded { map, answer }
+// Zeros are the empty map.
+fn start(map: &mut [u8]) -> Answer {
+    let zeros = [0u8; MAP_BYTES];
+    write::put(map, 0, &zeros);
+    Answer::Done
 }
 
-fn apply(map: LiveCellsExclusionMap, call: &[u8], a: &mut [u8]) -> Excluded {
+fn apply(map: &[u8], call: &[u8], a: &mut [u8]) -> Answer {
     let n = recorded_calls::first_room(call);
     if a.len() < n {
-        return answered(map, Answer::Done);
+        return Answer::Done;
     }
     let out = &mut a[0..n];
-    let answer = exclusions::apply(map, out);
-    answered(map, answer)
+    exclusions::apply(map, out)
 }
 
 // The calls with a transaction.
-fn run_entering(map: LiveCellsExclusionMap, call: &[u8]) -> Excluded {
+fn run_entering(map: &mut [u8], call: &[u8]) -> Answer {
+    let hash = recorded_calls::field(call, 1);
+    let tx = recorded_calls::field(call, 3);
     if recorded_calls::kind(call) == 1 {
-        return exclusions::add(
-            map,
-            recorded_calls::field(call, 1),
-            recorded_calls::field(call, 3),
-        );
+        return exclusions::add(map, hash, tx);
     }
-    exclusions::migrate_funding_tx(
-        map,
-        recorded_calls::field(call, 1),
-        recorded_calls::field(call, 2),
-        recorded_calls::field(call, 3),
-    )
+    exclusions::migrate_funding_tx(map, hash, recorded_calls::field(call, 2), tx)
 }
 
-// The other calls that write nothing.
-fn run_plain(map: LiveCellsExclusionMap, call: &[u8]) -> Excluded {
+// The other calls that write no list.
+fn run_plain(map: &mut [u8], call: &[u8]) -> Answer {
     let k = recorded_calls::kind(call);
     if k == 2 {
         let at = block(call);
@@ -70,12 +59,12 @@ fn run_plain(map: LiveCellsExclusionMap, call: &[u8]) -> Excluded {
     }
     if k == 5 {
         let tip = block(call);
-        return answered(exclusions::truncate(map, tip), Answer::Done);
+        return exclusions::truncate(map, tip);
     }
-    answered(exclusions::new(), Answer::Done)
+    start(map)
 }
 
-fn run(map: LiveCellsExclusionMap, call: &[u8], a: &mut [u8]) -> Excluded {
+fn run(map: &mut [u8], call: &[u8], a: &mut [u8]) -> Answer {
     let k = recorded_calls::kind(call);
     if k == 1 {
         return run_entering(map, call);
@@ -91,52 +80,27 @@ fn run(map: LiveCellsExclusionMap, call: &[u8], a: &mut [u8]) -> Excluded {
 
 // ---- what it comes to
 
-// Whether an entry of this kind (0 uncommitted, 1 committed) is recorded with this hash.
-fn is_entry(item: &[u8], k: u8, hash: Byte32) -> bool {
-    if little_endian::byte(item, 0) != k {
+// Whether the row is that of the entry at the start of x: 0 or 1 for its kind, its hash and its block.
+fn is_entry(row: &[u8], x: &[u8]) -> bool {
+    if little_endian::byte(row, 0) as u32 != little_endian::u32_at(x, 32) {
         return false;
     }
-    let h = out_points::byte32_at(item, 1);
-    out_points::same_hash(hash, h)
+    if little_endian::u64_at(row, 33) != little_endian::u64_at(x, 36) {
+        return false;
+    }
+    check::same(molecule::part(row, 1, 33), molecule::part(x, 0, 32))
 }
 
-fn is_committed(item: &[u8], hash: Byte32, at: BlockNumber) -> bool {
-    if !is_entry(item, 1, hash) {
-        return false;
-    }
-    little_endian::u64_at(item, 33) == at.0
-}
-
-fn is_point(item: &[u8], p: OutPoint) -> bool {
-    if little_endian::byte(item, 0) != 2 {
-        return false;
-    }
-    let q = out_points::out_point_at(item, 1);
-    out_points::same_point(p, q)
-}
-
-fn is_row(x: Slot, item: &[u8]) -> bool {
-    let row = x.row;
-    match row {
-        Row::Pending(hash) => is_entry(item, 0, hash),
-        Row::Committed(hash, at) => is_committed(item, hash, at),
-        Row::Input(p) => is_point(item, p),
-    }
-}
-
-// Whether the table has these rows, in this order, and no others.
-fn is_table(map: LiveCellsExclusionMap, rows: &[u8]) -> bool {
-    let n = molecule::fix_count(rows) as usize;
-    if map.count != n {
-        return false;
-    }
-    if 576 < n {
-        return false;
-    }
+// Whether the rows from k on are those of a list of out points: 2 and the out point.
+fn are_points(rows: &[u8], k: usize, list: &[u8]) -> bool {
+    let n = molecule::fix_count(list) as usize;
     let mut i = 0;
     while i < n {
-        let x = map.rows[i];
-        if !is_row(x, molecule::fix_item(rows, 41, i)) {
+        let row = molecule::fix_item(rows, 41, recorded_calls::plus(k, i));
+        if little_endian::byte(row, 0) != 2 {
+            return false;
+        }
+        if !check::same(molecule::part(row, 1, 37), molecule::fix_item(list, 36, i)) {
             return false;
         }
         i += 1;
@@ -144,10 +108,38 @@ fn is_table(map: LiveCellsExclusionMap, rows: &[u8]) -> bool {
     true
 }
 
-fn is_right(after: Excluded, call: &[u8], a: &[u8]) -> bool {
-    let answer = after.answer;
-    if answer.number() != recorded_calls::answer_number(call) {
+// Whether the entries of the map have these rows, in this order, and no others.
+fn is_map(map: &[u8], rows: &[u8]) -> bool {
+    let n = molecule::fix_count(map);
+    let mut at: usize = 4;
+    let mut k: usize = 0;
+    let mut i = 0;
+    while i < n {
+        let x = molecule::part(map, at, map.len());
+        let list = molecule::part(x, 44, x.len());
+        if !is_entry(molecule::fix_item(rows, 41, k), x) {
+            return false;
+        }
+        k = recorded_calls::plus(k, 1);
+        if !are_points(rows, k, list) {
+            return false;
+        }
+        let c = molecule::fix_count(list) as usize;
+        k = recorded_calls::plus(k, c);
+        at = recorded_calls::plus(at, 48 + 36 * c);
+        i += 1;
+    }
+    k == molecule::fix_count(rows) as usize
+}
+
+fn is_right(number: u8, before: &[u8], map: &[u8], call: &[u8], a: &[u8]) -> bool {
+    if number != recorded_calls::answer_number(call) {
         return false;
+    }
+    if number != 0 {
+        if !check::same(map, before) {
+            return false;
+        }
     }
     if !recorded_calls::is_written(
         a,
@@ -156,8 +148,7 @@ fn is_right(after: Excluded, call: &[u8], a: &[u8]) -> bool {
     ) {
         return false;
     }
-    let map = after.map;
-    is_table(map, recorded_calls::field(call, 6))
+    is_map(map, recorded_calls::field(call, 6))
 }
 
 // ---- counts
@@ -178,21 +169,22 @@ fn print(counts: &[u64]) {
 
 // ---- the calls of a part
 
-// The table after a call, which is counted.
-fn step(counts: &mut [u64], map: LiveCellsExclusionMap, call: &[u8]) -> LiveCellsExclusionMap {
+// A call, which is counted.
+fn step(counts: &mut [u64], map: &mut [u8], call: &[u8]) {
+    let mut before = [0u8; MAP_BYTES];
+    write::put(&mut before, 0, map);
     let mut a = [FILL; LIST_ROOM];
-    let after = run(map, call, &mut a);
-    let right = is_right(after, call, &a);
+    let answer = run(map, call, &mut a);
+    let right = is_right(answer.number(), &before, map, call, &a);
     recorded_calls::count_call(counts, call, right);
-    after.map
 }
 
 fn judge_part(counts: &mut [u64], part: &[u8]) {
     let n = molecule::item_count(part) as usize;
-    let mut map = exclusions::new();
+    let mut map = [0u8; MAP_BYTES];
     let mut i = 0;
     while i < n {
-        map = step(counts, map, molecule::item(part, i));
+        step(counts, &mut map, molecule::item(part, i));
         i += 1;
     }
 }

@@ -1,27 +1,101 @@
--- A list of calls on an exclusion map, from the empty one. Each step has what the contract of the call (crates/exclusions/src/lib.rt) says of it.
+-- A list of calls on a lent exclusion map. Each step has what the contract of the call (crates/exclusions/src/lib.rt) says of it.
 use mathlib.Core.Path.{_≡_}
 use Prim.Native.Nat.{ℕ, _≤_}
-use mathlib.Core.List.{List, []}
-use lib.ListN.{length}
+use mathlib.Core.Bool.{Bool, true, false, not, cond}
+use mathlib.Core.List.{List, _∷_}
+use lib.ListN.{length, replicate}
 use Rattle.units.specs.declared.BlockNumber.{BlockNumber}
-use Rattle.exclusions.specs.declared.{LiveCellsExclusionMap.LiveCellsExclusionMap, Excluded.Excluded}
+use Rattle.arithmetic.specs.LittleEndian.{AllBytes}
+use Rattle.error.specs.declared.{Refusal.Refusal, Answer.Answer}
+use Rattle.error.specs.Refusal.{answered}
+use Rattle.out_points.specs.declared.{OutPoint.OutPoint}
+use Rattle.out_points.specs.OutPoints.{byte32At, has, points}
 use Rattle.out_points.specs.Tables.{told}
-use Rattle.exclusions.specs.Exclusions.{entriesOf, commitCall, removeCall, truncated, addCall, migrateCall, excluded}
+use Rattle.table_bytes.specs.Lent.{withBytes}
+use Rattle.exclusion_entries.specs.Exclusions.{Entry, hasHash, committedAt, commitOn, removeOn, isRecent, truncateOn, excluded, applyOn, pending, addOn, migrateOn}
+use Rattle.exclusion_entries.specs.Entries.{excludedAt, isMap}
+use Rattle.exclusions.specs.LentMap.{lentMap, lentList}
 
--- from one map to the next by a call; `apply` changes none
-pub data Called : LiveCellsExclusionMap → LiveCellsExclusionMap → Type 0 where
-  commit : {m : LiveCellsExclusionMap} (r : Excluded) (hash : List ℕ) (block : BlockNumber) → told entriesOf (r .answer) (r .map) ≡ commitCall m hash block → Called m (r .map)
-  remove : {m : LiveCellsExclusionMap} (r : Excluded) (hash : List ℕ) → told entriesOf (r .answer) (r .map) ≡ removeCall m hash → Called m (r .map)
-  truncate : {m n : LiveCellsExclusionMap} (tip : BlockNumber) → entriesOf n ≡ truncated tip (entriesOf m) → Called m n
-  add : {m : LiveCellsExclusionMap} (r : Excluded) (hash tx : List ℕ) → told entriesOf (r .answer) (r .map) ≡ addCall m hash tx → Called m (r .map)
-  migrate : {m : LiveCellsExclusionMap} (r : Excluded) (old new tx : List ℕ) → told entriesOf (r .answer) (r .map) ≡ migrateCall m old new tx → Called m (r .map)
+-- a call that is lent the bytes s, answers r and leaves the bytes t; `apply` changes none
+pub data Called (s t : List ℕ) : Type 0 where
+  add : (r : Answer) (hash tx : List ℕ) → told (withBytes excludedAt) r t ≡ lentMap s (addOn s (excludedAt s) hash tx) → Called s t
+  commit : (r : Answer) (hash : List ℕ) (block : BlockNumber) → told (withBytes excludedAt) r t ≡ lentMap s (commitOn s (excludedAt s) hash block) → Called s t
+  remove : (r : Answer) (hash : List ℕ) → told (withBytes excludedAt) r t ≡ lentMap s (removeOn s (excludedAt s) hash) → Called s t
+  truncate : (r : Answer) (tip : BlockNumber) → told (withBytes excludedAt) r t ≡ lentMap s (truncateOn s (excludedAt s) tip) → Called s t
+  migrate : (r : Answer) (old new tx : List ℕ) → told (withBytes excludedAt) r t ≡ lentMap s (migrateOn s (excludedAt s) old new tx) → Called s t
 
--- the maps that calls reach from an empty one
-pub data Reached : LiveCellsExclusionMap → Type 0 where
-  empty : {m : LiveCellsExclusionMap} → entriesOf m ≡ [] → Reached m
-  next : {m n : LiveCellsExclusionMap} → Reached m → Called m n → Reached n
+unfoldable pub answerOf : {s t : List ℕ} → Called s t → Answer
+answerOf (add r hash tx e) = r
+answerOf (commit r hash block e) = r
+answerOf (remove r hash e) = r
+answerOf (truncate r tip e) = r
+answerOf (migrate r old new tx e) = r
+
+-- the bytes that calls reach from s, each lent what the one before it left
+pub data Reached (s : List ℕ) : List ℕ → Type 0 where
+  none : Reached s s
+  next : {t u : List ℕ} → Reached s t → Called t u → Reached s u
+
+-- ---- what holds of every list of calls
+
+-- bytes are a map after it exactly if they were one before it
+abbrev pub StaysMap : Type 0
+StaysMap = (s t : List ℕ) → Reached s t → isMap t ≡ isMap s
 
 -- at most 64 transactions and 512 out points
-pub record Within (m : LiveCellsExclusionMap) : Type 0 where
-  pub transactions : length (entriesOf m) ≤ 64
-  pub points : length (excluded (entriesOf m)) ≤ 512
+pub record Within (s : List ℕ) : Type 0 where
+  pub transactions : length (excludedAt s) ≤ 64
+  pub points : length (excluded (excludedAt s)) ≤ 512
+
+-- from any map, and so from zeros, which are the empty one
+abbrev pub StaysWithin : Type 0
+StaysWithin = (s t : List ℕ) → isMap s ≡ true → Reached s t → Within t
+
+abbrev pub ZerosWithin : Type 0
+ZerosWithin = (t : List ℕ) → Reached (replicate 21508 0) t → Within t
+
+-- a refusal leaves the bytes, and bytes that are no map no call changes
+abbrev pub RefusedSame : Type 0
+RefusedSame = (s t : List ℕ) (c : Called s t) (why : Refusal) → answerOf c ≡ Answer.Refused why → t ≡ s
+
+abbrev pub OthersSame : Type 0
+OthersSame = (s t : List ℕ) → isMap s ≡ false → Reached s t → t ≡ s
+
+-- ---- how long a transaction is excluded
+
+-- the entry stands in the list
+pub data Stands (x : Entry) : List Entry → Type 0 where
+  here : (l : List Entry) → Stands x (x ∷ l)
+  there : (y : Entry) (l : List Entry) → Stands x l → Stands x (y ∷ l)
+
+-- the entry outlives the call. What ends it: a call on its own hash, which changes or replaces it or takes it out; and `truncate` at a tip by which it is not recent
+unfoldable pub outlives : {s t : List ℕ} → Entry → Called s t → Bool
+outlives x (add r hash tx e) = not (hasHash (byte32At hash 0) x)
+outlives x (commit r hash block e) = not (hasHash (byte32At hash 0) x)
+outlives x (remove r hash e) = not (hasHash (byte32At hash 0) x)
+outlives x (truncate r tip e) = isRecent tip (x .committed)
+outlives x (migrate r old new tx e) = cond (hasHash (byte32At old 0) x) false (not (hasHash (byte32At new 0) x))
+
+-- a list of calls none of which ends x
+pub data Outlived (x : Entry) (s : List ℕ) : List ℕ → Type 0 where
+  none : Outlived x s s
+  then : {t u : List ℕ} → Outlived x s t → (c : Called t u) → outlives x c ≡ true → Outlived x s u
+
+-- an entry stands after any list of calls none of which ends it
+abbrev pub StaysEntered : Type 0
+StaysEntered = (x : Entry) (s t : List ℕ) → Stands x (excludedAt s) → Outlived x s t → Stands x (excludedAt t)
+
+-- and so an `apply` that is done writes each of its out points; the table's are bytes, as every lent slice is
+abbrev pub StaysExcluded : Type 0
+StaysExcluded = (x : Entry) (s t : List ℕ) → Stands x (excludedAt s) → Outlived x s t
+    → AllBytes t → (out after : List ℕ) → (answered Answer.Done, after) ≡ lentList t out (applyOn (excludedAt t) out)
+    → (p : OutPoint) → has p (x .points) ≡ true → has p (points after) ≡ true
+
+-- where it comes from: a transaction that an `add` entered stands, pending; and one that stood when a `commit` was done stands, committed if the hash is its own
+abbrev pub AddEnters : Type 0
+AddEnters = (s t hash tx : List ℕ) → (length tx ≡ 0 → ⊥) → told (withBytes excludedAt) Answer.Done t ≡ lentMap s (addOn s (excludedAt s) hash tx)
+    → Stands (pending (byte32At hash 0) tx) (excludedAt t)
+
+abbrev pub CommitMarks : Type 0
+CommitMarks = (x : Entry) (s t hash : List ℕ) (block : BlockNumber) → Stands x (excludedAt s) → told (withBytes excludedAt) Answer.Done t ≡ lentMap s (commitOn s (excludedAt s) hash block)
+    → Stands (committedAt (byte32At hash 0) block x) (excludedAt t)

@@ -2,16 +2,13 @@
 use mathlib.Core.Path.{_≡_, subst}
 use Prim.Native.Nat.{ℕ}
 use mathlib.Core.List.{List}
-use Rattle.units.specs.declared.{Millis.Millis, BlockNumber.BlockNumber}
+use Rattle.units.specs.declared.{Millis.Millis}
 use Rattle.arithmetic.specs.LittleEndian.{AllBytes}
 use Rattle.error.specs.declared.{Answer.Answer}
 use Rattle.out_points.specs.Tables.{told}
 use Rattle.hold_records.specs.declared.{Held.Held, Holds.Holds, Taker.Taker}
 use Rattle.hold_records.specs.Holds.{recordsOf, holdFunding, releaseForWatchtower, holdForWatchtower, lockHeld, takeCells}
-use Rattle.exclusions.specs.declared.{LiveCellsExclusionMap.LiveCellsExclusionMap, Excluded.Excluded}
-use Rattle.exclusions.specs.Exclusions.{entriesOf, commitCall, removeCall, truncated, addCall, migrateCall}
 use Rattle.table_laws.specs.Holds as holds
-use Rattle.table_laws.specs.Exclusions as maps
 
 module _ {h : Held} (r : Holds) where
   pub hold-step : (holder : ℕ) (cells : List ℕ) → told recordsOf (r .answer) (r .held) ≡ holdFunding h holder cells → holds.Called holds.byValue h (r .held)
@@ -38,19 +35,3 @@ module _ {h : Held} (r : Holds) where
       → (AllBytes picked → r .answer ≡ Answer.Done → holds.Took holds.byValue h (r .held) picked spent taker time after₁ after₂)
   take-done picked spent taker time out₁ out₂ after₁ after₂ e b d =
       record { out₁ = out₁; out₂ = out₂; says = subst (λ (a : Answer). (told recordsOf a (r .held), after₁, after₂) ≡ takeCells h picked spent taker time out₁ out₂) d e; lent = b }
-
-module _ {m : LiveCellsExclusionMap} (r : Excluded) where
-  pub commit-step : (hash : List ℕ) (block : BlockNumber) → told entriesOf (r .answer) (r .map) ≡ commitCall m hash block → maps.Called m (r .map)
-  commit-step hash block e = maps.commit r hash block e
-
-  pub remove-step : (hash : List ℕ) → told entriesOf (r .answer) (r .map) ≡ removeCall m hash → maps.Called m (r .map)
-  remove-step hash e = maps.remove r hash e
-
-  pub add-step : (hash tx : List ℕ) → told entriesOf (r .answer) (r .map) ≡ addCall m hash tx → maps.Called m (r .map)
-  add-step hash tx e = maps.add r hash tx e
-
-  pub migrate-step : (old new tx : List ℕ) → told entriesOf (r .answer) (r .map) ≡ migrateCall m old new tx → maps.Called m (r .map)
-  migrate-step old new tx e = maps.migrate r old new tx e
-
-pub truncate-step : {m n : LiveCellsExclusionMap} (tip : BlockNumber) → entriesOf n ≡ truncated tip (entriesOf m) → maps.Called m n
-truncate-step tip e = maps.truncate tip e

@@ -1,43 +1,45 @@
-// Each call on the exclusion map, with its own contract and as a step of a list of calls.
-use exclusions::Excluded;
-use exclusions::LiveCellsExclusionMap;
+// Each call on a lent exclusion map, with its own contract and as a step of a list of calls.
+use error::Answer;
 use units::BlockNumber;
 ghost use mathlib.Core.Path.{_≡_};
 ghost use Rattle.out_points.specs.Tables.{told};
-ghost use Rattle.exclusions.specs.Exclusions.{entriesOf, commitCall, removeCall, truncated, addCall, migrateCall};
+ghost use Rattle.table_bytes.specs.Lent.{withBytes};
+ghost use Rattle.exclusion_entries.specs.Exclusions.{commitOn, removeOn, truncateOn, addOn, migrateOn};
+ghost use Rattle.exclusion_entries.specs.Entries.{excludedAt};
+ghost use Rattle.exclusions.specs.LentMap.{lentMap};
 ghost use Rattle.table_laws.specs.Exclusions.{Called};
 
-pub fn commit(m: LiveCellsExclusionMap, hash: &[u8], block: BlockNumber) -> Excluded
-    ensures { λ r. ⌜ told entriesOf (r .answer) (r .map) ≡ commitCall m (now (hash .entry)) block ⌝ }
-    ensures { λ r. ⌜ Called m (r .map) ⌝ }
+pub fn add(map: &mut [u8], hash: &[u8], tx: &[u8]) -> Answer
+    ensures { λ r. ⌜ told (withBytes excludedAt) r (now (map .exit)) ≡ lentMap (now (map .entry)) (addOn (now (map .entry)) (excludedAt (now (map .entry))) (now (hash .entry)) (now (tx .entry))) ⌝ }
+    ensures { λ _. ⌜ Called (now (map .entry)) (now (map .exit)) ⌝ }
 {
-    exclusions::commit(m, hash, block)
+    exclusions::add(map, hash, tx)
 }
 
-pub fn remove(m: LiveCellsExclusionMap, hash: &[u8]) -> Excluded
-    ensures { λ r. ⌜ told entriesOf (r .answer) (r .map) ≡ removeCall m (now (hash .entry)) ⌝ }
-    ensures { λ r. ⌜ Called m (r .map) ⌝ }
+pub fn commit(map: &mut [u8], hash: &[u8], block: BlockNumber) -> Answer
+    ensures { λ r. ⌜ told (withBytes excludedAt) r (now (map .exit)) ≡ lentMap (now (map .entry)) (commitOn (now (map .entry)) (excludedAt (now (map .entry))) (now (hash .entry)) block) ⌝ }
+    ensures { λ _. ⌜ Called (now (map .entry)) (now (map .exit)) ⌝ }
 {
-    exclusions::remove(m, hash)
+    exclusions::commit(map, hash, block)
 }
 
-pub fn truncate(m: LiveCellsExclusionMap, tip: BlockNumber) -> LiveCellsExclusionMap
-    ensures { λ r. ⌜ entriesOf r ≡ truncated tip (entriesOf m) ⌝ }
-    ensures { λ r. ⌜ Called m r ⌝ }
+pub fn remove(map: &mut [u8], hash: &[u8]) -> Answer
+    ensures { λ r. ⌜ told (withBytes excludedAt) r (now (map .exit)) ≡ lentMap (now (map .entry)) (removeOn (now (map .entry)) (excludedAt (now (map .entry))) (now (hash .entry))) ⌝ }
+    ensures { λ _. ⌜ Called (now (map .entry)) (now (map .exit)) ⌝ }
 {
-    exclusions::truncate(m, tip)
+    exclusions::remove(map, hash)
 }
 
-pub fn add(m: LiveCellsExclusionMap, hash: &[u8], tx: &[u8]) -> Excluded
-    ensures { λ r. ⌜ told entriesOf (r .answer) (r .map) ≡ addCall m (now (hash .entry)) (now (tx .entry)) ⌝ }
-    ensures { λ r. ⌜ Called m (r .map) ⌝ }
+pub fn truncate(map: &mut [u8], tip: BlockNumber) -> Answer
+    ensures { λ r. ⌜ told (withBytes excludedAt) r (now (map .exit)) ≡ lentMap (now (map .entry)) (truncateOn (now (map .entry)) (excludedAt (now (map .entry))) tip) ⌝ }
+    ensures { λ _. ⌜ Called (now (map .entry)) (now (map .exit)) ⌝ }
 {
-    exclusions::add(m, hash, tx)
+    exclusions::truncate(map, tip)
 }
 
-pub fn migrate_funding_tx(m: LiveCellsExclusionMap, old: &[u8], new: &[u8], tx: &[u8]) -> Excluded
-    ensures { λ r. ⌜ told entriesOf (r .answer) (r .map) ≡ migrateCall m (now (old .entry)) (now (new .entry)) (now (tx .entry)) ⌝ }
-    ensures { λ r. ⌜ Called m (r .map) ⌝ }
+pub fn migrate_funding_tx(map: &mut [u8], old: &[u8], new: &[u8], tx: &[u8]) -> Answer
+    ensures { λ r. ⌜ told (withBytes excludedAt) r (now (map .exit)) ≡ lentMap (now (map .entry)) (migrateOn (now (map .entry)) (excludedAt (now (map .entry))) (now (old .entry)) (now (new .entry)) (now (tx .entry))) ⌝ }
+    ensures { λ _. ⌜ Called (now (map .entry)) (now (map .exit)) ⌝ }
 {
-    exclusions::migrate_funding_tx(m, old, new, tx)
+    exclusions::migrate_funding_tx(map, old, new, tx)
 }

@@ -6,13 +6,12 @@ pub apply-spec : {M : Type 1} → statement M
 apply-spec =
     tie.close
     (tie.spec
-    (λ c κs. search ways)  -- keep-requires
-    (λ c κs. search ways)  -- count-inputs-requires
-    (λ c. search ways)  -- mul-if1
-    (λ c. search ways)  -- add-if1
+    (λ c κs. search ways)  -- read-map-requires
     (λ c. search ways)  -- returns
-    (λ c. search ways)  -- cast-put-u32
-    (λ c κs. search ways)  -- put-u32-requires
-    (λ c κs. search ways)  -- put-inputs-requires
+    (λ c κs. search ways)  -- list-size-requires
+    (λ c. search ways)  -- returns-2
+    (λ c κs. search ways)  -- are-bytes-requires
+    (λ c κs. search ways)  -- put-excluded-requires
+    (λ c κs. search ways)  -- put-count-requires
     (λ c. search ways)  -- same-length
-    (λ c. search ways))  -- returns-2
+    (λ c. search ways))  -- returns-3

@@ -1,3 +1,4 @@
+use Rattle.exclusions.proofs.EnterLaws.{inputs-sized}
 use Rattle.exclusions.proofs.Ways.{ways}
 use Rattle.exclusions.proofs.enter.Statement.{statement}
 use Rattle.exclusions.proofs.enter.Tie as tie
@@ -6,17 +7,12 @@ pub enter-spec : {M : Type 1} → statement M
 enter-spec =
     tie.close
     (tie.spec
-    (λ c κs. search ways)  -- done-requires
-    (λ c. search ways)  -- returns
-    (λ c κs. search ways)  -- keep-requires
     (λ c κs. search ways)  -- input-count-requires
-    (λ c κs. search ways)  -- place-of-requires
-    (λ c. search ways)  -- add-skip-inputs
-    (λ c κs. search ways)  -- skip-inputs-requires
-    (λ c κs. search ways)  -- has-room-requires
-    (λ c κs. search ways)  -- refused-requires
+    (λ c. search ways)  -- returns
+    (λ c. search ways)  -- cast-if2
+    (λ c. search ways)  -- add-if2
     (λ c. search ways)  -- returns-2
-    (λ c. search ways)  -- cast-put-in-place
-    (λ c κs. search ways)  -- put-in-place-requires
-    (λ c κs. search ways)  -- done-requires-2
+    (λ c κs. search ways)  -- are-bytes-requires
+    (λ c κs. let i = c .before .before .before .before .before .before in let n = i .input-count .ensures in let p = i .before .before .before .pre in (p .0, (p .1 .0, (p .1 .1 .0, (n, (inputs-sized _ (p .1 .1 .1 .1 .0) (p .1 .1 .1 .1 .1) n, (c .before .before .before .before .if1 .left, c .before .before .if2 .left)))))))  -- replace-requires
+    (λ c. search ways)  -- same-length
     (λ c. search ways))  -- returns-3

@@ -6,7 +6,7 @@ use Rattle.recorded_exclusions.proofs.judge_part.Statement.{statement}
 use Rattle.recorded_exclusions.proofs.judge_part.Tie as tie
 
 abbrev Inv-loop : tie.InvT-loop
-Inv-loop counts₀ part n map₀ i₀ counts map i = length counts ≡ length counts₀
+Inv-loop counts₀ part n map₀ i₀ counts map i = (length counts ≡ length counts₀) × (length map ≡ 21508)
 
 abbrev μ-loop : tie.MeasureT-loop
 μ-loop counts₀ part n map₀ i₀ counts map i = n - i
@@ -19,8 +19,8 @@ judge-part-spec =
     μ-loop
     (λ c κs. search ways)  -- item-count-requires
     (λ c. search ways)  -- cast-n
-    (λ c κs. search ways)  -- new-requires
     (λ c. search ways)  -- loop-holds
+    (λ c. search ways)  -- slice-aggregate-step
     (λ c κs. search ways)  -- item-requires
     (λ c κs. search ways)  -- step-requires
     (λ c. search ways)  -- add-i

@@ -7,4 +7,5 @@ add-spec =
     tie.close
     (tie.spec
     (λ c κs. search ways)  -- add-requires
+    (λ c. search ways)  -- same-length
     (λ c. search ways))  -- returns

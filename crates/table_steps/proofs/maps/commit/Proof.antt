@@ -7,4 +7,5 @@ commit-spec =
     tie.close
     (tie.spec
     (λ c κs. search ways)  -- commit-requires
+    (λ c. search ways)  -- same-length
     (λ c. search ways))  -- returns

@@ -7,4 +7,5 @@ migrate-funding-tx-spec =
     tie.close
     (tie.spec
     (λ c κs. search ways)  -- migrate-funding-tx-requires
+    (λ c. search ways)  -- same-length
     (λ c. search ways))  -- returns

@@ -7,4 +7,5 @@ remove-spec =
     tie.close
     (tie.spec
     (λ c κs. search ways)  -- remove-requires
+    (λ c. search ways)  -- same-length
     (λ c. search ways))  -- returns

@@ -7,4 +7,5 @@ truncate-spec =
     tie.close
     (tie.spec
     (λ c κs. search ways)  -- truncate-requires
+    (λ c. search ways)  -- same-length
     (λ c. search ways))  -- returns

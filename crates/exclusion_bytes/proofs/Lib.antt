@@ -1,9 +1,0 @@
-pub mod ApplyLaws
-pub mod CallLaws
-pub mod CallWays
-pub mod EnterLaws
-pub mod MarkLaws
-pub mod MoveLaws
-pub mod PutLaws
-pub mod SiftLaws
-pub mod Ways

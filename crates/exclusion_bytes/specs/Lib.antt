@@ -1,2 +1,0 @@
-pub mod ExclusionBytes
-pub mod Steps

@@ -1,0 +1,12 @@
+use Rattle.exclusions.proofs.Ways.{ways}
+use Rattle.exclusions.proofs.changes.drop_others.Statement.{statement}
+use Rattle.exclusions.proofs.changes.drop_others.Tie as tie
+
+pub drop-others-spec : {M : Type 1} → statement M
+drop-others-spec =
+    tie.close
+    (tie.spec
+    (λ c κs. search ways)  -- gather-requires
+    (λ c κs. search ways)  -- put-count-requires
+    (λ c. search ways)  -- same-length
+    (λ c. search ways))  -- returns

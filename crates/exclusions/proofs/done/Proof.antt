@@ -1,9 +1,0 @@
-use Rattle.exclusions.proofs.Ways.{ways}
-use Rattle.exclusions.proofs.done.Statement.{statement}
-use Rattle.exclusions.proofs.done.Tie as tie
-
-pub done-spec : {M : Type 1} → statement M
-done-spec =
-    tie.close
-    (tie.spec
-    (λ c. search ways))  -- returns

@@ -1,0 +1,132 @@
+-- Every worked call on a lent exclusion map gives what its row says.
+use mathlib.Core.Path.{_≡_, refl, ap, _∙_}
+use Prim.Native.Nat.{ℕ, _-_, _^_}
+use mathlib.Core.List.{List, [], _∷_}
+use native.Mathlib.Omega.{arith}
+use borrow.Author.Tests.{leb-true}
+use lib.ListN.{replicate}
+use Rattle.out_points.specs.Tables as table
+use Rattle.table_bytes.specs.Lent.{leaving}
+use Rattle.exclusion_entries.specs.Exclusions.{truncateOn}
+use Rattle.exclusion_entries.specs.Entries.{mapBytes, FitEntry}
+use Rattle.exclusions.specs.LentMap.{left}
+use Rattle.known_cases.specs.Rows.{AllRight}
+use Rattle.known_cases.proofs.Rows.{_and_, done}
+use Rattle.known_tables.specs.Exclusions.{add, commit, zeros, lent, hash, spends, room, listed, waits, stands, crowd, pending7, committed7, two, excludedBy, noMap, unread, full, works, lists}
+use Rattle.known_tables.proofs.Computing.{computing}
+use Rattle.known_tables.proofs.LentLaws.{Holds, add-on, commit-on, remove-on, truncate-on, migrate-on, apply-on, left-holds, zeros-hold, lent-holds, waits-fits, stands-fits, crowd-fits}
+
+pub known-no-map : AllRight noMap
+unfolding computing
+known-no-map = refl and refl and refl and refl and refl and refl and refl and refl and done
+
+pub known-unread : AllRight unread
+unfolding computing
+known-unread =
+    add-on zeros-hold [] (0 ∷ [])
+    and add-on zeros-hold (replicate 31 0) (spends 2)
+    and commit-on zeros-hold (replicate 33 0) 100
+    and remove-on zeros-hold []
+    and migrate-on zeros-hold [] [] (0 ∷ [])
+    and migrate-on zeros-hold (replicate 31 0) (hash 8) (spends 2)
+    and migrate-on zeros-hold (hash 7) (replicate 33 0) (spends 2)
+    and done
+
+-- ---- maps with entries
+
+crowd-63 : Holds (lent (crowd 63)) (crowd 63)
+unfolding computing
+crowd-63 = lent-holds (crowd 63) (leb-true _ _ refl) (leb-true _ _ refl) (crowd-fits 0 63 (omega arith))
+
+crowd-64 : Holds (lent (crowd 64)) (crowd 64)
+unfolding computing
+crowd-64 = lent-holds (crowd 64) (leb-true _ _ refl) (leb-true _ _ refl) (crowd-fits 0 64 (omega arith))
+
+wide-511 : Holds (lent (waits 1 511 ∷ [])) (waits 1 511 ∷ [])
+unfolding computing
+wide-511 = lent-holds (waits 1 511 ∷ []) (leb-true _ _ refl) (leb-true _ _ refl) (waits-fits 1 511 (omega arith) (omega arith), tt)
+
+wide-512 : Holds (lent (waits 1 512 ∷ [])) (waits 1 512 ∷ [])
+unfolding computing
+wide-512 = lent-holds (waits 1 512 ∷ []) (leb-true _ _ refl) (leb-true _ _ refl) (waits-fits 1 512 (omega arith) (omega arith), tt)
+
+wide-two : Holds (lent (waits 1 512 ∷ waits 3 0 ∷ [])) (waits 1 512 ∷ waits 3 0 ∷ [])
+unfolding computing
+wide-two =
+    lent-holds (waits 1 512 ∷ waits 3 0 ∷ []) (leb-true _ _ refl) (leb-true _ _ refl)
+    (waits-fits 1 512 (omega arith) (omega arith), (waits-fits 3 0 (omega arith) (omega arith), tt))
+
+pub known-full : AllRight full
+unfolding computing
+known-full =
+    add-on crowd-63 (hash 63) []
+    and add-on crowd-63 (hash 63) (spends 0)
+    and add-on crowd-64 (hash 64) (spends 0)
+    and add-on crowd-64 (hash 63) (spends 0)
+    and add-on wide-511 (hash 2) (spends 1)
+    and add-on wide-512 (hash 2) (spends 1)
+    and add-on wide-512 (hash 1) (spends 1)
+    and migrate-on wide-512 (hash 1) (hash 2) (spends 1)
+    and migrate-on wide-two (hash 3) (hash 2) (spends 1)
+    and done
+
+two-hold : Holds (lent two) two
+unfolding computing
+two-hold = lent-holds two (leb-true _ _ refl) (leb-true _ _ refl) (stands-fits 7 1 2 (omega arith) (omega arith) (omega arith), (waits-fits 5 1 (omega arith) (omega arith), tt))
+
+last-holds : Holds (lent (stands 7 (2 ^ 64 - 1) 2 ∷ [])) (stands 7 (2 ^ 64 - 1) 2 ∷ [])
+unfolding computing
+last-holds = lent-holds (stands 7 (2 ^ 64 - 1) 2 ∷ []) (leb-true _ _ refl) (leb-true _ _ refl) (stands-fits 7 (2 ^ 64 - 1) 2 (omega arith) (omega arith) (omega arith), tt)
+
+pub known-works : AllRight works
+unfolding computing
+known-works =
+    add-on two-hold (hash 7) (spends 1)
+    and add-on two-hold (hash 6) (spends 0)
+    and commit-on two-hold (hash 5) 9
+    and commit-on two-hold (hash 6) 9
+    and remove-on two-hold (hash 7)
+    and remove-on two-hold (hash 6)
+    and truncate-on last-holds (2 ^ 64 - 1)
+    and truncate-on two-hold 14
+    and migrate-on two-hold (hash 7) (hash 7) (spends 1)
+    and migrate-on two-hold (hash 7) (hash 5) (spends 2)
+    and migrate-on two-hold (hash 7) (hash 6) []
+    and migrate-on two-hold (hash 6) (hash 8) (spends 1)
+    and done
+
+pub known-lists : AllRight lists
+unfolding computing
+known-lists = refl and apply-on two-hold (room 2) and apply-on two-hold (room 4) and apply-on zeros-hold [] and apply-on zeros-hold (room 0) and done
+
+-- ---- the starred ones
+
+added7 : Holds (left (add zeros (hash 7) (spends 2))) pending7
+unfolding computing
+added7 = left-holds zeros-hold pending7 (add-on zeros-hold (hash 7) (spends 2)) (leb-true _ _ refl) (leb-true _ _ refl) (waits-fits 7 2 (omega arith) (omega arith), tt)
+
+stays7 : FitEntry (stands 7 100 2)
+stays7 = stands-fits 7 100 2 (omega arith) (omega arith) (omega arith)
+
+abbrev at100 : List ℕ
+at100 = left (commit (left (add zeros (hash 7) (spends 2))) (hash 7) 100)
+
+committed-holds : Holds at100 committed7
+unfolding computing
+committed-holds = left-holds added7 committed7 (commit-on added7 (hash 7) 100) (leb-true _ _ refl) (leb-true _ _ refl) (stays7, tt)
+
+kept : (tip : ℕ) → truncateOn at100 committed7 (record { 0 = tip }) ≡ table.done committed7 → excludedBy tip ≡ 0 ∷ 0 ∷ 1 ∷ []
+unfolding computing
+kept tip e = ap listed (apply-on (left-holds committed-holds committed7 (truncate-on committed-holds tip ∙ ap (leaving mapBytes at100) e) (leb-true _ _ refl) (leb-true _ _ refl) (stays7, tt)) (room 2))
+
+pub kept-at-99 : excludedBy 99 ≡ 0 ∷ 0 ∷ 1 ∷ []
+unfolding computing
+kept-at-99 = kept 99 refl
+
+pub kept-at-112 : excludedBy 112 ≡ 0 ∷ 0 ∷ 1 ∷ []
+unfolding computing
+kept-at-112 = kept 112 refl
+
+pub dropped-at-113 : excludedBy 113 ≡ 0 ∷ []
+unfolding computing
+dropped-at-113 = ap listed (apply-on (left-holds committed-holds [] (truncate-on committed-holds 113) (omega arith) (leb-true _ _ refl) tt) (room 2))

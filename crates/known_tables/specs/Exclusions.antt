@@ -1,0 +1,190 @@
+-- The calls on a lent exclusion map worked through, from the definitions of their contracts and with lent bytes: what 01-scope.md stars, and an example of each
+-- other answer. proofs/KnownExclusions.antt proves all rows.
+use Prim.Native.Nat.{ℕ, _+_, _-_, _*_, _^_}
+use mathlib.Core.List.{List, [], _∷_, _++_, map}
+use mathlib.Core.Option.{Option, none, some}
+use lib.ListN.{replicate}
+use Rattle.arithmetic.specs.LittleEndian.{toLe}
+use Rattle.units.specs.declared.{BlockNumber.BlockNumber}
+use Rattle.molecule.specs.Layout.{span}
+use Rattle.molecule.specs.Write.{putAt}
+use Rattle.out_points.specs.declared.{Byte32.Byte32, OutPoint.OutPoint}
+use Rattle.out_points.specs.OutPoints.{points, pointList}
+use Rattle.out_points.specs.Tables.{done, refused}
+use Rattle.table_bytes.specs.Lent.{After}
+use Rattle.exclusion_entries.specs.Exclusions.{Entry, commitOn, removeOn, truncateOn, applyOn, addOn, migrateOn}
+use Rattle.exclusion_entries.specs.Entries.{mapBytes, excludedAt}
+use Rattle.exclusions.specs.LentMap.{lentMap, left, lentList}
+use Rattle.known_cases.specs.Rows.{Row, _gives_}
+use Rattle.known_cases.specs.Cases.{inputs, spending}
+
+-- ---- the calls on bytes s
+
+abbrev pub add : List ℕ → List ℕ → List ℕ → After (List Entry)
+add s hash tx = lentMap s (addOn s (excludedAt s) hash tx)
+
+abbrev pub commit : List ℕ → List ℕ → ℕ → After (List Entry)
+commit s hash block = lentMap s (commitOn s (excludedAt s) hash (record { 0 = block }))
+
+abbrev pub remove : List ℕ → List ℕ → After (List Entry)
+remove s hash = lentMap s (removeOn s (excludedAt s) hash)
+
+abbrev pub truncate : List ℕ → ℕ → After (List Entry)
+truncate s tip = lentMap s (truncateOn s (excludedAt s) (record { 0 = tip }))
+
+abbrev pub migrate : List ℕ → List ℕ → List ℕ → List ℕ → After (List Entry)
+migrate s old new tx = lentMap s (migrateOn s (excludedAt s) old new tx)
+
+abbrev pub apply : List ℕ → List ℕ → ℕ × List ℕ
+apply s out = lentList s out (applyOn (excludedAt s) out)
+
+-- done: these entries, put over the bytes s
+abbrev pub leaves : List ℕ → List Entry → After (List Entry)
+leaves s l = done (l, putAt s 0 (mapBytes l))
+
+-- ---- what the examples are built from
+
+-- the empty map, and the map with these entries
+abbrev pub zeros : List ℕ
+zeros = replicate 21508 0
+
+abbrev pub lent : List Entry → List ℕ
+lent l = putAt zeros 0 (mapBytes l)
+
+-- a hash that is told by a number, as bytes and as an entry has it
+abbrev pub hash : ℕ → List ℕ
+hash n = toLe 8 n ++ replicate 24 0
+
+abbrev pub hashOf : ℕ → Byte32
+hashOf n = record { a = n; b = 0; c = 0; d = 0 }
+
+-- a transaction that spends the first k out points of the transaction whose hash is zeros; its entry under the hash n, pending and committed
+abbrev pub spends : ℕ → List ℕ
+spends k = spending (inputs k) [] []
+
+abbrev pub point : ℕ → OutPoint
+point i = record { hash = hashOf 0; index = i }
+
+abbrev pub entry : ℕ → Option BlockNumber → ℕ → Entry
+entry n c k = record { hash = hashOf n; committed = c; points = span point 0 k }
+
+abbrev pub waits : ℕ → ℕ → Entry
+waits n k = entry n none k
+
+abbrev pub stands : ℕ → ℕ → ℕ → Entry
+stands n block k = entry n (some (record { 0 = block })) k
+
+-- so many transactions, with no out points
+abbrev pub crowd : ℕ → List Entry
+crowd n = span (λ i. waits i 0) 0 n
+
+-- the transaction 7, that spends two out points, entered; and committed at 100
+abbrev pub pending7 : List Entry
+pending7 = waits 7 2 ∷ []
+
+abbrev pub committed7 : List Entry
+committed7 = stands 7 100 2 ∷ []
+
+-- two transactions, the first committed
+abbrev pub two : List Entry
+two = stands 7 1 2 ∷ waits 5 1 ∷ []
+
+-- bytes that are no map: of another length, with 65 entries, with an entry of the kind 2, with a block at a pending one
+abbrev pub shorter : List ℕ
+shorter = replicate 21507 0
+
+abbrev pub crowded : List ℕ
+crowded = toLe 4 65 ++ replicate 21504 0
+
+abbrev pub unkind : List ℕ
+unkind = toLe 4 1 ++ replicate 32 0 ++ toLe 4 2 ++ replicate 21468 0
+
+abbrev pub dated : List ℕ
+dated = toLe 4 1 ++ replicate 36 0 ++ toLe 8 100 ++ replicate 21460 0
+
+-- no transaction
+abbrev unreadable : List ℕ
+unreadable = 0 ∷ []
+
+-- ---- the starred ones: added, committed at 100 and truncated at a tip; then the number of `apply`, and the index of each out point that it wrote
+
+abbrev pub room : ℕ → List ℕ
+room n = replicate (4 + 36 * n) 165
+
+abbrev pub listed : ℕ × List ℕ → List ℕ
+listed (n, out) = n ∷ map (λ p. p .index) (points out)
+
+abbrev pub excludedBy : ℕ → List ℕ
+excludedBy tip = listed (apply (left (truncate (left (commit (left (add zeros (hash 7) (spends 2))) (hash 7) 100)) tip)) (room 2))
+
+-- ---- the others
+
+-- bytes that are no map: 3 before all else, and they stay
+abbrev pub noMap : List (Row (After (List Entry)))
+noMap =
+    (add shorter (hash 7) unreadable gives refused 3 shorter)
+    ∷ (add crowded (hash 7) (spends 2) gives refused 3 crowded)
+    ∷ (add unkind (hash 7) (spends 2) gives refused 3 unkind)
+    ∷ (add dated (hash 7) (spends 2) gives refused 3 dated)
+    ∷ (commit [] (hash 7) 100 gives refused 3 [])
+    ∷ (remove [] (hash 7) gives refused 3 [])
+    ∷ (truncate [] 100 gives refused 3 [])
+    ∷ (migrate [] (hash 7) (hash 8) unreadable gives refused 3 [])
+    ∷ []
+
+-- a transaction that is none, and then a hash of another length
+abbrev pub unread : List (Row (After (List Entry)))
+unread =
+    (add zeros [] unreadable gives refused 1 zeros)
+    ∷ (add zeros (replicate 31 0) (spends 2) gives refused 3 zeros)
+    ∷ (commit zeros (replicate 33 0) 100 gives refused 3 zeros)
+    ∷ (remove zeros [] gives refused 3 zeros)
+    ∷ (migrate zeros [] [] unreadable gives refused 1 zeros)
+    ∷ (migrate zeros (replicate 31 0) (hash 8) (spends 2) gives refused 3 zeros)
+    ∷ (migrate zeros (hash 7) (replicate 33 0) (spends 2) gives refused 3 zeros)
+    ∷ []
+
+-- 64 transactions and 512 out points, 65 and 513; a transaction that is entered again, or goes, leaves room
+abbrev pub full : List (Row (After (List Entry)))
+full =
+    (add (lent (crowd 63)) (hash 63) [] gives leaves (lent (crowd 63)) (crowd 63))
+    ∷ (add (lent (crowd 63)) (hash 63) (spends 0) gives leaves (lent (crowd 63)) (crowd 64))
+    ∷ (add (lent (crowd 64)) (hash 64) (spends 0) gives refused 15 (lent (crowd 64)))
+    ∷ (add (lent (crowd 64)) (hash 63) (spends 0) gives leaves (lent (crowd 64)) (crowd 64))
+    ∷ (add (lent (waits 1 511 ∷ [])) (hash 2) (spends 1) gives leaves (lent (waits 1 511 ∷ [])) (waits 1 511 ∷ waits 2 1 ∷ []))
+    ∷ (add (lent (waits 1 512 ∷ [])) (hash 2) (spends 1) gives refused 15 (lent (waits 1 512 ∷ [])))
+    ∷ (add (lent (waits 1 512 ∷ [])) (hash 1) (spends 1) gives leaves (lent (waits 1 512 ∷ [])) (waits 1 1 ∷ []))
+    ∷ (migrate (lent (waits 1 512 ∷ [])) (hash 1) (hash 2) (spends 1) gives leaves (lent (waits 1 512 ∷ [])) (waits 2 1 ∷ []))
+    ∷ (migrate (lent (waits 1 512 ∷ waits 3 0 ∷ [])) (hash 3) (hash 2) (spends 1) gives refused 15 (lent (waits 1 512 ∷ waits 3 0 ∷ [])))
+    ∷ []
+
+-- what each call does to two entries
+abbrev pub works : List (Row (After (List Entry)))
+works =
+    -- entered again it is uncommitted, in its place; another goes last; the 68-byte transaction enters without out points
+    (add (lent two) (hash 7) (spends 1) gives leaves (lent two) (waits 7 1 ∷ waits 5 1 ∷ []))
+    ∷ (add (lent two) (hash 6) (spends 0) gives leaves (lent two) (stands 7 1 2 ∷ waits 5 1 ∷ waits 6 0 ∷ []))
+    -- an unknown hash changes nothing
+    ∷ (commit (lent two) (hash 5) 9 gives leaves (lent two) (stands 7 1 2 ∷ stands 5 9 1 ∷ []))
+    ∷ (commit (lent two) (hash 6) 9 gives leaves (lent two) two)
+    ∷ (remove (lent two) (hash 7) gives leaves (lent two) (waits 5 1 ∷ []))
+    ∷ (remove (lent two) (hash 6) gives leaves (lent two) two)
+    -- c + 13 is a whole number: committed in the last block there is, it stays
+    ∷ (truncate (lent (stands 7 (2 ^ 64 - 1) 2 ∷ [])) (2 ^ 64 - 1) gives leaves (lent (stands 7 (2 ^ 64 - 1) 2 ∷ [])) (stands 7 (2 ^ 64 - 1) 2 ∷ []))
+    ∷ (truncate (lent two) 14 gives leaves (lent two) (waits 5 1 ∷ []))
+    -- the new one goes last, also onto its own hash, or takes the place of an entered one; by no transaction the old one only goes
+    ∷ (migrate (lent two) (hash 7) (hash 7) (spends 1) gives leaves (lent two) (waits 5 1 ∷ waits 7 1 ∷ []))
+    ∷ (migrate (lent two) (hash 7) (hash 5) (spends 2) gives leaves (lent two) (waits 5 2 ∷ []))
+    ∷ (migrate (lent two) (hash 7) (hash 6) [] gives leaves (lent two) (waits 5 1 ∷ []))
+    ∷ (migrate (lent two) (hash 6) (hash 8) (spends 1) gives leaves (lent two) two)
+    ∷ []
+
+-- `apply`: of no map, into too short a buffer, and into a longer one
+abbrev pub lists : List (Row (ℕ × List ℕ))
+lists =
+    (apply [] (room 1) gives (3, room 1))
+    ∷ (apply (lent two) (room 2) gives (13, room 2))
+    ∷ (apply (lent two) (room 4) gives (0, pointList (point 0 ∷ point 1 ∷ point 0 ∷ []) ++ replicate 36 165))
+    ∷ (apply zeros [] gives (13, []))
+    ∷ (apply zeros (room 0) gives (0, toLe 4 0))
+    ∷ []
