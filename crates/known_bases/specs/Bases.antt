@@ -29,10 +29,10 @@ abbrev fromNone : Lent
 fromNone = record { ours = []; lock = expectedLock; udt = []; source = ourLock; cells = encode TokenCells []; udtDeps = []; lockDep = []; extraDeps = depList [] }
 
 -- a token cell of index n, and cells of 30, 50 and 40 tokens
-abbrev tokenCell : ℕ → List ℕ → Value TokenCell
+abbrev pub tokenCell : ℕ → List ℕ → Value TokenCell
 tokenCell n d = ((replicate 32 0, (toLe 4 n, tt)), (d, tt))
 
-abbrev threeCells : List (Value TokenCell)
+abbrev pub threeCells : List (Value TokenCell)
 threeCells = tokenCell 1 (amount 30) ∷ tokenCell 2 (amount 50) ∷ tokenCell 3 (amount 40) ∷ []
 
 -- from a transaction of ours with one input, 5 tokens at output 0, and a second output whose data is missing: of the token, with these cells and deps, and the extra deps 2 and 0
@@ -48,7 +48,7 @@ abbrev supplied : List (Value TokenCell) → Lent
 supplied cells = typed cells (depList (dep 0 ∷ [])) (encode CellDep (dep 1))
 
 -- a lent list that is none
-abbrev noList : List ℕ
+abbrev pub noList : List ℕ
 noList = 9 ∷ []
 
 -- ---- answers
@@ -59,7 +59,7 @@ numbers (fine n) = 0 ∷ n ∷ []
 numbers (refused n l) = n ∷ l
 
 -- a buffer of so many bytes, each 7
-abbrev room : ℕ → List ℕ
+abbrev pub room : ℕ → List ℕ
 room n = replicate n 7
 
 abbrev answer : Lent → ℕ → ℕ → List ℕ

@@ -1,1 +1,2 @@
 pub mod Bases
+pub mod Parts
