@@ -17,6 +17,8 @@ extern "C" {
         remote_high: u64, remote_reserved: u64, out: Out, out_n: usize, values: *mut u64, values_n: usize,
     ) -> u32;
     fn basinpantry_hold_funding(held: Out, held_n: usize, holder: u64, cells: In, cells_n: usize) -> u32;
+    fn basinpantry_hold_for_watchtower(held: Out, held_n: usize, cells: In, cells_n: usize, time: u64) -> u32;
+    fn basinpantry_release_for_watchtower(held: Out, held_n: usize, cells: In, cells_n: usize) -> u32;
     fn basinpantry_lock_held(held: Out, held_n: usize, time: u64, out: Out, out_n: usize) -> u32;
     fn basinpantry_unavailable(held: In, held_n: usize, picked: In, picked_n: usize, spent: In, spent_n: usize, time: u64, out: Out, out_n: usize) -> u32;
     fn basinpantry_take(
@@ -75,6 +77,14 @@ pub fn build_base(base: &Base, out: &mut [u8]) -> u32 {
 
 pub fn hold_funding(held: &mut [u8], holder: u64, cells: &[u8]) -> u32 {
     unsafe { basinpantry_hold_funding(held.as_mut_ptr(), held.len(), holder, cells.as_ptr(), cells.len()) }
+}
+
+pub fn hold_for_watchtower(held: &mut [u8], cells: &[u8], time: u64) -> u32 {
+    unsafe { basinpantry_hold_for_watchtower(held.as_mut_ptr(), held.len(), cells.as_ptr(), cells.len(), time) }
+}
+
+pub fn release_for_watchtower(held: &mut [u8], cells: &[u8]) -> u32 {
+    unsafe { basinpantry_release_for_watchtower(held.as_mut_ptr(), held.len(), cells.as_ptr(), cells.len()) }
 }
 
 pub fn lock_held(held: &mut [u8], time: u64, out: &mut [u8]) -> u32 {

@@ -170,6 +170,56 @@ fn main() {
             black_box(holds::lock_held(5));
         },
     );
+    for (name, picks, named) in [("unavailable: 256 records, 64 picks, all held", 0..64, 64), ("unavailable: 256 records, 64 picks, all free", 1000..1064, 0u32)] {
+        let picks = points(picks);
+        let (pick_list, pick_values, spent) = (list(&picks), parsed(&picks), HashSet::new());
+        by_turns(
+            name,
+            room,
+            |out| {
+                assert_eq!(library::unavailable(&table, &pick_list, &none, 5, out), 0);
+                assert_eq!(out[..4], named.to_le_bytes());
+            },
+            || {
+                holds::reset();
+                holds::hold_funding(1, &cells);
+            },
+            |_| assert_eq!(black_box(holds::unavailable_parsed(&pick_values, &spent, 5)).len(), named as usize),
+        );
+    }
+    let all = list(&cells);
+    for (name, before) in [("hold_for_watchtower: 256 cells, none held", false), ("hold_for_watchtower: 256 cells, all renewed", true)] {
+        let mut table = vec![0; HELD_BYTES];
+        if before {
+            assert_eq!(library::hold_for_watchtower(&mut table, &all, 1), 0);
+        }
+        by_turns(
+            name,
+            || table.clone(),
+            |held| assert_eq!(library::hold_for_watchtower(held, &all, 5), 0),
+            || {
+                holds::reset();
+                if before {
+                    holds::hold_for_watchtower(&cells, 1);
+                }
+                parsed(&cells)
+            },
+            |cells| holds::hold_for_watchtower_parsed(std::mem::take(cells), 5),
+        );
+    }
+    let mut sent = vec![0; HELD_BYTES];
+    assert_eq!(library::hold_for_watchtower(&mut sent, &all, 1), 0);
+    by_turns(
+        "release_for_watchtower: 256 cells of 256",
+        || sent.clone(),
+        |held| assert_eq!(library::release_for_watchtower(held, &all), 0),
+        || {
+            holds::reset();
+            holds::hold_for_watchtower(&cells, 1);
+            parsed(&cells)
+        },
+        |cells| holds::release_for_watchtower_parsed(std::mem::take(cells)),
+    );
     // 64 transactions of 8 inputs each: the map is full
     let txs: Vec<([u8; 32], Vec<u8>)> = (0..64u32).map(|i| ([i as u8; 32], spending(&points(8 * i..8 * i + 8)))).collect();
     let (mut map, mut original) = (vec![0u8; EXCLUSIONS_BYTES], Map::default());

@@ -72,7 +72,7 @@ put-place t p (y ∷ a) (suc c) h l = by (isTowerOn p y) l (λ b. put-place t p 
         ap (λ (n : ℕ). take n (y ∷ set a (placeOf p (take c a)) (tower t p))) e
         ∙ ap (λ (x : List Hold). y ∷ x) (f (omega arith))
 
-place-below : (p : OutPoint) (l : List Hold) → placeOf p l ≤ length l
+pub place-below : (p : OutPoint) (l : List Hold) → placeOf p l ≤ length l
 unfolding placeOf
 place-below p [] = omega arith
 place-below p (y ∷ l) = by (isTowerOn p y) (place-below p l)
@@ -118,20 +118,25 @@ module _ {t : Millis} {s : List ℕ} {h g : Held} {n i : ℕ} (k : Renewing t s 
   next l = sym (ap (renewAll t (recordsOf g)) (span-on (pointOf s) i n l)) ∙ k .rest
 
   module _ {p : OutPoint} {a : ℕ} (l : i < n) (ep : p ≡ pointOf s i) (ea : a ≡ placeOf p (recordsOf g)) where
-    pub renew-more : {c : ℕ} → a < 256 → c ≡ g .count + (a + 1 - g .count) → Renewing t s h (record { records = set (g .records) a (tower t p); count = c }) n (i + 1)
-    unfolding recordsOf
-    renew-more {c} b ec =
-        let m = k .most in
-        let w = k .long in
-        let at : placeOf p (take (g .count) (g .records)) < length (g .records) = rw (← ea) (omega arith) in
-        let put : take c (set (g .records) a (tower t p)) ≡ renew (isTowerOn p) (tower t p) (take (g .count) (g .records)) = rw (ec, ea) (put-place t p (g .records) (g .count) (omega arith) at) in
-        let y : renewAll t (renew (isTowerOn p) (tower t p) (take (g .count) (g .records))) (span (pointOf s) (i + 1) (n - (i + 1))) ≡ renewAll t (take (h .count) (h .records)) (points s) = rw ep (next l) in
-        record {
-          within = omega arith;
-          most = omega arith;
-          long = simp length-set (k .long);
-          rest = ap (λ (x : List Hold). renewAll t x (span (pointOf s) (i + 1) (n - (i + 1)))) put ∙ y;
-        }
+    module _ {c : ℕ} (b : a < 256) (ec : c ≡ g .count + (a + 1 - g .count)) where
+      pub renewed-is : recordsOf (record { records = set (g .records) a (tower t p); count = c }) ≡ renew (isTowerOn p) (tower t p) (recordsOf g)
+      unfolding recordsOf
+      renewed-is =
+          let m = k .most in
+          let w = k .long in
+          let at : placeOf p (take (g .count) (g .records)) < length (g .records) = rw (← ea) (omega arith) in
+          rw (ec, ea) (put-place t p (g .records) (g .count) (omega arith) at)
+
+      pub renew-more : Renewing t s h (record { records = set (g .records) a (tower t p); count = c }) n (i + 1)
+      renew-more =
+          let m = k .most in
+          let y : renewAll t (renew (isTowerOn p) (tower t p) (recordsOf g)) (span (pointOf s) (i + 1) (n - (i + 1))) ≡ renewAll t (recordsOf h) (points s) = rw ep (next l) in
+          record {
+            within = omega arith;
+            most = omega arith;
+            long = simp length-set (k .long);
+            rest = ap (λ (x : List Hold). renewAll t x (span (pointOf s) (i + 1) (n - (i + 1)))) renewed-is ∙ y;
+          }
 
     pub renew-full : 256 ≤ a → 256 < length (renewAll t (recordsOf h) (points s))
     unfolding recordsOf

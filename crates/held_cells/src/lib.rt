@@ -1,5 +1,6 @@
 // The node's own cells that a transaction of its own spends before it is committed: the table goes in by value and comes back by value, and a
 // refused call hands back the very table that it got.
+use arithmetic::little_endian;
 use error::Answer;
 use error::Refusal;
 use hold_records::Held;
@@ -13,15 +14,16 @@ use out_points::OutPoint;
 use units::Millis;
 ghost use mathlib.Core.Path.{_≡_};
 ghost use mathlib.Core.Bool.{true, false};
-ghost use mathlib.Core.List.{_++_, map};
-ghost use Prim.Native.Nat.{_+_, _-_, _<_, _≤_};
+ghost use mathlib.Core.List.{[], _++_, map};
+ghost use Prim.Native.Nat.{_+_, _-_, _%_, _<_, _≤_};
+ghost use lib.ListN.{length, getD};
 ghost use Rattle.error.specs.Refusal.{answered};
 ghost use Rattle.molecule.specs.Layout.{fixCount};
-ghost use Rattle.out_points.specs.OutPoints.{points};
+ghost use Rattle.out_points.specs.OutPoints.{has, points};
 ghost use Rattle.out_points.specs.Tables.{keep, told};
 ghost use Rattle.hold_records.specs.declared.{Owner.Owner};
 ghost use Rattle.hold_records.specs.Holds.{recordsOf, heldBy, isUnnamed, isTowerOn, renewAll, atMost256, holdFunding, releaseForWatchtower, holdForWatchtower, lockHeld, unavailable, ownerFor, takeCells};
-ghost use Rattle.held_cells.specs.Places.{placeOf};
+ghost use Rattle.held_cells.specs.Places.{placeOf, hinted, Hints, towersOn};
 
 // How long the watchtower's cells stay held: a transaction of its not committed by then has left the pool, and its cells are free again.
 pub const WATCHTOWER_HOLD_MS: u64 = 1_800_000;
@@ -29,8 +31,61 @@ pub const WATCHTOWER_HOLD_MS: u64 = 1_800_000;
 // How long a cell that the watchtower took stays held while its transaction is built and sent.
 pub const WATCHTOWER_PICK_HOLD_MS: u64 = 60_000;
 
+// How many hints stand before a search for a record: one for every out point, by the first word of its hash.
+const HINTS: usize = 4096;
+
+// The hint of p: it does not stand before that place. Where it is above `most`, it is `most` from then on.
+fn hint(hints: &mut [u8], p: OutPoint, most: usize) -> usize
+    requires { ⌜ length (now hints) ≡ 4096 ⌝ }
+    ensures { λ r. ⌜ r ≡ getD (now (hints .entry)) (p .hash .a % 4096) 0 ⌝ }
+    ensures { λ _. ⌜ now (hints .exit) ≡ hinted (now (hints .entry)) p most ⌝ }
+{
+    let hash = p.hash;
+    let at = (hash.a % 4096) as usize;
+    let k = little_endian::byte(hints, at) as usize;
+    if k <= most {
+        return k;
+    }
+    hints[at] = most as u8;
+    k
+}
+
+// Sets the hints of the list's out points.
+fn hint_list(s: &[u8], hints: &mut [u8])
+    requires { ⌜ Hints (now hints) [] ⌝ }
+    ensures { λ _. ⌜ Hints (now (hints .exit)) (towersOn (points (now (s .entry)))) ⌝ }
+{
+    let n = molecule::fix_count(s) as usize;
+    let mut i: usize = 0;
+    while i < n {
+        let p = out_points::point_of(s, i);
+        hint(hints, p, i);
+        i += 1;
+    }
+}
+
+// Whether the list has p. All of it is searched only where another out point stands at the hint of p.
+fn named(s: &[u8], hints: &[u8], p: OutPoint) -> bool
+    requires { ⌜ Hints (now hints) (towersOn (points (now s))) ⌝ }
+    ensures { λ r. ⌜ r ≡ has p (points (now (s .entry))) ⌝ }
+{
+    let n = molecule::fix_count(s) as usize;
+    let hash = p.hash;
+    let at = (hash.a % 4096) as usize;
+    let k = little_endian::byte(hints, at) as usize;
+    if n <= k {
+        return false;
+    }
+    let q = out_points::point_of(s, k);
+    if out_points::same_point(p, q) {
+        return true;
+    }
+    out_points::has_point(s, p)
+}
+
 // Whether a record stays when the watchtower's holds on `cells` go.
-fn unnamed(r: Hold, cells: &[u8]) -> bool
+fn unnamed(r: Hold, cells: &[u8], hints: &[u8]) -> bool
+    requires { ⌜ Hints (now hints) (towersOn (points (now cells))) ⌝ }
     ensures { λ b. ⌜ b ≡ isUnnamed (points (now (cells .entry))) r ⌝ }
 {
     let owner = r.owner;
@@ -38,13 +93,14 @@ fn unnamed(r: Hold, cells: &[u8]) -> bool
         Owner::Funding(_) => true,
         Owner::Watchtower(_) => {
             let p = r.point;
-            !out_points::has_point(cells, p)
+            !named(cells, hints, p)
         }
     }
 }
 
 // The records without the watchtower's on `cells`.
-fn without(h: Held, cells: &[u8]) -> Held
+fn without(h: Held, cells: &[u8], hints: &[u8]) -> Held
+    requires { ⌜ Hints (now hints) (towersOn (points (now cells))) ⌝ }
     ensures { λ r. ⌜ recordsOf r ≡ keep (isUnnamed (points (now (cells .entry)))) (recordsOf h) ⌝ }
 {
     let n = hold_records::used(h.count);
@@ -54,7 +110,7 @@ fn without(h: Held, cells: &[u8]) -> Held
     while i < n {
         let x = h.records[i];
         i += 1;
-        if unnamed(x, cells) {
+        if unnamed(x, cells, hints) {
             g.records[to] = x;
             to += 1;
         }
@@ -132,25 +188,66 @@ fn counted(count: usize, at: usize) -> usize
     count
 }
 
-// The watchtower's record on each of the cells lasts until `end`: in its place, or last.
-fn renew_all(h: Held, cells: &[u8], end: Millis) -> Holds
+// Sets the hints of the table's records.
+fn hint_all(h: Held, hints: &mut [u8])
+    requires { ⌜ Hints (now hints) [] ⌝ }
+    ensures { λ _. ⌜ Hints (now (hints .exit)) (recordsOf h) ⌝ }
+{
+    let n = hold_records::used(h.count);
+    let mut i: usize = 0;
+    while i < n {
+        let x = h.records[i];
+        let p = x.point;
+        hint(hints, p, i);
+        i += 1;
+    }
+}
+
+// The watchtower's record on each of the cells lasts until `end`: in its place, or last. All records are searched only where the one at a cell's hint is of another cell. `from` has
+// the records of h, which a refusal hands back.
+fn renew_from(h: Held, from: Held, cells: &[u8], end: Millis, hints: &mut [u8]) -> Holds
+    requires { ⌜ (recordsOf from ≡ recordsOf h) × (from .count ≤ 256) × Hints (now hints) (recordsOf from) ⌝ }
     ensures { λ r. ⌜ told recordsOf (r .answer) (r .held) ≡ atMost256 h (renewAll end (recordsOf h) (points (now (cells .entry)))) ⌝ }
 {
     let n = molecule::fix_count(cells) as usize;
-    let mut g = trimmed(h);
+    let mut g = from;
     let mut i: usize = 0;
     while i < n {
         let point = out_points::point_of(cells, i);
-        let at = tower_place(g, point);
-        if MOST_RECORDS <= at {
-            return hold_records::refuse(h, Refusal::TooManyHolds);
-        }
         let owner = Owner::Watchtower(end);
-        g.records[at] = Hold { point, owner };
-        g.count = counted(g.count, at);
+        let last = g.count;
+        let k = hint(hints, point, last);
         i += 1;
+        if last <= k {
+            if MOST_RECORDS <= last {
+                return hold_records::refuse(h, Refusal::TooManyHolds);
+            }
+            g.records[last] = Hold { point, owner };
+            g.count = last + 1;
+        } else {
+            let x = g.records[k];
+            if tower_on(x, point) {
+                g.records[k] = Hold { point, owner };
+            } else {
+                let at = tower_place(g, point);
+                if MOST_RECORDS <= at {
+                    return hold_records::refuse(h, Refusal::TooManyHolds);
+                }
+                g.records[at] = Hold { point, owner };
+                g.count = counted(last, at);
+            }
+        }
     }
     hold_records::done(g)
+}
+
+fn renew_all(h: Held, cells: &[u8], end: Millis) -> Holds
+    ensures { λ r. ⌜ told recordsOf (r .answer) (r .held) ≡ atMost256 h (renewAll end (recordsOf h) (points (now (cells .entry)))) ⌝ }
+{
+    let g = trimmed(h);
+    let mut hints = [255u8; HINTS];
+    hint_all(g, &mut hints);
+    renew_from(h, g, cells, end, &mut hints)
 }
 
 // Who holds what the taker takes.
@@ -192,7 +289,9 @@ pub fn release_for_watchtower(held: Held, cells: &[u8]) -> Holds
     if !transaction::is_out_points(cells) {
         return hold_records::refuse(held, Refusal::LentBytesUnreadable);
     }
-    let g = without(held, cells);
+    let mut hints = [255u8; HINTS];
+    hint_list(cells, &mut hints);
+    let g = without(held, cells, &hints);
     hold_records::done(g)
 }
 

@@ -74,6 +74,19 @@ module _ (s : List ℕ) (i : ℕ) where
     pub item-same : {q : OutPoint} {r : Bool} → q ≡ pointOf s i → r ≡ eqPoint p q → r ≡ eqPoint p (pointOf s i)
     item-same f h = h ∙ ap (eqPoint p) f
 
+-- the same of an item that stands whole
+module _ (s : List ℕ) (i : ℕ) (p : OutPoint) {x : List ℕ} (h : i < fixCount s) (e : x ≡ take (40 + 36 * i - (4 + 36 * i)) (drop (4 + 36 * i) s)) where
+  whole : x ≡ fixItem s 36 i
+  whole = let z : 40 + 36 * i - (4 + 36 * i) ≡ 36 = omega arith in e ∙ ap (λ (n : ℕ). take n (drop (4 + 36 * i) s)) z ∙ sym (item-run s 36 i h)
+
+  pub within-word : {a : ℕ} → a ≡ u64At x 0 → (p .hash .a ≡ a → ⊥) → false ≡ eqPoint p (pointOf s i)
+  unfolding pointOf outPointAt byte32At
+  within-word f g = item-word s i p (f ∙ ap (λ (y : List ℕ). u64At y 0) whole) g
+
+  pub within-same : {q : OutPoint} {r : Bool} → q ≡ outPointAt x 0 → r ≡ eqPoint p q → r ≡ eqPoint p (pointOf s i)
+  unfolding pointOf
+  within-same f g = item-same s i p (f ∙ ap (λ (y : List ℕ). outPointAt y 0) whole) g
+
 -- ---- the tests say equality
 
 pub and-both : (a b : Bool) → (a && b) ≡ true → (a ≡ true) × (b ≡ true)

@@ -3,7 +3,7 @@
 use arithmetic::little_endian;
 use molecule::write;
 ghost use mathlib.Core.Path.{_≡_};
-ghost use Prim.Native.Nat.{_+_, _≤_, min};
+ghost use Prim.Native.Nat.{_+_, _*_, _≤_, _<_, min};
 ghost use mathlib.Core.List.{_++_};
 ghost use lib.ListN.{length};
 ghost use Rattle.arithmetic.specs.LittleEndian.{toLe};
@@ -118,8 +118,38 @@ fn same_item(s: &[u8], i: usize, p: OutPoint) -> bool
     same_point(p, q)
 }
 
+// The same of an item that the list has whole: no more than that is tested for each.
+fn same_within(s: &[u8], i: usize, p: OutPoint) -> bool
+    requires { ⌜ (i < fixCount (now s)) × (40 + 36 * i ≤ length (now s)) ⌝ }
+    ensures { λ r. ⌜ r ≡ eqPoint p (pointOf (now (s .entry)) i) ⌝ }
+{
+    let x = &s[4 + 36 * i..40 + 36 * i];
+    let hash = p.hash;
+    let a = little_endian::u64_at(x, 0);
+    if hash.a != a {
+        return false;
+    }
+    let q = out_point_at(x, 0);
+    same_point(p, q)
+}
+
+// Whether p is among the first n items, which the list has whole.
+fn has_within(s: &[u8], n: usize, p: OutPoint) -> bool
+    requires { ⌜ (n ≤ fixCount (now s)) × (4 + 36 * n ≤ length (now s)) ⌝ }
+    ensures { λ r. ⌜ r ≡ has p (span (pointOf (now (s .entry))) 0 n) ⌝ }
+{
+    let mut i = 0;
+    while i < n {
+        if same_within(s, i, p) {
+            return true;
+        }
+        i += 1;
+    }
+    false
+}
+
 // Whether p is among the first n items, read as zeros where the list has none.
-fn has_among(s: &[u8], n: usize, p: OutPoint) -> bool
+fn has_loosely(s: &[u8], n: usize, p: OutPoint) -> bool
     ensures { λ r. ⌜ r ≡ has p (span (pointOf (now (s .entry))) 0 n) ⌝ }
 {
     let mut i = 0;
@@ -130,6 +160,19 @@ fn has_among(s: &[u8], n: usize, p: OutPoint) -> bool
         i += 1;
     }
     false
+}
+
+fn has_among(s: &[u8], n: usize, p: OutPoint) -> bool
+    ensures { λ r. ⌜ r ≡ has p (span (pointOf (now (s .entry))) 0 n) ⌝ }
+{
+    let count = molecule::fix_count(s) as usize;
+    if count < n {
+        return has_loosely(s, n, p);
+    }
+    if s.len() < 4 + 36 * n {
+        return has_loosely(s, n, p);
+    }
+    has_within(s, n, p)
 }
 
 // Whether p is among the first n items of the lent list, or among all where it has fewer.

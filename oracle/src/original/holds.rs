@@ -42,10 +42,16 @@ pub fn hold_funding_parsed(holder: u64, cells: Vec<OutPoint>) {
     held::hold_funding(holder, cells)
 }
 pub fn hold_for_watchtower(cells: &[Point], now: u64) {
-    held::hold_for_watchtower(points(cells), now)
+    hold_for_watchtower_parsed(points(cells), now)
+}
+pub fn hold_for_watchtower_parsed(cells: Vec<OutPoint>, now: u64) {
+    held::hold_for_watchtower(cells, now)
 }
 pub fn release_for_watchtower(cells: &[Point]) {
-    held::release_for_watchtower(points(cells))
+    release_for_watchtower_parsed(points(cells))
+}
+pub fn release_for_watchtower_parsed(cells: Vec<OutPoint>) {
+    held::release_for_watchtower(cells)
 }
 /// For the funding of a holder, or for the watchtower (none): the cells taken, and those refused.
 pub fn take(picked: &[Point], spent: &[Point], holder: Option<u64>, now: u64) -> (Vec<Point>, Vec<Point>) {
@@ -58,7 +64,10 @@ pub fn take_parsed(picked: Vec<OutPoint>, spent: &HashSet<OutPoint>, holder: Opt
 }
 /// Without order: the original answers with a set.
 pub fn unavailable(picked: &[Point], spent: &[Point], now: u64) -> BTreeSet<Point> {
-    held::probe::look(&points(picked), &points(spent).into_iter().collect(), now).iter().map(plain).collect()
+    unavailable_parsed(&points(picked), &points(spent).into_iter().collect(), now).iter().map(plain).collect()
+}
+pub fn unavailable_parsed(picked: &[OutPoint], spent: &HashSet<OutPoint>, now: u64) -> HashSet<OutPoint> {
+    held::probe::look(picked, spent, now)
 }
 /// In an order that the original leaves open.
 pub fn lock_held(now: u64) -> Vec<Point> {

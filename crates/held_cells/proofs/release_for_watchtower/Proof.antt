@@ -9,6 +9,9 @@ release-for-watchtower-spec =
     (λ c κs. search ways)  -- is-out-points-requires
     (λ c κs. search ways)  -- refuse-requires
     (λ c. search ways)  -- returns
+    (λ c. search ways)  -- slice-aggregate-hint-list
+    (λ c κs. search ways)  -- hint-list-requires
+    (λ c. search ways)  -- slice-aggregate-without
     (λ c κs. search ways)  -- without-requires
     (λ c κs. search ways)  -- done-requires
     (λ c. search ways))  -- returns-2

@@ -8,6 +8,6 @@ unnamed-spec =
     (tie.spec
     (λ c. search ways)  -- enum-told
     (λ c. search ways)  -- enum-told-2
-    (λ c κs. search ways)  -- has-point-requires
+    (λ c κs. search ways)  -- named-requires
     (λ c. search ways)  -- returns
     (λ c. search ways))  -- returns-2

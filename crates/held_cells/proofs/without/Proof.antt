@@ -7,10 +7,10 @@ use Rattle.held_cells.proofs.without.Statement.{statement}
 use Rattle.held_cells.proofs.without.Tie as tie
 
 abbrev Inv-loop : tie.InvT-loop
-Inv-loop cells h n g₀ to₀ i₀ g to i = Keeping (isUnnamed (points cells)) h g n to i
+Inv-loop cells hints h n g₀ to₀ i₀ g to i = Keeping (isUnnamed (points cells)) h g n to i
 
 abbrev μ-loop : tie.MeasureT-loop
-μ-loop cells h n g₀ to₀ i₀ g to i = n - i
+μ-loop cells hints h n g₀ to₀ i₀ g to i = n - i
 
 pub without-spec : {M : Type 1} → statement M
 without-spec =

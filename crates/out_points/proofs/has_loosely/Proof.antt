@@ -3,8 +3,8 @@ use Rattle.molecule.specs.Layout.{span}
 use Rattle.out_points.specs.OutPoints.{pointOf, has}
 use Rattle.out_points.proofs.EqualLaws.{Seek}
 use Rattle.out_points.proofs.Ways.{ways}
-use Rattle.out_points.proofs.has_among.Statement.{statement}
-use Rattle.out_points.proofs.has_among.Tie as tie
+use Rattle.out_points.proofs.has_loosely.Statement.{statement}
+use Rattle.out_points.proofs.has_loosely.Tie as tie
 
 abbrev Inv-loop : tie.InvT-loop
 Inv-loop s n p i₀ i = Seek p (pointOf s) n i (has p (span (pointOf s) 0 n))
@@ -12,8 +12,8 @@ Inv-loop s n p i₀ i = Seek p (pointOf s) n i (has p (span (pointOf s) 0 n))
 abbrev μ-loop : tie.MeasureT-loop
 μ-loop s n p i₀ i = n - i
 
-pub has-among-spec : {M : Type 1} → statement M
-has-among-spec =
+pub has-loosely-spec : {M : Type 1} → statement M
+has-loosely-spec =
     tie.close
     (tie.spec
     Inv-loop
