@@ -50,7 +50,7 @@ pub fn hold_for_watchtower(held: &mut [u8], cells: &[u8], time: Millis) -> Answe
         return Answer::Refused(Refusal::LentBytesUnreadable);
     }
     let h = crate::read_held(held);
-    let r = held_cells::hold_for_watchtower(h, cells, time);
+    let r = watchtower_holds::hold_for_watchtower(h, cells, time);
     leave(held, r)
 }
 
@@ -62,7 +62,7 @@ pub fn release_for_watchtower(held: &mut [u8], cells: &[u8]) -> Answer
         return Answer::Refused(Refusal::LentBytesUnreadable);
     }
     let h = crate::read_held(held);
-    let r = held_cells::release_for_watchtower(h, cells);
+    let r = watchtower_holds::release_for_watchtower(h, cells);
     leave(held, r)
 }
 

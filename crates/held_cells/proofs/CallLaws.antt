@@ -2,44 +2,25 @@
 use mathlib.Core.Path.{_≡_, sym, ap, _∙_}
 use Prim.Native.Nat.{ℕ, _+_, _-_, _≤_, _<_}
 use native.Mathlib.Omega.{arith}
-use borrow.Author.Tests.{not-true, not-false, le-leb, lt-leb}
+use borrow.Author.Tests.{not-true, not-false}
 use mathlib.Core.Bool.{Bool, true, false, not, cond}
 use mathlib.Core.List.{List, [], _++_, map}
 use lib.ListN.{length, drop, length-append, length-map}
 use Rattle.error.specs.declared.{Refusal.Refusal, Answer.Answer}
 use Rattle.error.specs.Refusal.{number, answered}
 use Rattle.units.specs.declared.{Millis.Millis}
-use Rattle.units.specs.Units.{later}
 use Rattle.molecule.specs.Layout.{fixCount}
 use Rattle.molecule.specs.Molecule.{readable}
 use Rattle.transaction.specs.Ckb.{OutPoints}
 use Rattle.out_points.specs.OutPoints.{points}
 use Rattle.out_points.proofs.ListLaws.{length-points}
-use Rattle.out_points.specs.Tables.{keep, Outcome, done, refused, told, hasRoom, written}
-use Rattle.hold_records.specs.declared.{Owner.Owner, Hold.Hold, Held.Held, Rule.Rule, Taker.Taker}
-use Rattle.hold_records.specs.Holds.{recordsOf, heldBy, cellsOf, atMost256, isUnnamed, renewAll, holdFunding, releaseForWatchtower, holdForWatchtower, lockHeld, isBusy, firsts, unavailable, ownerFor, takeCells}
+use Rattle.out_points.specs.Tables.{keep, done, refused, told, hasRoom, written}
+use Rattle.hold_records.specs.declared.{Owner.Owner, Held.Held, Rule.Rule, Taker.Taker}
+use Rattle.hold_records.specs.Holds.{recordsOf, heldBy, cellsOf, atMost256, holdFunding, lockHeld, isBusy, firsts, unavailable, ownerFor, takeCells}
 use Rattle.hold_records.specs.Rules.{isKept, putIf}
 use Rattle.hold_records.proofs.LoopLaws.{recorded}
 use Rattle.picks.specs.Places.{isAmong, takeFrom}
-
-abbrev pub After : Type 0
-After = Outcome Held (List Hold)
-
-over : (h : Held) (l : List Hold) → 256 < length l → atMost256 h l ≡ refused 14 h
-unfolding atMost256
-over h l b = rw (lt-leb (length l) 256 b)
-
-under : (h : Held) (l : List Hold) → length l ≤ 256 → atMost256 h l ≡ done l
-unfolding atMost256
-under h l b = rw (le-leb (length l) 256 b)
-
-pub over-is : (h : Held) (l : List Hold) {o : After} → 256 < length l → o ≡ told recordsOf (Answer.Refused Refusal.TooManyHolds) h → o ≡ atMost256 h l
-unfolding told number
-over-is h l b e = e ∙ sym (over h l b)
-
-pub under-is : (h g : Held) (l : List Hold) {o : After} → length l ≤ 256 → recordsOf g ≡ l → o ≡ told recordsOf Answer.Done g → o ≡ atMost256 h l
-unfolding told
-under-is h g l b eg e = e ∙ ap done eg ∙ sym (under h l b)
+use Rattle.hold_records.proofs.LimitLaws.{After, over, under}
 
 -- ---- hold_funding
 
@@ -63,28 +44,6 @@ module _ (h : Held) (holder : ℕ) (cells : List ℕ) {b : Bool} (eb : b ≡ rea
     pub funding-done : {o : After} (g : Held) → n ≤ 256 - k .count → recordsOf g ≡ recordsOf k ++ map (heldBy (Owner.Funding holder)) (points cells) → o ≡ told recordsOf Answer.Done g → o ≡ holdFunding h holder cells
     unfolding told
     funding-done g l eg e = e ∙ ap done eg ∙ sym (under h (recordsOf k ++ map (heldBy (Owner.Funding holder)) (points cells)) (omega (arith, new-length))) ∙ fitted
-
--- ---- release_for_watchtower
-
-module _ (h : Held) (cells : List ℕ) {b : Bool} (eb : b ≡ readable OutPoints cells) where
-  pub release-unread : {o : After} → not b ≡ true → o ≡ told recordsOf (Answer.Refused Refusal.LentBytesUnreadable) h → o ≡ releaseForWatchtower h cells
-  unfolding releaseForWatchtower told number
-  release-unread t e = e ∙ rw (← eb, not-true b t)
-
-  pub release-done : {o : After} (g : Held) → not b ≡ false → recordsOf g ≡ keep (isUnnamed (points cells)) (recordsOf h) → o ≡ told recordsOf Answer.Done g → o ≡ releaseForWatchtower h cells
-  unfolding releaseForWatchtower told
-  release-done g t eg e = e ∙ ap done eg ∙ rw (← eb, not-false b t)
-
--- ---- hold_for_watchtower
-
-module _ (h : Held) (cells : List ℕ) (time : Millis) {b : Bool} (eb : b ≡ readable OutPoints cells) where
-  pub tower-unread : {o : After} → not b ≡ true → o ≡ told recordsOf (Answer.Refused Refusal.LentBytesUnreadable) h → o ≡ holdForWatchtower h cells time
-  unfolding holdForWatchtower told number
-  tower-unread t e = e ∙ rw (← eb, not-true b t)
-
-  pub tower-done : {o : After} {t : Millis} → not b ≡ false → t ≡ later time (record { 0 = 1800000 }) → o ≡ atMost256 h (renewAll t (recordsOf h) (points cells)) → o ≡ holdForWatchtower h cells time
-  unfolding holdForWatchtower
-  tower-done u et e = e ∙ rw (← eb, not-false b u, et)
 
 -- ---- lock_held
 

@@ -1,7 +1,4 @@
 pub mod AddLaws
 pub mod CallLaws
-pub mod Examples
-pub mod HintLaws
-pub mod RenewLaws
 pub mod TestLaws
 pub mod Ways

@@ -1,3 +1,4 @@
+pub mod LimitLaws
 pub mod ListLaws
 pub mod LoopLaws
 pub mod TestLaws

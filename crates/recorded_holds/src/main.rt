@@ -95,10 +95,10 @@ fn run_plain(held: Held, call: &[u8]) -> Holds {
     }
     if k == 2 {
         let at = time(call);
-        return held_cells::hold_for_watchtower(held, recorded_calls::field(call, 1), at);
+        return watchtower_holds::hold_for_watchtower(held, recorded_calls::field(call, 1), at);
     }
     if k == 5 {
-        return held_cells::release_for_watchtower(held, recorded_calls::field(call, 1));
+        return watchtower_holds::release_for_watchtower(held, recorded_calls::field(call, 1));
     }
     answered(hold_records::empty(), Answer::Done)
 }

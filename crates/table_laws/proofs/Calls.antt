@@ -15,7 +15,7 @@ use Rattle.out_points.specs.OutPoints.{points}
 use Rattle.out_points.specs.Tables.{keep, done, refused, told, hasRoom, written}
 use Rattle.hold_records.specs.declared.{Owner.Owner, Hold.Hold, Held.Held, Taker.Taker}
 use Rattle.hold_records.specs.Holds.{recordsOf, heldBy, cellsOf, atMost256, isNotOf, holdFunding, isUnnamed, releaseForWatchtower, renewAll, holdForWatchtower, lockHeld, isLive, isBusy, firsts, others, ownerFor, takeCells}
-use Rattle.held_cells.proofs.CallLaws.{After}
+use Rattle.hold_records.proofs.LimitLaws.{After}
 use Rattle.table_laws.specs.Holds.{Table, byValue, Took, Locked}
 
 -- the records that have not ended

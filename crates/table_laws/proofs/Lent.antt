@@ -19,7 +19,7 @@ use Rattle.table_bytes.specs.Lent.{leaving, lentTable, lentWith, lentWithTwo, w
 use Rattle.table_bytes.specs.declared.{Place.Place}
 use Rattle.table_bytes.specs.Places.{FitPlace, placeOf, places}
 use Rattle.table_bytes.proofs.AgainLaws.{places-fit}
-use Rattle.held_cells.proofs.CallLaws.{After}
+use Rattle.hold_records.proofs.LimitLaws.{After}
 use Rattle.held_bytes.specs.HeldBytes.{holdOf, heldOf, heldAt, heldBytes}
 use Rattle.held_bytes.proofs.BytesLaws.{held-zeros}
 use Rattle.table_laws.specs.Holds.{Reached, empty, InRange, OneEach, HeldRefused, GivenHeld, LockedRefused, StaysHeld, GivenOnce}

@@ -12,7 +12,7 @@ use Rattle.out_points.proofs.EqualLaws.{point-same, point-refl}
 use Rattle.out_points.specs.Tables.{keep, renew}
 use Rattle.hold_records.specs.declared.{Owner.Owner, Hold.Hold}
 use Rattle.hold_records.specs.Holds.{recordsOf, heldBy, byOwner, cellsOf, isNotOf, isUnnamed, isTowerOn, renewAll, isLive}
-use Rattle.held_cells.proofs.RenewLaws.{tower}
+use Rattle.watchtower_holds.proofs.RenewLaws.{tower}
 use Rattle.table_laws.specs.Holds as run
 use Rattle.table_laws.specs.Holds.{Table, Called, Stands, here, there, outlives, Outlived}
 use Rattle.table_laws.proofs.Calls.{unended, Faithful, moved, hold-fine, watch-fine, release-fine, locked-fine, take-fine}

@@ -23,7 +23,7 @@ pub record Table (T O : Type 0) : Type 0 where
   pub givesWith : T → List ℕ → Outcome Held (List Hold) × List ℕ → O × List ℕ
   pub givesTwo : T → List ℕ → List ℕ → Outcome Held (List Hold) × List ℕ × List ℕ → O × List ℕ × List ℕ
 
--- by value, as the contracts of crates/held_cells/src/lib.rt
+-- by value, as the contracts of crates/held_cells/src/lib.rt and crates/watchtower_holds/src/lib.rt
 abbrev pub byValue : Table Held (Outcome Held (List Hold))
 byValue = record { held = λ h. h; says = λ a h. told recordsOf a h; gives = λ h o. o; givesWith = λ h b o. o; givesTwo = λ h b c o. o }
 

@@ -25,14 +25,14 @@ pub fn release_for_watchtower(held: Held, cells: &[u8]) -> Holds
     ensures { λ r. ⌜ told recordsOf (r .answer) (r .held) ≡ releaseForWatchtower held (now (cells .entry)) ⌝ }
     ensures { λ r. ⌜ Called byValue held (r .held) ⌝ }
 {
-    held_cells::release_for_watchtower(held, cells)
+    watchtower_holds::release_for_watchtower(held, cells)
 }
 
 pub fn hold_for_watchtower(held: Held, cells: &[u8], time: Millis) -> Holds
     ensures { λ r. ⌜ told recordsOf (r .answer) (r .held) ≡ holdForWatchtower held (now (cells .entry)) time ⌝ }
     ensures { λ r. ⌜ Called byValue held (r .held) ⌝ }
 {
-    held_cells::hold_for_watchtower(held, cells, time)
+    watchtower_holds::hold_for_watchtower(held, cells, time)
 }
 
 pub fn lock_held(held: Held, time: Millis, out: &mut [u8]) -> Holds

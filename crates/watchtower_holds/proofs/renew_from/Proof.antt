@@ -1,0 +1,51 @@
+use Prim.Native.Nat.{_-_}
+use Rattle.watchtower_holds.proofs.HintLaws.{Going}
+use Rattle.watchtower_holds.proofs.Ways.{ways}
+use Rattle.watchtower_holds.proofs.renew_from.Statement.{statement}
+use Rattle.watchtower_holds.proofs.renew_from.Tie as tie
+
+abbrev Inv-loop : tie.InvT-loop
+Inv-loop h cells end hints₀ n g₀ i₀ hints g i = Going end cells h g n i hints₀ hints
+
+abbrev μ-loop : tie.MeasureT-loop
+μ-loop h cells end hints₀ n g₀ i₀ hints g i = n - i
+
+pub renew-from-spec : {M : Type 1} → statement M
+renew-from-spec =
+    tie.close
+    (tie.spec
+    Inv-loop
+    μ-loop
+    (λ c κs. search ways)  -- fix-count-requires
+    (λ c. search ways)  -- cast-n
+    (λ c. search ways)  -- loop-holds
+    (λ c κs. search ways)  -- point-of-requires
+    (λ c κs. search ways)  -- hint-requires
+    (λ c. search ways)  -- add-i
+    (λ c κs. search ways)  -- refuse-requires
+    (λ c. search ways)  -- same-length
+    (λ c. search ways)  -- returns
+    (λ c. search ways)  -- mul-t22
+    (λ c. search ways)  -- element-set-from-g
+    (λ c. search ways)  -- add-g
+    (λ c. search ways)  -- loop-less
+    (λ c. search ways)  -- loop-again
+    (λ c. search ways)  -- mul-x
+    (λ c. search ways)  -- element-copy-out-x
+    (λ c κs. search ways)  -- tower-on-requires
+    (λ c. search ways)  -- mul-t31
+    (λ c. search ways)  -- element-set-from-g-2
+    (λ c. search ways)  -- loop-less-2
+    (λ c. search ways)  -- loop-again-2
+    (λ c κs. search ways)  -- tower-place-requires
+    (λ c κs. search ways)  -- refuse-requires-2
+    (λ c. search ways)  -- same-length-2
+    (λ c. search ways)  -- returns-2
+    (λ c. search ways)  -- mul-t38
+    (λ c. search ways)  -- element-set-from-g-3
+    (λ c κs. search ways)  -- counted-requires
+    (λ c. search ways)  -- loop-less-3
+    (λ c. search ways)  -- loop-again-3
+    (λ c κs. search ways)  -- done-requires
+    (λ c. search ways)  -- same-length-3
+    (λ c. search ways))  -- returns-3
