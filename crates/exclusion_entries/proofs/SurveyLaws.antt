@@ -6,17 +6,17 @@ use mathlib.Core.List.{List}
 use native.Mathlib.Omega.{arith}
 use borrow.Author.Tests.{eq-eqb, ne-eqb, le-leb, lt-leb, not-true, not-false}
 use lib.Dec.{eqb}
-use lib.ListN.{length, drop, length-drop}
+use lib.ListN.{length, take, drop, length-drop}
 use lib.Seq.{take-all, drop-drop}
 use Rattle.arithmetic.specs.LittleEndian.{u32At, u64At}
 use Rattle.units.specs.declared.{BlockNumber.BlockNumber}
-use Rattle.molecule.specs.Layout.{part, word, fixCount}
+use Rattle.molecule.specs.Layout.{word, fixCount}
 use Rattle.out_points.specs.declared.{Byte32.Byte32}
 use Rattle.out_points.specs.OutPoints.{eqHash, byte32At}
 use Rattle.exclusion_entries.specs.Exclusions.{hasHash}
 use Rattle.exclusion_entries.specs.declared.{Rule.Rule, Words.Words, Survey.Survey}
 use Rattle.exclusion_entries.specs.Entries.{entryOf, sizeOf, entriesIn, excludedAt, isEntry, areEntries, isMap}
-use Rattle.exclusion_entries.specs.Survey.{keeps, takes, lostOne, tookOne, stayed, turned, sweep, start, wordsOf, mayTouch, stepped, surveyOf}
+use Rattle.exclusion_entries.specs.Survey.{keeps, takes, lostOne, tookOne, stayed, turned, sweep, start, wordsOf, mayTouch, surveyOf}
 use Rattle.exclusion_entries.proofs.EntryLaws.{points-count}
 
 -- ---- one entry
@@ -62,14 +62,9 @@ pub start-is : (good : Bool) → _≡_ {A = Survey} (record { good = good; lost 
 unfolding start
 start-is good = refl
 
-module _ (rule : Rule) (n : ℕ) (v : Survey) (x : List ℕ) {b : Bool} {u : Survey} (eb : b ≡ isEntry x) where
-  pub stepped-bad : not b ≡ true → u ≡ start false → u ≡ stepped rule n v x
-  unfolding stepped
-  stepped-bad h e = e ∙ rw (← eb, not-true b h)
-
-  pub stepped-on : {p q : Bool} → not b ≡ false → p ≡ keeps rule (entryOf x) → q ≡ takes rule (entryOf x) → u ≡ turned p q n v → u ≡ stepped rule n v x
-  unfolding stepped
-  stepped-on h ep eq e = e ∙ rw (← eb, not-false b h, ep, eq)
+pub turned-by : (rule : Rule) (n : ℕ) (v : Survey) (x : List ℕ) {p q : Bool} {u : Survey} → p ≡ keeps rule (entryOf x) → q ≡ takes rule (entryOf x) → u ≡ turned p q n v
+    → u ≡ turned (keeps rule (entryOf x)) (takes rule (entryOf x)) n v
+turned-by rule n v x ep eq e = e ∙ rw (ep, eq)
 
 -- ---- an entry that the rule does not touch
 
@@ -128,46 +123,14 @@ untouched (Rule.Remove h) x e = (ap not (other-hash x h (two-words (eqb (u64At x
 untouched (Rule.Migrate o h) x e = let (p, q) = two-words (eqb (u64At x 0) (o .a)) (eqb (u64At x 0) (h .a)) e in (ap not (other-hash x o p), other-hash x h q)
 untouched (Rule.Truncate tip) x e = absurd (never e)
 
-pub stepped-past : (rule : Rule) (n : ℕ) (v : Survey) (x : List ℕ) (w : Words) {b m : Bool} {u : Survey} → b ≡ isEntry x → not b ≡ false → w ≡ wordsOf rule → m ≡ mayTouch w x → not m ≡ true → u ≡ stayed n v → u ≡ stepped rule n v x
-unfolding stepped turned
-stepped-past rule n v x w {b} {m} eb h ew em g e =
-    let (k, t) = untouched rule x (ap (λ (y : Words). mayTouch y x) (sym ew) ∙ sym em ∙ not-true m g) in
-    e ∙ rw (← eb, not-false b h, k, t) (by (v .taken))
+-- such an entry stays
+passes : (rule : Rule) (n : ℕ) (v : Survey) (x : List ℕ) → mayTouch (wordsOf rule) x ≡ false → stayed n v ≡ turned (keeps rule (entryOf x)) (takes rule (entryOf x)) n v
+unfolding turned
+passes rule n v x h = let (k, t) = untouched rule x h in rw (k, t) (by (v .taken))
   where
     by : (c : Bool) → stayed n v ≡ cond (cond c false false) (tookOne v) (stayed n v)
     by true = refl
     by false = refl
-
--- it is good as long as entries are
-good-turn : (v : Survey) (kept taken : Bool) (n : ℕ) → turned kept taken n v .good ≡ v .good
-unfolding turned stayed tookOne lostOne
-good-turn v false taken n = refl
-good-turn v true taken n = by (cond (v .taken) false taken)
-  where
-    by : (t : Bool) → cond t (tookOne v) (stayed n v) .good ≡ v .good
-    by true = refl
-    by false = refl
-
-module _ (rule : Rule) (n : ℕ) (v : Survey) (x : List ℕ) {u : Survey} (g : v .good ≡ true) (e : u ≡ stepped rule n v x) where
-  stepped-entry : not (u .good) ≡ false → isEntry x ≡ true
-  unfolding stepped start
-  stepped-entry h = by (isEntry x) refl
-    where
-      by : (t : Bool) → isEntry x ≡ t → isEntry x ≡ true
-      by true k = k
-      by false k = absurd (never (sym (not-false (u .good) h) ∙ rw (e, k)))
-
-  stepped-none : not (u .good) ≡ true → (isEntry x ≡ false) × (u ≡ start false)
-  unfolding stepped
-  stepped-none h = by (isEntry x) refl
-    where
-      by : (t : Bool) → isEntry x ≡ t → (isEntry x ≡ false) × (u ≡ start false)
-      by true k =
-          let w : u ≡ turned (keeps rule (entryOf x)) (takes rule (entryOf x)) n v = e ∙ rw k in
-          let z : u .good ≡ true = ap (λ (a : Survey). a .good) w ∙ good-turn v (keeps rule (entryOf x)) (takes rule (entryOf x)) n ∙ g in
-          let y : true ≡ false = sym z ∙ not-true (u .good) h in
-          absurd (never y)
-      by false k = (k, e ∙ rw k)
 
 -- ---- what the numbers are at most: the places up to `at`, the entries up to i, and the out points that are not among the `left`
 
@@ -217,7 +180,6 @@ pub record Sweeping (rule : Rule) (s : List ℕ) (n : ℕ) (v : Survey) (at left
   pub within : i ≤ n
   pub few : n ≤ 64
   pub room : at + 48 * (n - i) + 36 * left ≤ 21508
-  pub good : v .good ≡ true
   pub bounded : Bounded v i at left
   pub reads : areEntries (n - i) left (drop at s) ≡ isMap s
   pub swept : sweep (keeps rule) (takes rule) v (entriesIn (n - i) (drop at s)) ≡ sweep (keeps rule) (takes rule) (start true) (excludedAt s)
@@ -243,7 +205,6 @@ module _ (rule : Rule) (s : List ℕ) where
           within = omega arith;
           few = h;
           room = omega arith;
-          good = ap (λ (a : Survey). a .good) f;
           bounded = b;
           reads = sym (m ∙ ap (λ (k : ℕ). areEntries k 512 (drop 4 s)) z);
           swept = ap₂ (λ (w : Survey) (k : ℕ). sweep (keeps rule) (takes rule) w (entriesIn k (drop 4 s))) f (sym z);
@@ -251,9 +212,8 @@ module _ (rule : Rule) (s : List ℕ) where
 
 module _ {rule : Rule} {s : List ℕ} {n : ℕ} {v : Survey} {at left i : ℕ} (w : Sweeping rule s n v at left i) where
   -- the first of the entries that are left, and the rest
-  module _ (h : i < n) {x : List ℕ} (ex : x ≡ part s at (length s)) where
+  module _ (h : i < n) {x : List ℕ} (ex : x ≡ take (length s - at) (drop at s)) where
     here : x ≡ drop at s
-    unfolding part
     here = ex ∙ take-all (length s - at) (drop at s) (omega (arith, length-drop at s))
 
     next : n - i ≡ suc (n - (i + 1))
@@ -264,9 +224,6 @@ module _ {rule : Rule} {s : List ℕ} {n : ℕ} {v : Survey} {at left i : ℕ} (
 
     past : (c : ℕ) → drop (48 + 36 * c) x ≡ drop (at + (48 + 36 * c)) s
     past c = ap (drop (48 + 36 * c)) here ∙ drop-drop (48 + 36 * c) at s
-
-    behind-it : (c : ℕ) → c ≡ u32At x 44 → drop (sizeOf x) x ≡ drop (at + (48 + 36 * c)) s
-    behind-it c ec = rw (← ec) (past c)
 
     reads-on : areEntries (suc (n - (i + 1))) left x ≡ isMap s
     reads-on = ap₂ (λ (k : ℕ) (y : List ℕ). areEntries k left y) (sym next) here ∙ w .reads
@@ -280,36 +237,39 @@ module _ {rule : Rule} {s : List ℕ} {n : ℕ} {v : Survey} {at left i : ℕ} (
           by true e = rw (← reads-on, e, ← ec, lt-leb c left k)
           by false e = rw (← reads-on, e)
 
-      module _ {u : Survey} (k : c ≤ left) (eu : u ≡ stepped rule c v x) where
-        pub sweep-stop : not (u .good) ≡ true → u ≡ surveyOf rule s
+      module _ (k : c ≤ left) {b : Bool} (eb : b ≡ isEntry x) where
+        pub sweep-bad : {u : Survey} → not b ≡ true → u ≡ start false → u ≡ surveyOf rule s
         unfolding surveyOf areEntries
-        sweep-stop g = let (q, f) = stepped-none rule c v x (w .good) eu g in f ∙ rw (← reads-on, q)
+        sweep-bad g f = f ∙ rw (← reads-on, ← eb, not-true b g)
 
-        pub sweep-more : not (u .good) ≡ false → Sweeping rule s n u (at + (48 + 36 * c)) (left - c) (i + 1)
-        unfolding areEntries entriesIn sweep stepped
-        sweep-more g =
-            let r = w .room in
-            let yes : isEntry x ≡ true = stepped-entry rule c v x (w .good) eu g in
-            let p = keeps rule (entryOf x) in
-            let q = takes rule (entryOf x) in
-            let m : length (entryOf x .points) ≡ c = points-count x whole ∙ sym ec in
-            let on : u ≡ turned p q c v = eu ∙ rw yes in
-            let turn : turned p q (length (entryOf x .points)) v ≡ u = rw m (sym on) in
-            let y = drop (at + (48 + 36 * c)) s in
-            let a : areEntries (suc (n - (i + 1))) left x ≡ areEntries (n - (i + 1)) (left - c) y = rw (yes, ← ec, le-leb c left k) (ap (areEntries (n - (i + 1)) (left - c)) (past c)) in
-            record {
-              long = w .long;
-              within = omega arith;
-              few = w .few;
-              room = omega arith;
-              good = not-false (u .good) g;
-              bounded = rw on (bounded-turn c p q (w .bounded) k);
-              reads = sym a ∙ reads-on;
-              swept =
-                  ap₂ (λ (t : Survey) (z : List ℕ). sweep (keeps rule) (takes rule) t (entriesIn (n - (i + 1)) z)) (sym turn) (sym (behind-it c ec))
-                  ∙ ap₂ (λ (j : ℕ) (z : List ℕ). sweep (keeps rule) (takes rule) v (entriesIn j z)) (sym next) here
-                  ∙ w .swept;
-            }
+        module _ (g : not b ≡ false) {u : Survey} where
+          pub sweep-touched : u ≡ turned (keeps rule (entryOf x)) (takes rule (entryOf x)) c v → Sweeping rule s n u (at + (48 + 36 * c)) (left - c) (i + 1)
+          unfolding areEntries entriesIn sweep
+          sweep-touched on =
+              let r = w .room in
+              let yes : isEntry x ≡ true = sym eb ∙ not-false b g in
+              let p = keeps rule (entryOf x) in
+              let q = takes rule (entryOf x) in
+              let m : length (entryOf x .points) ≡ c = points-count x whole ∙ sym ec in
+              let turn : turned p q (length (entryOf x .points)) v ≡ u = rw m (sym on) in
+              let y = drop (at + (48 + 36 * c)) s in
+              let a : areEntries (suc (n - (i + 1))) left x ≡ areEntries (n - (i + 1)) (left - c) y = rw (yes, ← ec, le-leb c left k) (ap (areEntries (n - (i + 1)) (left - c)) (past c)) in
+              let d : drop (sizeOf x) x ≡ y = rw (← ec) (past c) in
+              record {
+                long = w .long;
+                within = omega arith;
+                few = w .few;
+                room = omega arith;
+                bounded = rw on (bounded-turn c p q (w .bounded) k);
+                reads = sym a ∙ reads-on;
+                swept =
+                    ap₂ (λ (t : Survey) (z : List ℕ). sweep (keeps rule) (takes rule) t (entriesIn (n - (i + 1)) z)) (sym turn) (sym d)
+                    ∙ ap₂ (λ (j : ℕ) (z : List ℕ). sweep (keeps rule) (takes rule) v (entriesIn j z)) (sym next) here
+                    ∙ w .swept;
+              }
+
+          pub sweep-passed : {o : Words} {m : Bool} → o ≡ wordsOf rule → m ≡ mayTouch o x → m ≡ false → u ≡ stayed c v → Sweeping rule s n u (at + (48 + 36 * c)) (left - c) (i + 1)
+          sweep-passed eo em f e = sweep-touched (e ∙ passes rule c v x (ap (λ (y : Words). mayTouch y x) (sym eo) ∙ sym em ∙ f))
 
   pub sweep-end : n ≤ i → v ≡ surveyOf rule s
   unfolding surveyOf areEntries entriesIn sweep

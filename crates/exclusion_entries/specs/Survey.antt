@@ -7,7 +7,7 @@ use Rattle.arithmetic.specs.LittleEndian.{u64At}
 use Rattle.out_points.specs.Tables.{keep}
 use Rattle.exclusion_entries.specs.Exclusions.{Entry, hasHash, isRecent}
 use Rattle.exclusion_entries.specs.declared.{Rule.Rule, Words.Words, Survey.Survey}
-use Rattle.exclusion_entries.specs.Entries.{entryOf, excludedAt, isEntry, isMap}
+use Rattle.exclusion_entries.specs.Entries.{excludedAt, isMap}
 
 -- whether the entry is kept, and whether a new one is to take its place
 unfoldable pub keeps : Rule → Entry → Bool
@@ -92,10 +92,6 @@ wordsOf (Rule.Truncate tip) = record { always = true; old = 0; new = 0 }
 
 unfoldable pub mayTouch : Words → List ℕ → Bool
 mayTouch w x = cond (w .always) true (cond (eqb (u64At x 0) (w .old)) true (eqb (u64At x 0) (w .new)))
-
--- after the entry at the start of x
-unfoldable pub stepped : Rule → ℕ → Survey → List ℕ → Survey
-stepped rule n v x = cond (isEntry x) (turned (keeps rule (entryOf x)) (takes rule (entryOf x)) n v) (start false)
 
 unfoldable pub surveyOf : Rule → List ℕ → Survey
 surveyOf rule s = cond (isMap s) (sweep (keeps rule) (takes rule) (start true) (excludedAt s)) (start false)

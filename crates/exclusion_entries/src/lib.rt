@@ -9,7 +9,7 @@ ghost use Prim.Native.Nat.{_≤_};
 ghost use Rattle.arithmetic.specs.LittleEndian.{u32At};
 ghost use Rattle.exclusion_entries.specs.Exclusions.{hasHash, isRecent};
 ghost use Rattle.exclusion_entries.specs.Entries.{entryOf, isEntry};
-ghost use Rattle.exclusion_entries.specs.Survey.{keeps, takes, stayed, turned, start, wordsOf, mayTouch, stepped, surveyOf};
+ghost use Rattle.exclusion_entries.specs.Survey.{keeps, takes, stayed, turned, start, wordsOf, mayTouch, surveyOf};
 
 // How many bytes a lent table has: room for its count, 64 entries and 512 out points.
 pub const MAP_BYTES: usize = 21_508;
@@ -247,23 +247,16 @@ fn may_touch(w: Words, x: &[u8]) -> bool
     a == w.new
 }
 
-// After the entry at the start of x, which has n out points; not good where that is none. What the rule does not touch is passed over with no look at the rule.
-fn stepped(v: Survey, rule: Rule, w: Words, x: &[u8], n: usize) -> Survey
+// After the entry at the start of x, with n out points, that the rule may touch.
+fn touched(v: Survey, rule: Rule, x: &[u8], n: usize) -> Survey
     requires { ⌜ n ≤ 512 ⌝ }
     requires { ⌜ v .stays ≤ 64 ⌝ }
     requires { ⌜ v .points ≤ 512 ⌝ }
     requires { ⌜ v .place ≤ 21508 ⌝ }
     requires { ⌜ v .from ≤ 21508 ⌝ }
     requires { ⌜ v .index ≤ 64 ⌝ }
-    requires { ⌜ w ≡ wordsOf rule ⌝ }
-    ensures { λ r. ⌜ r ≡ stepped rule n v (now (x .entry)) ⌝ }
+    ensures { λ r. ⌜ r ≡ turned (keeps rule (entryOf (now (x .entry)))) (takes rule (entryOf (now (x .entry)))) n v ⌝ }
 {
-    if !is_entry(x) {
-        return start(false);
-    }
-    if !may_touch(w, x) {
-        return stayed(v, n);
-    }
     let kept = keeps(rule, x);
     let taken = takes(rule, x);
     turned(v, kept, taken, n)
@@ -286,18 +279,24 @@ pub fn read_map(s: &[u8], rule: Rule) -> Survey
     let mut left = MOST_OUT_POINTS;
     let mut i: usize = 0;
     while i < n {
-        let x = molecule::part(s, at, s.len());
+        let x = &s[at..s.len()];
         let c = point_count(x) as usize;
         if left < c {
             return start(false);
         }
-        v = stepped(v, rule, w, x, c);
-        if !v.good {
-            return v;
+        if !is_entry(x) {
+            return start(false);
         }
+        let touch = may_touch(w, x);
         left -= c;
         at += 48 + 36 * c;
         i += 1;
+        // What the rule does not touch is passed over with no look at the rule.
+        if touch {
+            v = touched(v, rule, x, c);
+        } else {
+            v = stayed(v, c);
+        }
     }
     v
 }

@@ -1,5 +1,5 @@
 use Prim.Native.Nat.{_-_}
-use Rattle.exclusion_entries.proofs.SurveyLaws.{Sweeping, sweep-more}
+use Rattle.exclusion_entries.proofs.SurveyLaws.{Sweeping}
 use Rattle.exclusion_entries.proofs.Ways.{ways}
 use Rattle.exclusion_entries.proofs.read_map.Statement.{statement}
 use Rattle.exclusion_entries.proofs.read_map.Tie as tie
@@ -25,17 +25,25 @@ read-map-spec =
     (λ c κs. search ways)  -- words-of-requires
     (λ c κs. search ways)  -- start-requires-3
     (λ c. search ways)  -- loop-holds
-    (λ c κs. search ways)  -- part-requires
+    (λ c. search ways)  -- sub-x
+    (λ c. search ways)  -- part-x-start
+    (λ c. search ways)  -- part-x-end
     (λ c κs. search ways)  -- point-count-requires
     (λ c. search ways)  -- cast-c
     (λ c κs. search ways)  -- start-requires-4
     (λ c. search ways)  -- returns-3
-    (λ c κs. (search ways, (search ways, (search ways, (search ways, (search ways, (search ways, c .before .before .before .before .before .before .words-of .ensures)))))))  -- stepped-requires
+    (λ c κs. search ways)  -- is-entry-requires
+    (λ c κs. search ways)  -- start-requires-5
     (λ c. search ways)  -- returns-4
+    (λ c κs. search ways)  -- may-touch-requires
     (λ c. search ways)  -- mul-at
     (λ c. search ways)  -- add-at
     (λ c. search ways)  -- add-at-2
     (λ c. search ways)  -- add-i
+    (λ c κs. search ways)  -- touched-requires
     (λ c. search ways)  -- loop-less
-    (λ c. let b = c .before .before .before .before in sweep-more (b .before .before .before .loop .inv) (b .before .before .loop-test .taken) (b .before .part .ensures .0) (b .point-count .ensures) (c .before .before .before .if3 .left) (c .before .before .stepped .ensures) (c .if4 .left))  -- loop-again
+    (λ c. search ways)  -- loop-again
+    (λ c κs. search ways)  -- stayed-requires
+    (λ c. search ways)  -- loop-less-2
+    (λ c. search ways)  -- loop-again-2
     (λ c. search ways))  -- returns-5
