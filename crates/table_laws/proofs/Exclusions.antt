@@ -29,7 +29,7 @@ use Rattle.table_laws.specs.Exclusions.{Called, answerOf, StaysMap, Stay
 -- ---- what a call's contract says of the bytes that it leaves, and of their entries
 
 -- the rule of the call, on the entries of s
-abbrev outcomeOf : {s t : List ℕ} → Called s t → Outcome (List ℕ) (List Entry)
+abbrev pub outcomeOf : {s t : List ℕ} → Called s t → Outcome (List ℕ) (List Entry)
 outcomeOf {s} (run.add r hash tx e) = addOn s (excludedAt s) hash tx
 outcomeOf {s} (run.commit r hash block e) = commitOn s (excludedAt s) hash block
 outcomeOf {s} (run.remove r hash e) = removeOn s (excludedAt s) hash
@@ -85,11 +85,11 @@ module _ {s t : List ℕ} (c : Called s t) where
 
 -- ---- for any property of the entries: a rule that is done leaves it
 
-abbrev Fine : (List Entry → Type 0) → Outcome (List ℕ) (List Entry) → Type 0
+abbrev pub Fine : (List Entry → Type 0) → Outcome (List ℕ) (List Entry) → Type 0
 Fine P (done l) = P l
 Fine P (refused n x) = Unit {0}
 
-left-fine : (P : List Entry → Type 0) {s t : List ℕ} (c : Called s t) → P (excludedAt s) → (isMap s ≡ true → Fine P (outcomeOf c)) → P (excludedAt t)
+pub left-fine : (P : List Entry → Type 0) {s t : List ℕ} (c : Called s t) → P (excludedAt s) → (isMap s ≡ true → Fine P (outcomeOf c)) → P (excludedAt t)
 unfolding lentMap leaving
 left-fine P {s} {t} c p f = subst P (sym (entries-left c)) (by (isMap s) refl (outcomeOf c) f)
   where
@@ -99,11 +99,11 @@ left-fine P {s} {t} c p f = subst P (sym (entries-left c)) (by (isMap s) refl (o
     by false g a f = p
 
 module _ (P : List Entry → Type 0) (s : List ℕ) where
-  checked : (c : Bool) (n : ℕ) (a : Outcome (List ℕ) (List Entry)) → Fine P a → Fine P (cond c a (refused n s))
+  pub checked : (c : Bool) (n : ℕ) (a : Outcome (List ℕ) (List Entry)) → Fine P a → Fine P (cond c a (refused n s))
   checked true n a g = g
   checked false n a g = tt
 
-  either : (c : Bool) (a b : Outcome (List ℕ) (List Entry)) → Fine P a → Fine P b → Fine P (cond c a b)
+  pub either : (c : Bool) (a b : Outcome (List ℕ) (List Entry)) → Fine P a → Fine P b → Fine P (cond c a b)
   either true a b g h = g
   either false a b g h = h
 
@@ -116,7 +116,7 @@ module _ (P : List Entry → Type 0) (s : List ℕ) where
       by true false e f = tt
       by false b e f = tt
 
-  enters : (l : List Entry) (hash : Byte32) (tx : List ℕ) → P l
+  pub enters : (l : List Entry) (hash : Byte32) (tx : List ℕ) → P l
       → (length (renew (hasHash hash) (pending hash tx) l) ≤ 64 → length (excluded (renew (hasHash hash) (pending hash tx) l)) ≤ 512 → P (renew (hasHash hash) (pending hash tx) l))
       → Fine P (entering s l hash tx)
   unfolding entering

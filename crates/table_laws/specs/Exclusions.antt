@@ -1,14 +1,14 @@
 -- A list of calls on a lent exclusion map. Each step has what the contract of the call (crates/exclusions/src/lib.rt) says of it.
 use mathlib.Core.Path.{_≡_}
-use Prim.Native.Nat.{ℕ, _≤_}
+use Prim.Native.Nat.{ℕ, suc, _≤_}
 use mathlib.Core.Bool.{Bool, true, false, not, cond}
-use mathlib.Core.List.{List, _∷_}
+use mathlib.Core.List.{List, [], _∷_}
 use lib.ListN.{length, replicate}
 use Rattle.units.specs.declared.BlockNumber.{BlockNumber}
 use Rattle.arithmetic.specs.LittleEndian.{AllBytes}
 use Rattle.error.specs.declared.{Refusal.Refusal, Answer.Answer}
 use Rattle.error.specs.Refusal.{answered}
-use Rattle.out_points.specs.declared.{OutPoint.OutPoint}
+use Rattle.out_points.specs.declared.{Byte32.Byte32, OutPoint.OutPoint}
 use Rattle.out_points.specs.OutPoints.{byte32At, has, points}
 use Rattle.out_points.specs.Tables.{told}
 use Rattle.table_bytes.specs.Lent.{withBytes}
@@ -53,6 +53,17 @@ StaysWithin = (s t : List ℕ) → isMap s ≡ true → Reached s t → Within t
 
 abbrev pub ZerosWithin : Type 0
 ZerosWithin = (t : List ℕ) → Reached (replicate 21508 0) t → Within t
+
+-- how many entries a hash has: one at most after any list of calls, if so before it, as in the empty map
+unfoldable pub entriesOf : Byte32 → List Entry → ℕ
+entriesOf h [] = 0
+entriesOf h (e ∷ l) = cond (hasHash h e) (suc (entriesOf h l)) (entriesOf h l)
+
+abbrev pub OneEach : List ℕ → Type 0
+OneEach s = (h : Byte32) → entriesOf h (excludedAt s) ≤ 1
+
+abbrev pub StaysOneEach : Type 0
+StaysOneEach = (s t : List ℕ) → OneEach s → Reached s t → OneEach t
 
 -- a refusal leaves the bytes, and bytes that are no map no call changes
 abbrev pub RefusedSame : Type 0
