@@ -1,6 +1,5 @@
 pub mod Computing
 pub mod KnownDecided
-pub mod KnownFullTables
 pub mod KnownOutcomes
 pub mod KnownReplay
 pub mod KnownRuns

@@ -1,6 +1,5 @@
 pub mod CaseFiles
 pub mod Decided
-pub mod FullTables
 pub mod Outcomes
 pub mod Replays
 pub mod Runs

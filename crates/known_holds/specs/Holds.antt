@@ -1,0 +1,165 @@
+-- The calls on the table of holds worked through, by value and on lent bytes: an example of each answer and of each sentence of 01-scope.md ("Holds and exclusions") about them, with the whole table
+-- and the whole buffers after the call. proofs/KnownHolds.antt proves all rows.
+use Prim.Native.Nat.{ℕ, _-_, _^_}
+use mathlib.Core.List.{List, [], _∷_, _++_}
+use lib.ListN.{length, replicate}
+use Rattle.arithmetic.specs.LittleEndian.{toLe}
+use Rattle.units.specs.declared.{Millis.Millis}
+use Rattle.molecule.specs.Write.{putAt}
+use Rattle.out_points.specs.declared.{OutPoint.OutPoint}
+use Rattle.out_points.specs.OutPoints.{pointBytes, pointList}
+use Rattle.out_points.specs.Tables.{Outcome, done, refused}
+use Rattle.hold_records.specs.declared.{Owner.Owner, Hold.Hold, Held.Held, Taker.Taker}
+use Rattle.hold_records.specs.Holds.{heldBy, holdFunding, holdForWatchtower, releaseForWatchtower, lockHeld, unavailable, takeCells}
+use Rattle.table_bytes.specs.Lent.{After, lentTable}
+use Rattle.held_bytes.specs.HeldBytes.{heldOf, heldBytes}
+use Rattle.known_cases.specs.Rows.{Row, _gives_}
+
+-- ---- what the rows are built from
+
+-- cells of the transaction whose hash is zeros, by their index
+abbrev cell : ℕ → OutPoint
+cell n = record { hash = record { a = 0; b = 0; c = 0; d = 0 }; index = n }
+
+abbrev A : OutPoint
+A = cell 1
+
+abbrev B : OutPoint
+B = cell 2
+
+abbrev C : OutPoint
+C = cell 3
+
+abbrev ms : ℕ → Millis
+ms n = record { 0 = n }
+
+abbrev funding : ℕ → OutPoint → Hold
+funding holder p = heldBy (Owner.Funding holder) p
+
+abbrev tower : ℕ → OutPoint → Hold
+tower end p = heldBy (Owner.Watchtower (ms end)) p
+
+abbrev table : List Hold → Held
+table l = record { records = l; count = length l }
+
+-- so many records of holder 5 on one cell
+abbrev others : ℕ → List Hold
+others n = replicate n (funding 5 (cell 0))
+
+-- lists of cells; bytes that are none, a count with no items; and a buffer of so many bytes, each 7
+abbrev of1 : OutPoint → List ℕ
+of1 p = pointList (p ∷ [])
+
+abbrev of2 : OutPoint → OutPoint → List ℕ
+of2 p q = pointList (p ∷ q ∷ [])
+
+abbrev none : List ℕ
+none = pointList []
+
+abbrev noList : List ℕ
+noList = 1 ∷ 0 ∷ 0 ∷ 0 ∷ []
+
+abbrev room : ℕ → List ℕ
+room n = replicate n 7
+
+-- ---- calls that return the table
+
+-- an ended watchtower record and 255 others
+abbrev nearlyFull : Held
+nearlyFull = table (others 255 ++ (tower 1000 B ∷ []))
+
+abbrev pub returning : List (Row (Outcome Held (List Hold)))
+returning =
+    -- "`hold_funding` drops a holder's records and adds the new list, repeats too"
+    (holdFunding (table (funding 7 B ∷ tower 5 C ∷ funding 8 A ∷ [])) 7 (of2 A A) gives done (tower 5 C ∷ funding 8 A ∷ funding 7 A ∷ funding 7 A ∷ []))
+    ∷ (holdFunding (table (funding 7 B ∷ funding 8 A ∷ [])) 7 none gives done (funding 8 A ∷ []))
+    -- over 256 records get 14, just 256 pass, and those of the holder itself are dropped first
+    ∷ (holdFunding (table (others 256)) 1 (of1 A) gives refused 14 (table (others 256)))
+    ∷ (holdFunding (table (others 255)) 1 (of2 A B) gives refused 14 (table (others 255)))
+    ∷ (holdFunding (table (others 255)) 1 (of1 A) gives done (others 255 ++ (funding 1 A ∷ [])))
+    ∷ (holdFunding (table (others 256)) 5 (of2 A B) gives done (funding 5 A ∷ funding 5 B ∷ []))
+    ∷ (holdFunding (table (others 256)) 1 noList gives refused 3 (table (others 256)))
+    -- "`hold_for_watchtower` sets the end to now + 1,800,000 (capped at 2^64 - 1), one record per cell"; "New records go last; a renewed watchtower record .. keeps its place"
+    ∷ (holdForWatchtower (table (tower 5 A ∷ funding 7 B ∷ [])) (pointList (C ∷ A ∷ B ∷ C ∷ [])) (ms 1000) gives done (tower 1801000 A ∷ funding 7 B ∷ tower 1801000 C ∷ tower 1801000 B ∷ []))
+    ∷ (holdForWatchtower (table []) (of1 A) (ms (2 ^ 64 - 1800001)) gives done (tower (2 ^ 64 - 1) A ∷ []))
+    ∷ (holdForWatchtower (table []) (of1 A) (ms (2 ^ 64 - 1)) gives done (tower (2 ^ 64 - 1) A ∷ []))
+    -- 14, and a cell named twice is one record; ended records count
+    ∷ (holdForWatchtower (table (others 256)) (of1 A) (ms 1000) gives refused 14 (table (others 256)))
+    ∷ (holdForWatchtower (table (others 255)) (of2 A A) (ms 1000) gives done (others 255 ++ (tower 1801000 A ∷ [])))
+    ∷ (holdForWatchtower nearlyFull (of1 A) (ms 1000) gives refused 14 nearlyFull)
+    ∷ (holdForWatchtower nearlyFull (of1 B) (ms 1000) gives done (others 255 ++ (tower 1801000 B ∷ [])))
+    ∷ (holdForWatchtower (table (others 256)) noList (ms 1000) gives refused 3 (table (others 256)))
+    -- "`release_for_watchtower` drops the named cells' watchtower records"
+    ∷ (releaseForWatchtower (table (tower 5 A ∷ funding 7 A ∷ tower 5 B ∷ [])) (of2 A C) gives done (funding 7 A ∷ tower 5 B ∷ []))
+    ∷ (releaseForWatchtower (table (tower 5 A ∷ [])) noList gives refused 3 (table (tower 5 A ∷ [])))
+    ∷ []
+
+-- ---- `lock_held`, with the buffer
+
+abbrev twoHeld : Held
+twoHeld = table (tower 1000 A ∷ funding 7 B ∷ [])
+
+abbrev pub locking : List (Row (Outcome Held (List Hold) × List ℕ))
+locking =
+    -- "`lock_held` drops ended records, then writes the out points left, in record order": ended from its end on
+    (lockHeld twoHeld (ms 999) (room 80) gives (done (tower 1000 A ∷ funding 7 B ∷ []), of2 A B ++ room 4))
+    ∷ (lockHeld twoHeld (ms 1000) (room 80) gives (done (funding 7 B ∷ []), of1 B ++ room 40))
+    -- 13, and then nothing is dropped
+    ∷ (lockHeld twoHeld (ms 1000) (room 39) gives (refused 13 twoHeld, room 39))
+    ∷ []
+
+-- ---- `take`, with both buffers
+
+abbrev pub taking : List (Row (Outcome Held (List Hold) × List ℕ × List ℕ))
+taking =
+    -- "`take` first drops watchtower records whose end is not above now; then a pick is refused if held by anybody, spent, or taken earlier in the call; otherwise it is recorded"; "Both lists keep pick order"
+    (takeCells twoHeld (pointList (C ∷ A ∷ B ∷ A ∷ [])) (of1 C) (Taker.Funding 1) (ms 1000) (room 40) (room 112)
+    gives (done (funding 7 B ∷ funding 1 A ∷ []), of1 A, pointList (C ∷ B ∷ A ∷ [])))
+    ∷ (takeCells twoHeld (of2 A C) none (Taker.Funding 1) (ms 999) (room 41) (room 41) gives (done (tower 1000 A ∷ funding 7 B ∷ funding 1 C ∷ []), of1 C ++ room 1, of1 A ++ room 1))
+    -- "for the watchtower until now + 60,000 (capped)"
+    ∷ (takeCells (table []) (of1 A) none Taker.Watchtower (ms 1000) (room 40) (room 4) gives (done (tower 61000 A ∷ []), of1 A, none))
+    ∷ (takeCells (table []) (of1 A) none Taker.Watchtower (ms (2 ^ 64 - 60000)) (room 40) (room 4) gives (done (tower (2 ^ 64 - 1) A ∷ []), of1 A, none))
+    -- 14 counts what is left after the drop: with 255 others and an ended record one pick passes, and two are 14 and the ended one stays
+    ∷ (takeCells nearlyFull (of1 A) none (Taker.Funding 1) (ms 1000) (room 76) (room 4) gives (done (others 255 ++ (funding 1 A ∷ [])), of1 A ++ room 36, none))
+    ∷ (takeCells nearlyFull (of2 A C) none (Taker.Funding 1) (ms 1000) (room 76) (room 4) gives (refused 14 nearlyFull, room 76, room 4))
+    -- by what is taken, and not by how many are picked
+    ∷ (takeCells (table (others 255)) (of2 A B) (of1 A) (Taker.Funding 1) (ms 1000) (room 40) (room 40) gives (done (others 255 ++ (funding 1 B ∷ [])), of1 B, of1 A))
+    ∷ (takeCells (table (others 256)) (of1 (cell 0)) none (Taker.Funding 1) (ms 1000) (room 4) (room 40) gives (done (others 256), none, of1 (cell 0)))
+    -- 13 comes before 14: no room for the taken ones, or for the refused ones
+    ∷ (takeCells (table (others 256)) (of1 A) none (Taker.Funding 1) (ms 1000) (room 39) (room 40) gives (refused 13 (table (others 256)), room 39, room 40))
+    ∷ (takeCells (table (others 256)) (of1 (cell 0)) none (Taker.Funding 1) (ms 1000) (room 40) (room 39) gives (refused 13 (table (others 256)), room 40, room 39))
+    -- 3 before all, of either list
+    ∷ (takeCells twoHeld noList none (Taker.Funding 1) (ms 1000) (room 3) (room 3) gives (refused 3 twoHeld, room 3, room 3))
+    ∷ (takeCells twoHeld (of1 A) noList (Taker.Funding 1) (ms 1000) (room 3) (room 3) gives (refused 3 twoHeld, room 3, room 3))
+    ∷ []
+
+-- ---- `unavailable`, with the buffer
+
+abbrev pub naming : List (Row (ℕ × List ℕ))
+naming =
+    -- "`unavailable` names, once each in pick order, picks spent or held unended"
+    (unavailable twoHeld (pointList (C ∷ B ∷ A ∷ B ∷ [])) (of1 C) (ms 999) (room 112) gives (0, pointList (C ∷ B ∷ A ∷ [])))
+    ∷ (unavailable twoHeld (pointList (C ∷ B ∷ A ∷ B ∷ [])) (of1 C) (ms 1000) (room 112) gives (0, of2 C B ++ room 36))
+    ∷ (unavailable twoHeld (of1 B) none (ms 1000) (room 39) gives (13, room 39))
+    ∷ (unavailable twoHeld noList none (ms 1000) (room 40) gives (3, room 40))
+    ∷ (unavailable twoHeld (of1 B) noList (ms 1000) (room 40) gives (3, room 40))
+    ∷ []
+
+-- ---- on lent bytes
+
+-- no record, and bytes behind; and one record of a kind that is not named, which is the watchtower's
+abbrev lentNone : List ℕ
+lentNone = toLe 4 0 ++ room 12288
+
+abbrev lentOdd : List ℕ
+lentOdd = toLe 4 1 ++ pointBytes A ++ toLe 4 9 ++ toLe 8 5 ++ replicate 12240 0
+
+abbrev pub lent : List (Row (After (List Hold)))
+lent =
+    -- what is done is put over the bytes, and those behind it keep their value
+    (lentTable heldBytes 12292 lentNone (holdFunding (heldOf lentNone) 1 (of1 A)) gives done (funding 1 A ∷ [], putAt lentNone 0 (toLe 4 1 ++ pointBytes A ++ toLe 4 0 ++ toLe 8 1)))
+    ∷ (lentTable heldBytes 12292 lentOdd (holdFunding (heldOf lentOdd) 1 none) gives done (tower 5 A ∷ [], putAt lentOdd 0 (toLe 4 1 ++ pointBytes A ++ toLe 4 1 ++ toLe 8 5)))
+    -- a refusal leaves them; a table of another length is 3
+    ∷ (lentTable heldBytes 12292 lentNone (holdFunding (heldOf lentNone) 1 noList) gives refused 3 lentNone)
+    ∷ (lentTable heldBytes 12292 (room 12291) (holdFunding (heldOf (room 12291)) 1 (of1 A)) gives refused 3 (room 12291))
+    ∷ []
