@@ -75,7 +75,8 @@ def main():
         lines, wrote = run(crate), 0
         for path, text in printed(lines):
             function = os.path.basename(os.path.dirname(path))
-            new = None if os.path.exists(path) else short(crate, text, hint.get(function))
+            inside = os.path.relpath(os.path.dirname(path), 'crates/%s/proofs' % crate)  # MODULE/FUNCTION, where two have one name
+            new = None if os.path.exists(path) else short(crate, text, hint.get(inside, hint.get(function)))
             if new:
                 os.makedirs(os.path.dirname(path), exist_ok=True)
                 open(path, 'w').write(new)

@@ -9,7 +9,7 @@ use Rattle.units.specs.declared.Millis.{Millis}
 use Rattle.units.specs.Units.{later}
 use Rattle.molecule.specs.Molecule.{readable}
 use Rattle.transaction.specs.Ckb.{OutPoints}
-use Rattle.error.specs.declared.{Answer.Answer}
+use Rattle.error.specs.declared.{Refusal.Refusal, Answer.Answer}
 use Rattle.out_points.specs.declared.OutPoint.{OutPoint}
 use Rattle.out_points.specs.OutPoints.{points}
 use Rattle.out_points.specs.Tables.{keep, done, refused, told, hasRoom, written}
@@ -118,6 +118,15 @@ by-value = record {
 pub moved : (P : List Hold → Type 0) {a : Answer} {h g : Held} {o : After} → Step a h g o → Fine P h o → P (recordsOf h) → P (recordsOf g)
 moved P {a} {h} {g} {o} (goes e) f s = back P h a g o e f s
 moved P (stays e) f s = subst (λ (k : Held). P (recordsOf k)) (sym e) s
+
+-- a refusal leaves what the table means
+abbrev pub Refuses : Held → After → Type 0
+Refuses h o = Fine (λ _. Unit {0}) h o
+
+pub refused-stays : {why : Refusal} {h g : Held} {o : After} → Step (Answer.Refused why) h g o → Refuses h o → g ≡ h
+unfolding told
+refused-stays {why} {h} {g} {o} (goes e) f = subst (Refuses h) (sym e) f
+refused-stays (stays e) f = e
 
 -- ---- what a call that is done leaves
 

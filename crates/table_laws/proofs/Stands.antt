@@ -10,12 +10,14 @@ use Rattle.out_points.specs.declared.{OutPoint.OutPoint}
 use Rattle.out_points.specs.OutPoints.{eqPoint, has, points}
 use Rattle.out_points.proofs.EqualLaws.{point-same, point-refl}
 use Rattle.out_points.specs.Tables.{keep, renew}
-use Rattle.hold_records.specs.declared.{Owner.Owner, Hold.Hold}
+use Rattle.error.specs.declared.{Answer.Answer}
+use Rattle.hold_records.specs.declared.{Owner.Owner, Hold.Hold, Held.Held}
 use Rattle.hold_records.specs.Holds.{recordsOf, heldBy, byOwner, cellsOf, isNotOf, isUnnamed, isTowerOn, renewAll, isLive}
+use Rattle.hold_records.proofs.LimitLaws.{After}
 use Rattle.watchtower_holds.proofs.RenewLaws.{tower}
 use Rattle.table_laws.specs.Holds as run
-use Rattle.table_laws.specs.Holds.{Table, Called, Stands, here, there, outlives, Outlived}
-use Rattle.table_laws.proofs.Calls.{unended, Faithful, moved, hold-fine, watch-fine, release-fine, locked-fine, take-fine}
+use Rattle.table_laws.specs.Holds.{Table, Called, Stands, here, there, ifDone, outlives, Outlived}
+use Rattle.table_laws.proofs.Calls.{unended, Faithful, Step, Fine, moved, Refuses, refused-stays, hold-fine, watch-fine, release-fine, locked-fine, take-fine}
 
 -- ---- which calls it outlives
 
@@ -93,20 +95,28 @@ stands-has r l (there x k s) = by (eqPoint (r .point) (x .point)) (stands-has r 
 -- ---- over any list of calls
 
 module _ {T O : Type 0} {F : Table T O} (f : Faithful F) (x : Hold) where
+  by-answer : (a : Answer) (b : Bool) {h g : Held} {o : After} → Step a h g o → Refuses h o → (b ≡ true → Fine (Stands x) h o) → ifDone a b ≡ true → Stands x (recordsOf h) → Stands x (recordsOf g)
+  unfolding ifDone
+  by-answer Answer.Done b st u fine o q = moved (Stands x) st (fine o) q
+  by-answer (Answer.Refused why) b st u fine o q = subst (λ (k : Held). Stands x (recordsOf k)) (sym (refused-stays st u)) q
+
   outlived : {s t : T} (c : Called F s t) → outlives x c ≡ true → Stands x (recordsOf (F .held s)) → Stands x (recordsOf (F .held t))
   unfolding outlives
   outlived (run.hold {s} {t} a holder cells e) o q =
-      moved (Stands x) (f .alone s t a _ e)
-      (hold-fine (Stands x) (F .held s) holder cells (stands-append x (keep (isNotOf holder) (recordsOf (F .held s))) _ (stands-keep x (isNotOf holder) (recordsOf (F .held s)) o q))) q
+      by-answer a (isNotOf holder x) (f .alone s t a _ e) (hold-fine (λ _. Unit {0}) (F .held s) holder cells tt)
+      (λ k. hold-fine (Stands x) (F .held s) holder cells (stands-append x (keep (isNotOf holder) (recordsOf (F .held s))) _ (stands-keep x (isNotOf holder) (recordsOf (F .held s)) k q))) o q
   outlived (run.watch {s} {t} a cells now e) o q =
-      moved (Stands x) (f .alone s t a _ e) (watch-fine (Stands x) (F .held s) cells now (stands-renewed (later now (record { 0 = 1800000 })) x (points cells) (recordsOf (F .held s)) o q)) q
+      by-answer a (isUnnamed (points cells) x) (f .alone s t a _ e) (watch-fine (λ _. Unit {0}) (F .held s) cells now tt)
+      (λ k. watch-fine (Stands x) (F .held s) cells now (stands-renewed (later now (record { 0 = 1800000 })) x (points cells) (recordsOf (F .held s)) k q)) o q
   outlived (run.release {s} {t} a cells e) o q =
-      moved (Stands x) (f .alone s t a _ e) (release-fine (Stands x) (F .held s) cells (stands-keep x (isUnnamed (points cells)) (recordsOf (F .held s)) o q)) q
+      by-answer a (isUnnamed (points cells) x) (f .alone s t a _ e) (release-fine (λ _. Unit {0}) (F .held s) cells tt)
+      (λ k. release-fine (Stands x) (F .held s) cells (stands-keep x (isUnnamed (points cells)) (recordsOf (F .held s)) k q)) o q
   outlived (run.locked {s} {t} a now out after e) o q =
-      moved (Stands x) (f .beside s t a out after _ e) (locked-fine (Stands x) (F .held s) now out (stands-keep x (isLive now) (recordsOf (F .held s)) o q)) q
+      by-answer a (isLive now x) (f .beside s t a out after _ e) (locked-fine (λ _. Unit {0}) (F .held s) now out tt)
+      (λ k. locked-fine (Stands x) (F .held s) now out (stands-keep x (isLive now) (recordsOf (F .held s)) k q)) o q
   outlived (run.take {s} {t} a picked spent taker now out₁ out₂ after₁ after₂ e) o q =
-      moved (Stands x) (f .both s t a out₁ out₂ after₁ after₂ _ e)
-      (take-fine (Stands x) (F .held s) picked spent taker now out₁ out₂ (stands-append x (unended (F .held s) now) _ (stands-keep x (isLive now) (recordsOf (F .held s)) o q))) q
+      by-answer a (isLive now x) (f .both s t a out₁ out₂ after₁ after₂ _ e) (take-fine (λ _. Unit {0}) (F .held s) picked spent taker now out₁ out₂ tt)
+      (λ k. take-fine (Stands x) (F .held s) picked spent taker now out₁ out₂ (stands-append x (unended (F .held s) now) _ (stands-keep x (isLive now) (recordsOf (F .held s)) k q))) o q
 
   pub still : {s t : T} → Stands x (recordsOf (F .held s)) → Outlived F x s t → Stands x (recordsOf (F .held t))
   still q run.none = q

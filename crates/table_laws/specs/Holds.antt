@@ -95,14 +95,19 @@ LockedRefused {T} F = (s : T) (now : Millis) → InRange (F .held s)
 
 -- ---- how long: over any list of calls
 
--- the record outlives the call. What ends it: `hold_funding` by its own holder; of a watchtower record, `hold_for_watchtower` on its cell, which replaces it,
+-- a call that is refused ends nothing; of one that is done the test says whether the record outlives it
+unfoldable pub ifDone : Answer → Bool → Bool
+ifDone Answer.Done b = b
+ifDone (Answer.Refused why) b = true
+
+-- the record outlives the call. What ends it, if it is done: `hold_funding` by its own holder; of a watchtower record, `hold_for_watchtower` on its cell, which replaces it,
 -- and `release_for_watchtower` on its cell; `lock_held` and `take` at a time at which it is no longer live
 unfoldable pub outlives : {T O : Type 0} {F : Table T O} {s t : T} → Hold → Called F s t → Bool
-outlives x (hold a holder cells e) = isNotOf holder x
-outlives x (watch a cells now e) = isUnnamed (points cells) x
-outlives x (release a cells e) = isUnnamed (points cells) x
-outlives x (locked a now out after e) = isLive now x
-outlives x (take a picked spent taker now out₁ out₂ after₁ after₂ e) = isLive now x
+outlives x (hold a holder cells e) = ifDone a (isNotOf holder x)
+outlives x (watch a cells now e) = ifDone a (isUnnamed (points cells) x)
+outlives x (release a cells e) = ifDone a (isUnnamed (points cells) x)
+outlives x (locked a now out after e) = ifDone a (isLive now x)
+outlives x (take a picked spent taker now out₁ out₂ after₁ after₂ e) = ifDone a (isLive now x)
 
 -- a list of calls from one table to another, none of which ends x
 pub data Outlived {T O : Type 0} (F : Table T O) (x : Hold) : T → T → Type 0 where

@@ -37,7 +37,7 @@ module _ {s t : List ℕ} (a : Answer) where
 
   pub take-lent-done : (picked spent : List ℕ) (taker : Taker) (time : Millis) (out₁ out₂ after₁ after₂ : List ℕ)
       → (told (withBytes heldAt) a t, after₁, after₂) ≡ lentWithTwo heldBytes 12292 s out₁ out₂ (takeCells (heldOf s) picked spent taker time out₁ out₂)
-      → (AllBytes picked → a ≡ Answer.Done → holds.Took lent s t picked spent taker time after₁ after₂)
+      → AllBytes picked → (a ≡ Answer.Done → holds.Took lent s t picked spent taker time after₁ after₂)
   take-lent-done picked spent taker time out₁ out₂ after₁ after₂ e b d = record {
     out₁ = out₁;
     out₂ = out₂;

@@ -32,6 +32,6 @@ module _ {h : Held} (r : Holds) where
 
   pub take-done : (picked spent : List ℕ) (taker : Taker) (time : Millis) (out₁ out₂ after₁ after₂ : List ℕ)
       → (told recordsOf (r .answer) (r .held), after₁, after₂) ≡ takeCells h picked spent taker time out₁ out₂
-      → (AllBytes picked → r .answer ≡ Answer.Done → holds.Took holds.byValue h (r .held) picked spent taker time after₁ after₂)
+      → AllBytes picked → (r .answer ≡ Answer.Done → holds.Took holds.byValue h (r .held) picked spent taker time after₁ after₂)
   take-done picked spent taker time out₁ out₂ after₁ after₂ e b d =
       record { out₁ = out₁; out₂ = out₂; says = subst (λ (a : Answer). (told recordsOf a (r .held), after₁, after₂) ≡ takeCells h picked spent taker time out₁ out₂) d e; lent = b }

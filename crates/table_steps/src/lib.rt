@@ -3,9 +3,9 @@
 use hold_records::Held;
 use hold_records::Holds;
 use hold_records::Taker;
+use transaction_writer::are_bytes;
 use units::Millis;
 ghost use mathlib.Core.Path.{_≡_};
-ghost use Rattle.arithmetic.specs.LittleEndian.{AllBytes};
 ghost use Rattle.error.specs.declared.{Answer.Answer};
 ghost use Rattle.out_points.specs.Tables.{told};
 ghost use Rattle.hold_records.specs.Holds.{recordsOf, holdFunding, releaseForWatchtower, holdForWatchtower, lockHeld, takeCells};
@@ -54,7 +54,8 @@ pub fn take(
 ) -> Holds
     ensures { λ r. ⌜ (told recordsOf (r .answer) (r .held), now (taken .exit), now (refused .exit)) ≡ takeCells held (now (picked .entry)) (now (spent .entry)) taker time (now (taken .entry)) (now (refused .entry)) ⌝ }
     ensures { λ r. ⌜ Called byValue held (r .held) ⌝ }
-    ensures { λ r. ⌜ (AllBytes (now (picked .entry)) → r .answer ≡ Answer.Done → Took byValue held (r .held) (now (picked .entry)) (now (spent .entry)) taker time (now (taken .exit)) (now (refused .exit))) ⌝ }
+    ensures { λ r. ⌜ (r .answer ≡ Answer.Done → Took byValue held (r .held) (now (picked .entry)) (now (spent .entry)) taker time (now (taken .exit)) (now (refused .exit))) ⌝ }
 {
+    are_bytes(picked);
     held_cells::take(held, picked, spent, taker, time, taken, refused)
 }

@@ -6,7 +6,8 @@ pub lock-held-spec : {M : Type 1} → statement M
 lock-held-spec =
     tie.close
     (tie.spec
+    (λ c κs. search ways)  -- are-bytes-requires
     (λ c κs. search ways)  -- lock-held-requires
     (λ c. search ways)  -- same-length
     (λ c. search ways)  -- same-length-2
-    (λ c. search ways))  -- returns
+    (λ c. (search ways, (search ways, (search ways, search ways)))))  -- returns

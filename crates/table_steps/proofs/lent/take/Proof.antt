@@ -6,6 +6,7 @@ pub take-spec : {M : Type 1} → statement M
 take-spec =
     tie.close
     (tie.spec
+    (λ c κs. search ways)  -- are-bytes-requires
     (λ c κs. search ways)  -- take-requires
     (λ c. search ways)  -- same-length
     (λ c. search ways)  -- same-length-2
