@@ -6,7 +6,8 @@ it again. What it can't know it takes from loops/CRATE.txt, a line for each func
 
     function | use lines, divided by ; | loop invariant | measure | NEED=ANSWER, divided by ;;
 
-The last field, for a need that `search ways` does not close, is optional; a function with no loop has `-` for invariant and measure."""
+The last field, for a need that `search ways` does not close, is optional; a function with no loop has `-` for invariant and measure. The ruleset is that of
+proofs/Ways.antt; for the functions of a module that of proofs/MODULEWays.antt, where there is one (ChangesWays.antt for `changes`)."""
 import os
 import re
 import subprocess
@@ -43,7 +44,13 @@ def printed(lines):
         yield asked.group(1), '\n'.join(text)
 
 
-def short(crate, text, hint):
+def ruleset(crate, path):
+    inner = path.split('/proofs/')[1].split('/')[:-2]
+    own = inner[0].capitalize() + 'Ways' if inner else ''
+    return own if own and os.path.exists('crates/%s/proofs/%s.antt' % (crate, own)) else 'Ways'
+
+
+def short(crate, path, text, hint):
     spec = re.search(r'tie\.spec\s+(.*?)\)\s*$', text, re.S)
     needs = spec.group(1).split() if spec else []  # a function that the borrow checker does not cover has none
     if not needs:
@@ -53,7 +60,7 @@ def short(crate, text, hint):
     name = re.search(r'pub (\S+) :', text).group(1)
     answers = dict(a.split('=', 1) for a in hint[3].split(';;')) if hint and len(hint) > 3 and hint[3] else {}
     out = ['use ' + u.strip() for u in hint[0].split(';') if u.strip()] if hint else []
-    out.append('use Rattle.%s.proofs.Ways.{ways}' % crate)
+    out.append('use Rattle.%s.proofs.%s.{ways}' % (crate, ruleset(crate, path)))
     out += re.findall(r'^use Rattle.*(?:\{statement\}|as tie)$', text, re.M) + ['']
     for label, kind, args in re.findall(r'^abbrev (\S+) : (\S+)\n\S+ (.*) = .*$', text, re.M):
         value = '?' if not hint else hint[1] if label.startswith('Inv') else hint[2]
@@ -76,7 +83,7 @@ def main():
         for path, text in printed(lines):
             function = os.path.basename(os.path.dirname(path))
             inside = os.path.relpath(os.path.dirname(path), 'crates/%s/proofs' % crate)  # MODULE/FUNCTION, where two have one name
-            new = None if os.path.exists(path) else short(crate, text, hint.get(inside, hint.get(function)))
+            new = None if os.path.exists(path) else short(crate, path, text, hint.get(inside, hint.get(function)))
             if new:
                 os.makedirs(os.path.dirname(path), exist_ok=True)
                 open(path, 'w').write(new)

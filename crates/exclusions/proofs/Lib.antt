@@ -1,8 +1,10 @@
 pub mod ApplyLaws
 pub mod CallLaws
+pub mod ChangesWays
 pub mod EnterLaws
 pub mod MarkLaws
 pub mod MoveLaws
+pub mod MovesWays
 pub mod PutLaws
 pub mod SiftLaws
 pub mod Ways

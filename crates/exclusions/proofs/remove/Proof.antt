@@ -13,6 +13,6 @@ remove-spec =
     (λ c. search ways)  -- same-length-2
     (λ c. search ways)  -- returns-2
     (λ c κs. search ways)  -- are-bytes-requires
-    (λ c κs. (search ways, (search ways, (search ways, search ways))))  -- drop-others-requires
+    (λ c κs. search ways)  -- drop-others-requires
     (λ c. search ways)  -- same-length-3
     (λ c. search ways))  -- returns-3

@@ -1,4 +1,4 @@
-use Rattle.exclusions.proofs.Ways.{ways}
+use Rattle.exclusions.proofs.ChangesWays.{ways}
 use Rattle.exclusions.proofs.changes.drop_others.Statement.{statement}
 use Rattle.exclusions.proofs.changes.drop_others.Tie as tie
 

@@ -1,6 +1,6 @@
 use Prim.Native.Nat.{_-_}
 use Rattle.exclusions.proofs.SiftLaws.{Sifting}
-use Rattle.exclusions.proofs.Ways.{ways}
+use Rattle.exclusions.proofs.ChangesWays.{ways}
 use Rattle.exclusions.proofs.changes.gather.Statement.{statement}
 use Rattle.exclusions.proofs.changes.gather.Tie as tie
 

@@ -1,6 +1,6 @@
 use Prim.Native.Nat.{_-_}
 use Rattle.exclusions.proofs.MarkLaws.{Marking}
-use Rattle.exclusions.proofs.Ways.{ways}
+use Rattle.exclusions.proofs.ChangesWays.{ways}
 use Rattle.exclusions.proofs.changes.mark.Statement.{statement}
 use Rattle.exclusions.proofs.changes.mark.Tie as tie
 

@@ -1,4 +1,4 @@
-use Rattle.exclusions.proofs.Ways.{ways}
+use Rattle.exclusions.proofs.ChangesWays.{ways}
 use Rattle.exclusions.proofs.changes.put_head.Statement.{statement}
 use Rattle.exclusions.proofs.changes.put_head.Tie as tie
 
@@ -11,4 +11,4 @@ put-head-spec =
     (λ c κs. search ways)  -- put-u64-requires
     (λ c κs. search ways)  -- put-u32-requires-2
     (λ c. search ways)  -- same-length
-    (λ c. (search ways, search ways)))  -- returns
+    (λ c. search ways))  -- returns

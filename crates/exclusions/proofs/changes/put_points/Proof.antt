@@ -1,6 +1,6 @@
 use Prim.Native.Nat.{_-_}
 use Rattle.exclusions.proofs.PutLaws.{Spending}
-use Rattle.exclusions.proofs.Ways.{ways}
+use Rattle.exclusions.proofs.ChangesWays.{ways}
 use Rattle.exclusions.proofs.changes.put_points.Statement.{statement}
 use Rattle.exclusions.proofs.changes.put_points.Tie as tie
 

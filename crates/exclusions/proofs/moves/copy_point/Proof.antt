@@ -1,7 +1,7 @@
 use Prim.Native.Nat.{_-_}
 use lib.ListN.{take, drop}
 use Rattle.molecule.proofs.WriteLaws.{Copying}
-use Rattle.exclusions.proofs.Ways.{ways}
+use Rattle.exclusions.proofs.MovesWays.{ways}
 use Rattle.exclusions.proofs.moves.copy_point.Statement.{statement}
 use Rattle.exclusions.proofs.moves.copy_point.Tie as tie
 

@@ -1,5 +1,5 @@
 use Rattle.exclusions.proofs.MoveLaws.{Lifting}
-use Rattle.exclusions.proofs.Ways.{ways}
+use Rattle.exclusions.proofs.MovesWays.{ways}
 use Rattle.exclusions.proofs.moves.move_up.Statement.{statement}
 use Rattle.exclusions.proofs.moves.move_up.Tie as tie
 
