@@ -12,13 +12,13 @@ use Rattle.exclusion_entries.specs.Entries.{mapBytes, FitEntry}
 use Rattle.exclusions.specs.LentMap.{left}
 use Rattle.known_cases.specs.Rows.{AllRight}
 use Rattle.known_cases.proofs.Rows.{_and_, done}
-use Rattle.known_tables.specs.Exclusions.{add, commit, zeros, lent, hash, spends, room, listed, waits, stands, crowd, pending7, committed7, two, excludedBy, noMap, unread, full, works, lists}
+use Rattle.known_tables.specs.Exclusions.{add, commit, zeros, lent, hash, spends, room, listed, pendingOf, committedOf, transactions, pending7, committed7, two, excludedBy, noMap, unread, full, works, lists}
 use Rattle.known_tables.proofs.Computing.{computing}
-use Rattle.known_tables.proofs.LentLaws.{Holds, add-on, commit-on, remove-on, truncate-on, migrate-on, apply-on, left-holds, zeros-hold, lent-holds, waits-fits, stands-fits, crowd-fits}
+use Rattle.known_tables.proofs.LentLaws.{Holds, add-on, commit-on, remove-on, truncate-on, migrate-on, apply-on, left-holds, zeros-hold, lent-holds, pending-fits, committed-fits, transactions-fit}
 
 pub known-no-map : AllRight noMap
 unfolding computing
-known-no-map = refl and refl and refl and refl and refl and refl and refl and refl and done
+known-no-map = refl and refl and refl and refl and refl and refl and refl and refl and refl and done
 
 pub known-unread : AllRight unread
 unfolding computing
@@ -34,35 +34,35 @@ known-unread =
 
 -- ---- maps with entries
 
-crowd-63 : Holds (lent (crowd 63)) (crowd 63)
+full-63 : Holds (lent (transactions 63)) (transactions 63)
 unfolding computing
-crowd-63 = lent-holds (crowd 63) (leb-true _ _ refl) (leb-true _ _ refl) (crowd-fits 0 63 (omega arith))
+full-63 = lent-holds (transactions 63) (leb-true _ _ refl) (leb-true _ _ refl) (transactions-fit 0 63 (omega arith))
 
-crowd-64 : Holds (lent (crowd 64)) (crowd 64)
+full-64 : Holds (lent (transactions 64)) (transactions 64)
 unfolding computing
-crowd-64 = lent-holds (crowd 64) (leb-true _ _ refl) (leb-true _ _ refl) (crowd-fits 0 64 (omega arith))
+full-64 = lent-holds (transactions 64) (leb-true _ _ refl) (leb-true _ _ refl) (transactions-fit 0 64 (omega arith))
 
-wide-511 : Holds (lent (waits 1 511 ∷ [])) (waits 1 511 ∷ [])
+wide-511 : Holds (lent (pendingOf 1 511 ∷ [])) (pendingOf 1 511 ∷ [])
 unfolding computing
-wide-511 = lent-holds (waits 1 511 ∷ []) (leb-true _ _ refl) (leb-true _ _ refl) (waits-fits 1 511 (omega arith) (omega arith), tt)
+wide-511 = lent-holds (pendingOf 1 511 ∷ []) (leb-true _ _ refl) (leb-true _ _ refl) (pending-fits 1 511 (omega arith) (omega arith), tt)
 
-wide-512 : Holds (lent (waits 1 512 ∷ [])) (waits 1 512 ∷ [])
+wide-512 : Holds (lent (pendingOf 1 512 ∷ [])) (pendingOf 1 512 ∷ [])
 unfolding computing
-wide-512 = lent-holds (waits 1 512 ∷ []) (leb-true _ _ refl) (leb-true _ _ refl) (waits-fits 1 512 (omega arith) (omega arith), tt)
+wide-512 = lent-holds (pendingOf 1 512 ∷ []) (leb-true _ _ refl) (leb-true _ _ refl) (pending-fits 1 512 (omega arith) (omega arith), tt)
 
-wide-two : Holds (lent (waits 1 512 ∷ waits 3 0 ∷ [])) (waits 1 512 ∷ waits 3 0 ∷ [])
+wide-two : Holds (lent (pendingOf 1 512 ∷ pendingOf 3 0 ∷ [])) (pendingOf 1 512 ∷ pendingOf 3 0 ∷ [])
 unfolding computing
 wide-two =
-    lent-holds (waits 1 512 ∷ waits 3 0 ∷ []) (leb-true _ _ refl) (leb-true _ _ refl)
-    (waits-fits 1 512 (omega arith) (omega arith), (waits-fits 3 0 (omega arith) (omega arith), tt))
+    lent-holds (pendingOf 1 512 ∷ pendingOf 3 0 ∷ []) (leb-true _ _ refl) (leb-true _ _ refl)
+    (pending-fits 1 512 (omega arith) (omega arith), (pending-fits 3 0 (omega arith) (omega arith), tt))
 
 pub known-full : AllRight full
 unfolding computing
 known-full =
-    add-on crowd-63 (hash 63) []
-    and add-on crowd-63 (hash 63) (spends 0)
-    and add-on crowd-64 (hash 64) (spends 0)
-    and add-on crowd-64 (hash 63) (spends 0)
+    add-on full-63 (hash 63) []
+    and add-on full-63 (hash 63) (spends 0)
+    and add-on full-64 (hash 64) (spends 0)
+    and add-on full-64 (hash 63) (spends 0)
     and add-on wide-511 (hash 2) (spends 1)
     and add-on wide-512 (hash 2) (spends 1)
     and add-on wide-512 (hash 1) (spends 1)
@@ -72,11 +72,11 @@ known-full =
 
 two-hold : Holds (lent two) two
 unfolding computing
-two-hold = lent-holds two (leb-true _ _ refl) (leb-true _ _ refl) (stands-fits 7 1 2 (omega arith) (omega arith) (omega arith), (waits-fits 5 1 (omega arith) (omega arith), tt))
+two-hold = lent-holds two (leb-true _ _ refl) (leb-true _ _ refl) (committed-fits 7 1 2 (omega arith) (omega arith) (omega arith), (pending-fits 5 1 (omega arith) (omega arith), tt))
 
-last-holds : Holds (lent (stands 7 (2 ^ 64 - 1) 2 ∷ [])) (stands 7 (2 ^ 64 - 1) 2 ∷ [])
+last-holds : Holds (lent (committedOf 7 (2 ^ 64 - 1) 2 ∷ [])) (committedOf 7 (2 ^ 64 - 1) 2 ∷ [])
 unfolding computing
-last-holds = lent-holds (stands 7 (2 ^ 64 - 1) 2 ∷ []) (leb-true _ _ refl) (leb-true _ _ refl) (stands-fits 7 (2 ^ 64 - 1) 2 (omega arith) (omega arith) (omega arith), tt)
+last-holds = lent-holds (committedOf 7 (2 ^ 64 - 1) 2 ∷ []) (leb-true _ _ refl) (leb-true _ _ refl) (committed-fits 7 (2 ^ 64 - 1) 2 (omega arith) (omega arith) (omega arith), tt)
 
 pub known-works : AllRight works
 unfolding computing
@@ -103,21 +103,21 @@ known-lists = refl and apply-on two-hold (room 2) and apply-on two-hold (room 4)
 
 added7 : Holds (left (add zeros (hash 7) (spends 2))) pending7
 unfolding computing
-added7 = left-holds zeros-hold pending7 (add-on zeros-hold (hash 7) (spends 2)) (leb-true _ _ refl) (leb-true _ _ refl) (waits-fits 7 2 (omega arith) (omega arith), tt)
+added7 = left-holds zeros-hold pending7 (add-on zeros-hold (hash 7) (spends 2)) (leb-true _ _ refl) (leb-true _ _ refl) (pending-fits 7 2 (omega arith) (omega arith), tt)
 
-stays7 : FitEntry (stands 7 100 2)
-stays7 = stands-fits 7 100 2 (omega arith) (omega arith) (omega arith)
+fits7 : FitEntry (committedOf 7 100 2)
+fits7 = committed-fits 7 100 2 (omega arith) (omega arith) (omega arith)
 
 abbrev at100 : List ℕ
 at100 = left (commit (left (add zeros (hash 7) (spends 2))) (hash 7) 100)
 
 committed-holds : Holds at100 committed7
 unfolding computing
-committed-holds = left-holds added7 committed7 (commit-on added7 (hash 7) 100) (leb-true _ _ refl) (leb-true _ _ refl) (stays7, tt)
+committed-holds = left-holds added7 committed7 (commit-on added7 (hash 7) 100) (leb-true _ _ refl) (leb-true _ _ refl) (fits7, tt)
 
 kept : (tip : ℕ) → truncateOn at100 committed7 (record { 0 = tip }) ≡ table.done committed7 → excludedBy tip ≡ 0 ∷ 0 ∷ 1 ∷ []
 unfolding computing
-kept tip e = ap listed (apply-on (left-holds committed-holds committed7 (truncate-on committed-holds tip ∙ ap (leaving mapBytes at100) e) (leb-true _ _ refl) (leb-true _ _ refl) (stays7, tt)) (room 2))
+kept tip e = ap listed (apply-on (left-holds committed-holds committed7 (truncate-on committed-holds tip ∙ ap (leaving mapBytes at100) e) (leb-true _ _ refl) (leb-true _ _ refl) (fits7, tt)) (room 2))
 
 pub kept-at-99 : excludedBy 99 ≡ 0 ∷ 0 ∷ 1 ∷ []
 unfolding computing

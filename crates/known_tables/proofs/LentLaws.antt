@@ -19,7 +19,7 @@ use Rattle.exclusion_entries.specs.Exclusions.{Entry, commitOn, removeOn, trunc
 use Rattle.exclusion_entries.specs.Entries.{blockOf, mapBytes, FitEntry, excludedAt, isMap}
 use Rattle.exclusion_entries.proofs.MapLaws.{map-long, map-size, map-zeros, zeros-are, put-is, splice-back}
 use Rattle.exclusions.specs.LentMap.{lentMap, left, lentList}
-use Rattle.known_tables.specs.Exclusions.{add, commit, remove, truncate, migrate, apply, leaves, zeros, lent, point, entry, waits, stands}
+use Rattle.known_tables.specs.Exclusions.{add, commit, remove, truncate, migrate, apply, leaves, zeros, lent, point, entry, pendingOf, committedOf}
 
 pub record Holds (s : List ℕ) (l : List Entry) : Type 0 where
   pub form : isMap s ≡ true
@@ -83,15 +83,15 @@ entry-fits n c k h b w = record {
   points-fit = points-fit 0 k (omega arith);
 }
 
-pub waits-fits : (n k : ℕ) → n < 2 ^ 64 → k < 2 ^ 32 → FitEntry (waits n k)
+pub pending-fits : (n k : ℕ) → n < 2 ^ 64 → k < 2 ^ 32 → FitEntry (pendingOf n k)
 unfolding blockOf
-waits-fits n k h w = entry-fits n none k h (omega arith) w
+pending-fits n k h w = entry-fits n none k h (omega arith) w
 
-pub stands-fits : (n block k : ℕ) → n < 2 ^ 64 → block < 2 ^ 64 → k < 2 ^ 32 → FitEntry (stands n block k)
+pub committed-fits : (n block k : ℕ) → n < 2 ^ 64 → block < 2 ^ 64 → k < 2 ^ 32 → FitEntry (committedOf n block k)
 unfolding blockOf
-stands-fits n block k h b w = entry-fits n (some (record { 0 = block })) k h b w
+committed-fits n block k h b w = entry-fits n (some (record { 0 = block })) k h b w
 
-pub crowd-fits : (i n : ℕ) → i + n ≤ 2 ^ 64 → All FitEntry (span (λ (j : ℕ). waits j 0) i n)
+pub transactions-fit : (i n : ℕ) → i + n ≤ 2 ^ 64 → All FitEntry (span (λ (j : ℕ). pendingOf j 0) i n)
 unfolding span
-crowd-fits i zero h = tt
-crowd-fits i (suc n) h = (waits-fits i 0 (omega arith) (omega arith), crowd-fits (suc i) n (omega arith))
+transactions-fit i zero h = tt
+transactions-fit i (suc n) h = (pending-fits i 0 (omega arith) (omega arith), transactions-fit (suc i) n (omega arith))

@@ -68,39 +68,42 @@ point i = record { hash = hashOf 0; index = i }
 abbrev pub entry : ℕ → Option BlockNumber → ℕ → Entry
 entry n c k = record { hash = hashOf n; committed = c; points = span point 0 k }
 
-abbrev pub waits : ℕ → ℕ → Entry
-waits n k = entry n none k
+abbrev pub pendingOf : ℕ → ℕ → Entry
+pendingOf n k = entry n none k
 
-abbrev pub stands : ℕ → ℕ → ℕ → Entry
-stands n block k = entry n (some (record { 0 = block })) k
+abbrev pub committedOf : ℕ → ℕ → ℕ → Entry
+committedOf n block k = entry n (some (record { 0 = block })) k
 
 -- so many transactions, with no out points
-abbrev pub crowd : ℕ → List Entry
-crowd n = span (λ i. waits i 0) 0 n
+abbrev pub transactions : ℕ → List Entry
+transactions n = span (λ i. pendingOf i 0) 0 n
 
 -- the transaction 7, that spends two out points, entered; and committed at 100
 abbrev pub pending7 : List Entry
-pending7 = waits 7 2 ∷ []
+pending7 = pendingOf 7 2 ∷ []
 
 abbrev pub committed7 : List Entry
-committed7 = stands 7 100 2 ∷ []
+committed7 = committedOf 7 100 2 ∷ []
 
 -- two transactions, the first committed
 abbrev pub two : List Entry
-two = stands 7 1 2 ∷ waits 5 1 ∷ []
+two = committedOf 7 1 2 ∷ pendingOf 5 1 ∷ []
 
--- bytes that are no map: of another length, with 65 entries, with an entry of the kind 2, with a block at a pending one
+-- bytes that are no map: of another length, with 65 entries, with 513 out points, with an entry of the kind 2, with a block at a pending one
 abbrev pub shorter : List ℕ
 shorter = replicate 21507 0
 
-abbrev pub crowded : List ℕ
-crowded = toLe 4 65 ++ replicate 21504 0
+abbrev pub over64 : List ℕ
+over64 = toLe 4 65 ++ replicate 21504 0
 
-abbrev pub unkind : List ℕ
-unkind = toLe 4 1 ++ replicate 32 0 ++ toLe 4 2 ++ replicate 21468 0
+abbrev pub over512 : List ℕ
+over512 = toLe 4 1 ++ replicate 44 0 ++ toLe 4 513 ++ replicate 21456 0
 
-abbrev pub dated : List ℕ
-dated = toLe 4 1 ++ replicate 36 0 ++ toLe 8 100 ++ replicate 21460 0
+abbrev pub ofKind2 : List ℕ
+ofKind2 = toLe 4 1 ++ replicate 32 0 ++ toLe 4 2 ++ replicate 21468 0
+
+abbrev pub pendingInBlock : List ℕ
+pendingInBlock = toLe 4 1 ++ replicate 36 0 ++ toLe 8 100 ++ replicate 21460 0
 
 -- no transaction
 abbrev unreadable : List ℕ
@@ -123,9 +126,10 @@ excludedBy tip = listed (apply (left (truncate (left (commit (left (add zeros (h
 abbrev pub noMap : List (Row (After (List Entry)))
 noMap =
     (add shorter (hash 7) unreadable gives refused 3 shorter)
-    ∷ (add crowded (hash 7) (spends 2) gives refused 3 crowded)
-    ∷ (add unkind (hash 7) (spends 2) gives refused 3 unkind)
-    ∷ (add dated (hash 7) (spends 2) gives refused 3 dated)
+    ∷ (add over64 (hash 7) (spends 2) gives refused 3 over64)
+    ∷ (add over512 (hash 7) (spends 2) gives refused 3 over512)
+    ∷ (add ofKind2 (hash 7) (spends 2) gives refused 3 ofKind2)
+    ∷ (add pendingInBlock (hash 7) (spends 2) gives refused 3 pendingInBlock)
     ∷ (commit [] (hash 7) 100 gives refused 3 [])
     ∷ (remove [] (hash 7) gives refused 3 [])
     ∷ (truncate [] 100 gives refused 3 [])
@@ -147,35 +151,35 @@ unread =
 -- 64 transactions and 512 out points, 65 and 513; a transaction that is entered again, or goes, leaves room
 abbrev pub full : List (Row (After (List Entry)))
 full =
-    (add (lent (crowd 63)) (hash 63) [] gives leaves (lent (crowd 63)) (crowd 63))
-    ∷ (add (lent (crowd 63)) (hash 63) (spends 0) gives leaves (lent (crowd 63)) (crowd 64))
-    ∷ (add (lent (crowd 64)) (hash 64) (spends 0) gives refused 15 (lent (crowd 64)))
-    ∷ (add (lent (crowd 64)) (hash 63) (spends 0) gives leaves (lent (crowd 64)) (crowd 64))
-    ∷ (add (lent (waits 1 511 ∷ [])) (hash 2) (spends 1) gives leaves (lent (waits 1 511 ∷ [])) (waits 1 511 ∷ waits 2 1 ∷ []))
-    ∷ (add (lent (waits 1 512 ∷ [])) (hash 2) (spends 1) gives refused 15 (lent (waits 1 512 ∷ [])))
-    ∷ (add (lent (waits 1 512 ∷ [])) (hash 1) (spends 1) gives leaves (lent (waits 1 512 ∷ [])) (waits 1 1 ∷ []))
-    ∷ (migrate (lent (waits 1 512 ∷ [])) (hash 1) (hash 2) (spends 1) gives leaves (lent (waits 1 512 ∷ [])) (waits 2 1 ∷ []))
-    ∷ (migrate (lent (waits 1 512 ∷ waits 3 0 ∷ [])) (hash 3) (hash 2) (spends 1) gives refused 15 (lent (waits 1 512 ∷ waits 3 0 ∷ [])))
+    (add (lent (transactions 63)) (hash 63) [] gives leaves (lent (transactions 63)) (transactions 63))
+    ∷ (add (lent (transactions 63)) (hash 63) (spends 0) gives leaves (lent (transactions 63)) (transactions 64))
+    ∷ (add (lent (transactions 64)) (hash 64) (spends 0) gives refused 15 (lent (transactions 64)))
+    ∷ (add (lent (transactions 64)) (hash 63) (spends 0) gives leaves (lent (transactions 64)) (transactions 64))
+    ∷ (add (lent (pendingOf 1 511 ∷ [])) (hash 2) (spends 1) gives leaves (lent (pendingOf 1 511 ∷ [])) (pendingOf 1 511 ∷ pendingOf 2 1 ∷ []))
+    ∷ (add (lent (pendingOf 1 512 ∷ [])) (hash 2) (spends 1) gives refused 15 (lent (pendingOf 1 512 ∷ [])))
+    ∷ (add (lent (pendingOf 1 512 ∷ [])) (hash 1) (spends 1) gives leaves (lent (pendingOf 1 512 ∷ [])) (pendingOf 1 1 ∷ []))
+    ∷ (migrate (lent (pendingOf 1 512 ∷ [])) (hash 1) (hash 2) (spends 1) gives leaves (lent (pendingOf 1 512 ∷ [])) (pendingOf 2 1 ∷ []))
+    ∷ (migrate (lent (pendingOf 1 512 ∷ pendingOf 3 0 ∷ [])) (hash 3) (hash 2) (spends 1) gives refused 15 (lent (pendingOf 1 512 ∷ pendingOf 3 0 ∷ [])))
     ∷ []
 
 -- what each call does to two entries
 abbrev pub works : List (Row (After (List Entry)))
 works =
     -- entered again it is uncommitted, in its place; another goes last; the 68-byte transaction enters without out points
-    (add (lent two) (hash 7) (spends 1) gives leaves (lent two) (waits 7 1 ∷ waits 5 1 ∷ []))
-    ∷ (add (lent two) (hash 6) (spends 0) gives leaves (lent two) (stands 7 1 2 ∷ waits 5 1 ∷ waits 6 0 ∷ []))
+    (add (lent two) (hash 7) (spends 1) gives leaves (lent two) (pendingOf 7 1 ∷ pendingOf 5 1 ∷ []))
+    ∷ (add (lent two) (hash 6) (spends 0) gives leaves (lent two) (committedOf 7 1 2 ∷ pendingOf 5 1 ∷ pendingOf 6 0 ∷ []))
     -- an unknown hash changes nothing
-    ∷ (commit (lent two) (hash 5) 9 gives leaves (lent two) (stands 7 1 2 ∷ stands 5 9 1 ∷ []))
+    ∷ (commit (lent two) (hash 5) 9 gives leaves (lent two) (committedOf 7 1 2 ∷ committedOf 5 9 1 ∷ []))
     ∷ (commit (lent two) (hash 6) 9 gives leaves (lent two) two)
-    ∷ (remove (lent two) (hash 7) gives leaves (lent two) (waits 5 1 ∷ []))
+    ∷ (remove (lent two) (hash 7) gives leaves (lent two) (pendingOf 5 1 ∷ []))
     ∷ (remove (lent two) (hash 6) gives leaves (lent two) two)
     -- c + 13 is a whole number: committed in the last block there is, it stays
-    ∷ (truncate (lent (stands 7 (2 ^ 64 - 1) 2 ∷ [])) (2 ^ 64 - 1) gives leaves (lent (stands 7 (2 ^ 64 - 1) 2 ∷ [])) (stands 7 (2 ^ 64 - 1) 2 ∷ []))
-    ∷ (truncate (lent two) 14 gives leaves (lent two) (waits 5 1 ∷ []))
+    ∷ (truncate (lent (committedOf 7 (2 ^ 64 - 1) 2 ∷ [])) (2 ^ 64 - 1) gives leaves (lent (committedOf 7 (2 ^ 64 - 1) 2 ∷ [])) (committedOf 7 (2 ^ 64 - 1) 2 ∷ []))
+    ∷ (truncate (lent two) 14 gives leaves (lent two) (pendingOf 5 1 ∷ []))
     -- the new one goes last, also onto its own hash, or takes the place of an entered one; by no transaction the old one only goes
-    ∷ (migrate (lent two) (hash 7) (hash 7) (spends 1) gives leaves (lent two) (waits 5 1 ∷ waits 7 1 ∷ []))
-    ∷ (migrate (lent two) (hash 7) (hash 5) (spends 2) gives leaves (lent two) (waits 5 2 ∷ []))
-    ∷ (migrate (lent two) (hash 7) (hash 6) [] gives leaves (lent two) (waits 5 1 ∷ []))
+    ∷ (migrate (lent two) (hash 7) (hash 7) (spends 1) gives leaves (lent two) (pendingOf 5 1 ∷ pendingOf 7 1 ∷ []))
+    ∷ (migrate (lent two) (hash 7) (hash 5) (spends 2) gives leaves (lent two) (pendingOf 5 2 ∷ []))
+    ∷ (migrate (lent two) (hash 7) (hash 6) [] gives leaves (lent two) (pendingOf 5 1 ∷ []))
     ∷ (migrate (lent two) (hash 6) (hash 8) (spends 1) gives leaves (lent two) two)
     ∷ []
 
