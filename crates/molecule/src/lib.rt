@@ -71,8 +71,9 @@ pub fn field(s: &[u8], n: usize, i: usize) -> &[u8]
     if n <= i {
         return part(s, s.len(), s.len());
     }
-    let a = start(s, n, i);
+    // the later word first: where it is there, so is the one before it
     let b = start(s, n, i + 1);
+    let a = start(s, n, i);
     part(s, a, b)
 }
 
