@@ -3,7 +3,8 @@
 
 A table is a line of TABLES: the laws' prefix, the type of the schema, its fields' types, and the test that the code makes of each field:
 ('len', k) for `field_len(s, n, i) != k`, ('is', TYPE) for `!is_..(field(s, n, i))`. The last test is what the function returns.
-Run it in the repository's root after a change of TABLES; `rt fmt` afterwards."""
+Of a table in BY_WORDS the code tests the words of the header: there is one law, what `readable` is of its fields, and crates/transaction/proofs/WordLaws.antt
+has the ways out. Run it in the repository's root after a change of TABLES; `rt fmt` afterwards."""
 
 HEAD = '''-- %s: one law for each way out of the function that tests one. Written by tools/tables.py.
 use mathlib.Core.Path.{_≡_, refl, sym, _∙_}
@@ -34,6 +35,8 @@ TABLES = [
     ('record', 'Record', ['CellOutput', 'Bytes'], [('is', 'CellOutput'), ('is', 'Bytes')]),
 ]
 
+BY_WORDS = ['script', 'output']
+
 # of each crate: what its tables are, where their types stand, and the tables
 CRATES = [
     ('transaction', 'The tables of CKB (RFC 0019)',
@@ -51,9 +54,12 @@ def laws(name, ty, fields, tests):
     for p in reversed(parts):
         nest = '%s && (%s)' % (p, nest) if nest != 'true' else '%s && true' % p
     fixed = ', '.join('sized %s tt %d refl' % (fields[i], a) for i, (k, a) in enumerate(tests) if k == 'len')
-    out += ['%s-fields : (s : List ℕ) → readable %s s ≡ (hasItems s %d && (%s))' % (name, ty, n, nest),
+    by_words = name in BY_WORDS
+    out += [('pub ' if by_words else '') + '%s-fields : (s : List ℕ) → readable %s s ≡ (hasItems s %d && (%s))' % (name, ty, n, nest),
             'unfolding size fixed count allReadable span',
             '%s-fields s = table-readable (%s & end) s%s' % (name, ' & '.join(fields), ' ∙ simp (%s)' % fixed if fixed else ''), '']
+    if by_words:
+        return out, []
     out += ['module _ (s : List ℕ) where',
             '  pub %s-head : {r : Bool} → r ≡ hasItems s %d → not r ≡ true → false ≡ readable %s s' % (name, n, ty),
             '  %s-head e h = sym (%s-fields s ∙ simp (sym e ∙ not-true _ h))' % (name, name), '']

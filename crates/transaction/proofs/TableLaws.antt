@@ -13,39 +13,13 @@ use Rattle.molecule.proofs.ReadableLaws.{allReadable, sized}
 use Rattle.molecule.proofs.HeaderLaws.{count, table-readable}
 use Rattle.transaction.specs.Ckb.{Uint32, Uint64, Byte32, Bytes, OutPoint, CellInput, CellDep, Script, CellOutput, RawTransaction, Transaction, TokenCell, Record}
 
-script-fields : (s : List ℕ) → readable Script s ≡ (hasItems s 3 && (eqb (length (fieldOf s 3 0)) 32 && (eqb (length (fieldOf s 3 1)) 1 && (readable Bytes (fieldOf s 3 2) && true))))
+pub script-fields : (s : List ℕ) → readable Script s ≡ (hasItems s 3 && (eqb (length (fieldOf s 3 0)) 32 && (eqb (length (fieldOf s 3 1)) 1 && (readable Bytes (fieldOf s 3 2) && true))))
 unfolding size fixed count allReadable span
 script-fields s = table-readable (Byte32 & byte & Bytes & end) s ∙ simp (sized Byte32 tt 32 refl, sized byte tt 1 refl)
 
-module _ (s : List ℕ) where
-  pub script-head : {r : Bool} → r ≡ hasItems s 3 → not r ≡ true → false ≡ readable Script s
-  script-head e h = sym (script-fields s ∙ simp (sym e ∙ not-true _ h))
-
-  pub script-0 : {m : ℕ} → m ≡ length (fieldOf s 3 0) → (m ≡ 32 → ⊥) → false ≡ readable Script s
-  script-0 e h = sym (script-fields s ∙ simp (← e, ne-eqb _ _ h, and-false))
-
-  pub script-1 : {m : ℕ} → m ≡ length (fieldOf s 3 1) → (m ≡ 1 → ⊥) → false ≡ readable Script s
-  script-1 e h = sym (script-fields s ∙ simp (← e, ne-eqb _ _ h, and-false))
-
-  pub script-all : {q r : Bool} {m0 : ℕ} {m1 : ℕ} {f2 : List ℕ} → q ≡ hasItems s 3 → not q ≡ false → m0 ≡ length (fieldOf s 3 0) → m0 ≡ 32 → m1 ≡ length (fieldOf s 3 1) → m1 ≡ 1 → f2 ≡ fieldOf s 3 2 → r ≡ readable Bytes f2 → r ≡ readable Script s
-  script-all e h e0 h0 e1 h1 g2 e2 = sym (script-fields s ∙ simp (← g2, sym e ∙ not-false _ h, eq-eqb _ _ (sym e0 ∙ h0), eq-eqb _ _ (sym e1 ∙ h1), and-true) (sym e2))
-
-output-fields : (s : List ℕ) → readable CellOutput s ≡ (hasItems s 3 && (eqb (length (fieldOf s 3 0)) 8 && (readable Script (fieldOf s 3 1) && (readable (option Script) (fieldOf s 3 2) && true))))
+pub output-fields : (s : List ℕ) → readable CellOutput s ≡ (hasItems s 3 && (eqb (length (fieldOf s 3 0)) 8 && (readable Script (fieldOf s 3 1) && (readable (option Script) (fieldOf s 3 2) && true))))
 unfolding size fixed count allReadable span
 output-fields s = table-readable (Uint64 & Script & option Script & end) s ∙ simp (sized Uint64 tt 8 refl)
-
-module _ (s : List ℕ) where
-  pub output-head : {r : Bool} → r ≡ hasItems s 3 → not r ≡ true → false ≡ readable CellOutput s
-  output-head e h = sym (output-fields s ∙ simp (sym e ∙ not-true _ h))
-
-  pub output-0 : {m : ℕ} → m ≡ length (fieldOf s 3 0) → (m ≡ 8 → ⊥) → false ≡ readable CellOutput s
-  output-0 e h = sym (output-fields s ∙ simp (← e, ne-eqb _ _ h, and-false))
-
-  pub output-1 : {f : List ℕ} {r : Bool} → f ≡ fieldOf s 3 1 → r ≡ readable Script f → not r ≡ true → false ≡ readable CellOutput s
-  output-1 g e h = sym (output-fields s ∙ simp (← g, sym e ∙ not-true _ h, and-false))
-
-  pub output-all : {q r : Bool} {m0 : ℕ} {f1 : List ℕ} {q1 : Bool} {f2 : List ℕ} → q ≡ hasItems s 3 → not q ≡ false → m0 ≡ length (fieldOf s 3 0) → m0 ≡ 8 → f1 ≡ fieldOf s 3 1 → q1 ≡ readable Script f1 → not q1 ≡ false → f2 ≡ fieldOf s 3 2 → r ≡ readable (option Script) f2 → r ≡ readable CellOutput s
-  output-all e h e0 h0 g1 e1 h1 g2 e2 = sym (output-fields s ∙ simp (← g1, ← g2, sym e ∙ not-false _ h, eq-eqb _ _ (sym e0 ∙ h0), sym e1 ∙ not-false _ h1, and-true) (sym e2))
 
 raw-fields : (s : List ℕ) → readable RawTransaction s ≡ (hasItems s 6 && (eqb (length (fieldOf s 6 0)) 4 && (readable (fixvec CellDep) (fieldOf s 6 1) && (readable (fixvec Byte32) (fieldOf s 6 2) && (readable (fixvec CellInput) (fieldOf s 6 3) && (readable (dynvec CellOutput) (fieldOf s 6 4) && (readable (dynvec Bytes) (fieldOf s 6 5) && true)))))))
 unfolding size fixed count allReadable span

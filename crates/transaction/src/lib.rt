@@ -5,20 +5,27 @@ ghost use mathlib.Core.Path.{_≡_};
 ghost use Rattle.molecule.specs.Molecule.{readable, option, fixvec, dynvec};
 ghost use Rattle.transaction.specs.Ckb.{Byte32, Bytes, OutPoints, CellDeps, CellInput, Script, CellOutput, RawTransaction, Transaction, TokenCell, TokenCells, Record, Records};
 
-// Whether s is a script: code hash, hash type, args.
+// Whether s is a script: code hash, hash type, args. The sizes of the first two say what stands in the header, and one test of the length comes before its
+// words are read.
 pub fn is_script(s: &[u8]) -> bool
     ensures { λ r. ⌜ r ≡ readable Script (now (s .entry)) ⌝ }
 {
-    if !molecule::has_items(s, 3) {
+    if s.len() < 53 {
         return false;
     }
-    if molecule::field_len(s, 3, 0) != 32 {
+    if molecule::word(s, 0) as usize != s.len() {
         return false;
     }
-    if molecule::field_len(s, 3, 1) != 1 {
+    if molecule::word(s, 1) != 16 {
         return false;
     }
-    molecule::is_bytes(molecule::field(s, 3, 2))
+    if molecule::word(s, 2) != 48 {
+        return false;
+    }
+    if molecule::word(s, 3) != 49 {
+        return false;
+    }
+    molecule::is_bytes(molecule::part(s, 49, s.len()))
 }
 
 // Whether s is a script or nothing.
@@ -31,20 +38,30 @@ pub fn is_optional_script(s: &[u8]) -> bool
     is_script(s)
 }
 
-// Whether s is an output: capacity, lock, and type or nothing.
+// Whether s is an output: capacity, lock, and type or nothing. Its header is tested like a script's.
 pub fn is_output(s: &[u8]) -> bool
     ensures { λ r. ⌜ r ≡ readable CellOutput (now (s .entry)) ⌝ }
 {
-    if !molecule::has_items(s, 3) {
+    if s.len() < 24 {
         return false;
     }
-    if molecule::field_len(s, 3, 0) != 8 {
+    if molecule::word(s, 0) as usize != s.len() {
         return false;
     }
-    if !is_script(molecule::field(s, 3, 1)) {
+    if molecule::word(s, 1) != 16 {
         return false;
     }
-    is_optional_script(molecule::field(s, 3, 2))
+    if molecule::word(s, 2) != 24 {
+        return false;
+    }
+    let e = molecule::word(s, 3) as usize;
+    if s.len() < e {
+        return false;
+    }
+    if !is_script(molecule::part(s, 24, e)) {
+        return false;
+    }
+    is_optional_script(molecule::part(s, e, s.len()))
 }
 
 // Whether s is a list of out points.
