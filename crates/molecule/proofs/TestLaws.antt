@@ -10,8 +10,9 @@ use lib.Dec.{T}
 use lib.ListN.{length}
 use Rattle.molecule.specs.Molecule.{Ty, byte, array, fixvec, dynvec, size, readable}
 use Rattle.molecule.proofs.Valid.{fixed}
-use Rattle.molecule.specs.Layout.{word, start, hasItems, itemCount, itemOf}
+use Rattle.molecule.specs.Layout.{part, word, start, hasItems, itemCount, itemOf}
 use Rattle.molecule.proofs.Offsets.{upTo, inOrder, offsetsOk, up-stop}
+use Rattle.molecule.proofs.LayoutLaws.{field-is, item-is}
 use Rattle.molecule.proofs.HeaderLaws.{offsets-has, dynvec-readable, fixvec-readable}
 
 -- ---- a header of n items
@@ -139,3 +140,25 @@ module _ {t : Ty} {s : List ℕ} {n i : ℕ} (g : Reading t s n i) where
   reading-end l =
       let q : i ≡ n = omega arith in
       sym (dynvec-readable t s ∙ rw (← g .count) (simp (g .head, rw q at (g .all))))
+
+-- the same, and the next item starts at `from`
+pub record ReadingFrom (t : Ty) (s : List ℕ) (n i from : ℕ) : Type 0 where
+  pub read : Reading t s n i
+  pub here : from ≡ start s n i
+
+pub from-none : (t : Ty) (s : List ℕ) {n a : ℕ} {r : Bool} → n ≡ itemCount s → r ≡ hasItems s n → not r ≡ false → a ≡ start s n 0 → ReadingFrom t s n 0 a
+from-none t s e h q ea = record { read = reading-none t s e h q; here = ea }
+
+module _ {t : Ty} {s : List ℕ} {n i from : ℕ} (g : ReadingFrom t s n i from) where
+  module _ {to : ℕ} {f : List ℕ} {r : Bool} (l : i < n) (e : to ≡ start s n (i + 1)) (k : f ≡ part s from to) (h : r ≡ readable t f) where
+    item-next : f ≡ itemOf s i
+    item-next = item-is s i (g .read .count) (field-is s n i (g .here) e k)
+
+    pub from-more : not r ≡ false → ReadingFrom t s n (i + 1) to
+    from-more q = record { read = reading-more (g .read) l item-next h q; here = e }
+
+    pub from-stop : not r ≡ true → false ≡ readable (dynvec t) s
+    from-stop q = reading-stop (g .read) l item-next h q
+
+  pub from-end : n ≤ i → true ≡ readable (dynvec t) s
+  from-end l = reading-end (g .read) l

@@ -162,7 +162,7 @@ pub fn content(s: &[u8]) -> &[u8]
     part(s, 4, s.len())
 }
 
-// Whether s is a dynvec of fixvecs of bytes.
+// Whether s is a dynvec of fixvecs of bytes. Each item starts where the one before it ends.
 pub fn is_bytes_vec(s: &[u8]) -> bool
     ensures { λ r. ⌜ r ≡ readable (dynvec (fixvec byte)) (now (s .entry)) ⌝ }
 {
@@ -170,13 +170,16 @@ pub fn is_bytes_vec(s: &[u8]) -> bool
     if !has_items(s, n) {
         return false;
     }
+    let mut from = start(s, n, 0);
     let mut i = 0;
     while i < n {
-        let x = item(s, i);
+        i += 1;
+        let to = start(s, n, i);
+        let x = part(s, from, to);
         if !is_bytes(x) {
             return false;
         }
-        i += 1;
+        from = to;
     }
     true
 }

@@ -1,15 +1,15 @@
 use Prim.Native.Nat.{_-_}
 use Rattle.molecule.specs.Molecule.{fixvec, byte}
-use Rattle.molecule.proofs.TestLaws.{Reading}
+use Rattle.molecule.proofs.TestLaws.{ReadingFrom}
 use Rattle.molecule.proofs.Ways.{ways}
 use Rattle.molecule.proofs.is_bytes_vec.Statement.{statement}
 use Rattle.molecule.proofs.is_bytes_vec.Tie as tie
 
 abbrev Inv-loop : tie.InvT-loop
-Inv-loop s n i₀ i = Reading (fixvec byte) s n i
+Inv-loop s n from₀ i₀ from i = ReadingFrom (fixvec byte) s n i from
 
 abbrev μ-loop : tie.MeasureT-loop
-μ-loop s n i₀ i = n - i
+μ-loop s n from₀ i₀ from i = n - i
 
 pub is-bytes-vec-spec : {M : Type 1} → statement M
 is-bytes-vec-spec =
@@ -21,11 +21,13 @@ is-bytes-vec-spec =
     (λ c. search ways)  -- cast-n
     (λ c κs. search ways)  -- has-items-requires
     (λ c. search ways)  -- returns
+    (λ c κs. search ways)  -- start-requires
     (λ c. search ways)  -- loop-holds
-    (λ c κs. search ways)  -- item-requires
+    (λ c. search ways)  -- add-i
+    (λ c κs. search ways)  -- start-requires-2
+    (λ c κs. search ways)  -- part-requires
     (λ c κs. search ways)  -- is-bytes-requires
     (λ c. search ways)  -- returns-2
-    (λ c. search ways)  -- add-i
     (λ c. search ways)  -- loop-less
     (λ c. search ways)  -- loop-again
     (λ c. search ways))  -- returns-3
