@@ -86,3 +86,10 @@ module _ {a b : List ℕ} {i : ℕ} (g : Agreed a b i) where
       sym (take-all k (drop last a) (omega (arith, length-drop last a))) ∙ eq-true _ _ (sym e) ∙ take-all k (drop last b) (omega (arith, length-drop last b)) in
       let whole : a ≡ b = sym (take-append-drop last a) ∙ ap₂ {C = List ℕ} (λ (x y : List ℕ). x ++ y) heads tails ∙ take-append-drop last b in
       sym (rw whole (eq-refl b))
+
+-- a first block and a last are all, where no byte stands between them
+pub two-blocks : (a b : List ℕ) {q r : Bool} → length a ≡ length b → 64 ≤ length a → length a ≤ 128 → q ≡ eqBytes (block 64 0 a) (block 64 0 b) → not q ≡ false
+    → r ≡ eqBytes (block 64 (length a - 64) a) (block 64 (length a - 64) b) → r ≡ eqBytes a b
+two-blocks a b {r = r} n l m e h f =
+    let g : Agreed a b 64 = record { along = n; awithin = l; alike = eq-true _ _ (sym e ∙ not-false _ h) } in
+    agreed-end g 64 r (omega arith) f

@@ -14,6 +14,8 @@ const FIRST_ENTRY: usize = 1;
 // How many bytes are compared at a time: a script has one such block or two, a long run is compared at the speed of memory.
 const BLOCK: usize = 64;
 
+const TWO_BLOCKS: usize = 128;
+
 const LONG_BLOCK: usize = 512;
 
 // Whether two strings of one length hold the same bytes. This loop and those over a block have no early exit, so that they are compiled to wide comparisons.
@@ -114,6 +116,25 @@ pub fn same(a: &[u8], b: &[u8]) -> bool
         return same_by_blocks(a, b);
     }
     same_by_long_blocks(a, b)
+}
+
+// The same, for two scripts. Most have one block or two, and this is short enough to be compiled into a caller's loop.
+pub fn same_script(a: &[u8], b: &[u8]) -> bool
+    ensures { λ r. ⌜ r ≡ eqBytes (now (a .entry)) (now (b .entry)) ⌝ }
+{
+    if a.len() != b.len() {
+        return false;
+    }
+    if a.len() < BLOCK {
+        return same(a, b);
+    }
+    if TWO_BLOCKS < a.len() {
+        return same(a, b);
+    }
+    if !same_block(a, b, 0) {
+        return false;
+    }
+    same_block(a, b, a.len() - BLOCK)
 }
 
 // Fixvecs of items of k bytes: each item of a stands in b at its place. The items lie next to each other, so their bytes are compared as one run.

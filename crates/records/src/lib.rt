@@ -21,7 +21,7 @@ fn has_our_lock(source: &[u8], resolved: &[u8]) -> bool
 {
     let o = fields::record_output(resolved);
     let l = fields::lock(o);
-    lists::same(source, l)
+    lists::same_script(source, l)
 }
 
 // By input: each record is live and not under our source lock; the first is of input `first` among all.
