@@ -10,7 +10,7 @@ use lib.Dec.{T}
 use lib.ListN.{length}
 use Rattle.molecule.specs.Molecule.{Ty, byte, array, fixvec, dynvec, size, readable}
 use Rattle.molecule.proofs.Valid.{fixed}
-use Rattle.molecule.specs.Layout.{part, word, start, hasItems, itemCount, itemOf}
+use Rattle.molecule.specs.Layout.{part, word, start, hasItems, fieldOf, itemCount, itemOf}
 use Rattle.molecule.proofs.Offsets.{upTo, inOrder, offsetsOk, up-stop}
 use Rattle.molecule.proofs.LayoutLaws.{field-is, item-is}
 use Rattle.molecule.proofs.HeaderLaws.{offsets-has, dynvec-readable, fixvec-readable}
@@ -141,6 +141,14 @@ module _ {t : Ty} {s : List ℕ} {n i : ℕ} (g : Reading t s n i) where
       let q : i ≡ n = omega arith in
       sym (dynvec-readable t s ∙ rw (← g .count) (simp (g .head, rw q at (g .all))))
 
+-- the item as a field of n
+module _ {t : Ty} {s : List ℕ} {n i : ℕ} (g : Reading t s n i) {f : List ℕ} {r : Bool} (l : i < n) (e : f ≡ fieldOf s n i) (h : r ≡ readable t f) where
+  pub field-more : not r ≡ false → Reading t s n (i + 1)
+  field-more q = reading-more g l (item-is s i (g .count) e) h q
+
+  pub field-stop : not r ≡ true → false ≡ readable (dynvec t) s
+  field-stop q = reading-stop g l (item-is s i (g .count) e) h q
+
 -- the same, and the next item starts at `from`
 pub record ReadingFrom (t : Ty) (s : List ℕ) (n i from : ℕ) : Type 0 where
   pub read : Reading t s n i
@@ -151,14 +159,11 @@ from-none t s e h q ea = record { read = reading-none t s e h q; here = ea }
 
 module _ {t : Ty} {s : List ℕ} {n i from : ℕ} (g : ReadingFrom t s n i from) where
   module _ {to : ℕ} {f : List ℕ} {r : Bool} (l : i < n) (e : to ≡ start s n (i + 1)) (k : f ≡ part s from to) (h : r ≡ readable t f) where
-    item-next : f ≡ itemOf s i
-    item-next = item-is s i (g .read .count) (field-is s n i (g .here) e k)
-
     pub from-more : not r ≡ false → ReadingFrom t s n (i + 1) to
-    from-more q = record { read = reading-more (g .read) l item-next h q; here = e }
+    from-more q = record { read = field-more (g .read) l (field-is s n i (g .here) e k) h q; here = e }
 
     pub from-stop : not r ≡ true → false ≡ readable (dynvec t) s
-    from-stop q = reading-stop (g .read) l item-next h q
+    from-stop q = field-stop (g .read) l (field-is s n i (g .here) e k) h q
 
   pub from-end : n ≤ i → true ≡ readable (dynvec t) s
   from-end l = reading-end (g .read) l

@@ -11,8 +11,9 @@ use mir.Val.{Fits}
 use lib.ListN.{length}
 use lib.Dec.{eqb}
 use Rattle.molecule.specs.Molecule.{readable}
-use Rattle.molecule.specs.Layout.{span, fixCount, itemCount, itemOf}
+use Rattle.molecule.specs.Layout.{span, fieldOf, fixCount, itemCount, itemOf}
 use Rattle.molecule.proofs.Offsets.{span-length}
+use Rattle.molecule.proofs.LayoutLaws.{item-is}
 use Rattle.lists.specs.Lists.{eqBytes}
 use Rattle.lists.proofs.SpanLaws.{span-on, span-end, span-whole}
 use Rattle.transaction.specs.Ckb.{Records}
@@ -37,12 +38,13 @@ index-fits b i n p q h = omega arith
 
 -- R is the answer: the records from i on decide
 pub record Alive (source s : List ℕ) (first n i : ℕ) (R : Outcome (Unit {0})) : Type 0 where
+  pub count : n ≡ itemCount s
   pub rest : R ≡ live source (first + i) (span (recordAt s) i (n - i))
 
 pub alive-start : (source s : List ℕ) (first : ℕ) {n : ℕ} → n ≡ itemCount s → Alive source s first n 0 (live source first (span (recordAt s) 0 (itemCount s)))
 alive-start source s first {n} e =
     let z : first ≡ first + 0 = omega arith in
-    record { rest = rw (← e) (ap₂ (live source) z (span-whole (recordAt s) n)) }
+    record { count = e; rest = rw (← e) (ap₂ (live source) z (span-whole (recordAt s) n)) }
 
 record-is : (s : List ℕ) (i : ℕ) {x : List ℕ} (b : Bool) → x ≡ itemOf s i → eqb (length x) 0 ≡ b → recordAt s i ≡ cond b none (some (recordCell x))
 unfolding recordAt
@@ -53,7 +55,10 @@ module _ {source s : List ℕ} {first n i : ℕ} {R : Outcome (Unit {0})} (h : A
   unfolding live
   alive-end l = sym (h .rest ∙ rw (span-end (recordAt s) i n l))
 
-  module _ {x : List ℕ} (l : i < n) (ex : x ≡ itemOf s i) where
+  module _ {x : List ℕ} (l : i < n) (ef : x ≡ fieldOf s n i) where
+    ex : x ≡ itemOf s i
+    ex = item-is s i (h .count) ef
+
     pub alive-dead : length x ≡ 0 → resolved (Resolved.Refused Refusal.InvalidPeerFundingTx) tt ≡ R
     unfolding live number values
     alive-dead z = sym (h .rest ∙ rw (span-on (recordAt s) i n l, record-is s i true ex (eq-eqb (length x) 0 z)))
@@ -67,7 +72,7 @@ module _ {source s : List ℕ} {first n i : ℕ} {R : Outcome (Unit {0})} (h : A
       unfolding live checkWith _>>_
       alive-more u =
           let k : suc (first + i) ≡ first + (i + 1) = omega arith in
-          record { rest = h .rest ∙ rw (span-on (recordAt s) i n l, record-is s i false ex (ne-eqb (length x) 0 z), ← eq, u, k) }
+          record { count = h .count; rest = h .rest ∙ rw (span-on (recordAt s) i n l, record-is s i false ex (ne-eqb (length x) 0 z), ← eq, u, k) }
 
 -- where all are live, the cells are those of the items
 live-span : (source s : List ℕ) (j i k : ℕ) → live source j (span (recordAt s) i k) ≡ fine tt → liveCells (span (recordAt s) i k) ≡ span (recordCellAt s) i k

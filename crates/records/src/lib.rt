@@ -32,7 +32,7 @@ fn all_live(source: &[u8], first: u32, records: &[u8]) -> Resolved
     let base = first as usize;
     let mut i = 0;
     while i < n {
-        let x = molecule::item(records, i);
+        let x = molecule::field(records, n, i);
         if x.len() == 0 {
             return Resolved::Refused(Refusal::InvalidPeerFundingTx);
         }

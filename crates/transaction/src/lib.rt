@@ -102,7 +102,7 @@ pub fn is_outputs(s: &[u8]) -> bool
     }
     let mut i = 0;
     while i < n {
-        let x = molecule::item(s, i);
+        let x = molecule::field(s, n, i);
         if !is_output(x) {
             return false;
         }
@@ -182,7 +182,7 @@ pub fn is_token_cells(s: &[u8]) -> bool
     }
     let mut i = 0;
     while i < n {
-        let x = molecule::item(s, i);
+        let x = molecule::field(s, n, i);
         if !is_token_cell(x) {
             return false;
         }
@@ -224,7 +224,7 @@ pub fn is_records(s: &[u8]) -> bool
     }
     let mut i = 0;
     while i < n {
-        let x = molecule::item(s, i);
+        let x = molecule::field(s, n, i);
         if !is_optional_record(x) {
             return false;
         }

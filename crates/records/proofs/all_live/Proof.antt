@@ -22,7 +22,7 @@ all-live-spec =
     (λ c κs. search ways)  -- item-count-requires
     (λ c. search ways)  -- cast-n
     (λ c. search ways)  -- loop-holds
-    (λ c κs. search ways)  -- item-requires
+    (λ c κs. search ways)  -- field-requires
     (λ c. search ways)  -- returns
     (λ c κs. search ways)  -- has-our-lock-requires
     (λ c. search ways)  -- add-t13

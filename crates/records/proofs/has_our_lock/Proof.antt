@@ -8,5 +8,5 @@ has-our-lock-spec =
     (tie.spec
     (λ c κs. search ways)  -- record-output-requires
     (λ c κs. search ways)  -- lock-requires
-    (λ c κs. search ways)  -- same-requires
+    (λ c κs. search ways)  -- same-script-requires
     (λ c. search ways))  -- returns

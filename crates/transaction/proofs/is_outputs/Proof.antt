@@ -22,7 +22,7 @@ is-outputs-spec =
     (λ c κs. search ways)  -- has-items-requires
     (λ c. search ways)  -- returns
     (λ c. search ways)  -- loop-holds
-    (λ c κs. search ways)  -- item-requires
+    (λ c κs. search ways)  -- field-requires
     (λ c κs. search ways)  -- is-output-requires
     (λ c. search ways)  -- returns-2
     (λ c. search ways)  -- add-i
