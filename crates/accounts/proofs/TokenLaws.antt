@@ -27,46 +27,64 @@ use Rattle.accounts.proofs.AddedLaws.{amount-there}
 
 -- ---- one cell
 
-module _ (type o d : List ℕ) (s : Tokens) {k : List ℕ} {r : Bool} (ek : k ≡ typeOf o) (er : r ≡ eqBytes type k) where
-  of-type : isOf type (with-data o d) ≡ r
+-- of the type that is asked for, whatever that is
+module _ (d : List ℕ) (s : Tokens) {g : TokensRead} (eg : g ≡ tokensRead (amountAt d)) where
+  pub amount-short : g ≡ TokensRead.Short
+      → ((type o : List ℕ) → isOf type (record { output = o; cellData = d }) ≡ true → inTokens TokenSum.Invalid ≡ counted type (tokenCount s) (record { output = o; cellData = d }))
+  unfolding counted check checkWith _>>_ hasAmount
+  amount-short h type o t = rw (t, lt-leb 16 (length d) (tokens-under d eg h))
+
+  module _ {a : Tokens} (h : g ≡ TokensRead.Tokens a) {q : CheckedTokens} (eq : q ≡ checkedTokens (sum (s .0) (a .0))) where
+    long : (o : List ℕ) → hasAmount (with-data o d) ≡ true
+    unfolding hasAmount
+    long o = le-leb 16 (length d) (tokens-long d eg h)
+
+    pub amount-wide : q ≡ CheckedTokens.Overflow
+        → ((type o : List ℕ) → isOf type (record { output = o; cellData = d }) ≡ true → inTokens TokenSum.Overflow ≡ counted type (tokenCount s) (record { output = o; cellData = d }))
+    unfolding counted check checkWith _>>_
+    amount-wide z type o t = rw (t, long o, ← amount-there o d eg h, le-ltb (tokenCount s + tokenCount a) (2 ^ 128) (tokens-over s a eq z))
+
+    pub amount-fits : {n : Tokens} → q ≡ CheckedTokens.Fits n
+        → ((type o : List ℕ) → isOf type (record { output = o; cellData = d }) ≡ true → inTokens (TokenSum.Is n) ≡ counted type (tokenCount s) (record { output = o; cellData = d }))
+    unfolding counted check checkWith _>>_
+    amount-fits {n} z type o t =
+        rw (t, long o, ← amount-there o d eg h, lt-ltb (tokenCount s + tokenCount a) (2 ^ 128) (tokens-below s a eq z))
+        (ap fine (tokens-sum s a eq z))
+
+-- its type is compared
+module _ (type o : List ℕ) (n : Tokens) {k : List ℕ} {r : Bool} (ek : k ≡ typeOf o) (er : r ≡ eqBytes type k) where
+  of-type : (d : List ℕ) → isOf type (with-data o d) ≡ r
   unfolding isOf
-  of-type = ap (eqBytes type) (sym ek) ∙ sym er
+  of-type d = ap (eqBytes type) (sym ek) ∙ sym er
 
-  pub token-other : not r ≡ true → inTokens (TokenSum.Is s) ≡ counted type (tokenCount s) (record { output = o; cellData = d })
+  other : (d : List ℕ) → not r ≡ true → inTokens (TokenSum.Is n) ≡ counted type (tokenCount n) (with-data o d)
   unfolding counted
-  token-other t = rw (of-type, not-true r t)
+  other d t = rw (of-type d, not-true r t)
 
-  module _ (t : not r ≡ false) {g : TokensRead} (eg : g ≡ tokensRead (amountAt d)) where
-    pub token-short : g ≡ TokensRead.Short → inTokens TokenSum.Invalid ≡ counted type (tokenCount s) (record { output = o; cellData = d })
-    unfolding counted check checkWith _>>_ hasAmount
-    token-short h = rw (of-type, not-false r t, lt-leb 16 (length d) (tokens-under d eg h))
+  module _ (s : List ℕ) (i : ℕ) {x : List ℕ} (ex : x ≡ itemOf s i) (eo : o ≡ firstOf x) where
+    record-cell : (d : List ℕ) → d ≡ dataOf x → counted type (tokenCount n) (with-data o d) ≡ counted type (tokenCount n) (recordCellAt s i)
+    unfolding recordCellAt
+    record-cell d ed = ap₂ (λ (a b : List ℕ). counted type (tokenCount n) (with-data a b)) eo ed ∙ ap (λ (y : List ℕ). counted type (tokenCount n) (recordCell y)) ex
 
-    module _ {a : Tokens} (h : g ≡ TokensRead.Tokens a) {q : CheckedTokens} (eq : q ≡ checkedTokens (sum (s .0) (a .0))) where
-      long : hasAmount (with-data o d) ≡ true
-      unfolding hasAmount
-      long = le-leb 16 (length d) (tokens-long d eg h)
+    pub record-other : not r ≡ true → inTokens (TokenSum.Is n) ≡ counted type (tokenCount n) (recordCellAt s i)
+    record-other t = other (dataOf x) t ∙ record-cell (dataOf x) refl
 
-      pub token-wide : q ≡ CheckedTokens.Overflow → inTokens TokenSum.Overflow ≡ counted type (tokenCount s) (record { output = o; cellData = d })
-      unfolding counted check checkWith _>>_
-      token-wide z =
-          rw (of-type, not-false r t, long, ← amount-there o d eg h, le-ltb (tokenCount s + tokenCount a) (2 ^ 128) (tokens-over s a eq z))
+    pub record-amount : {d : List ℕ} (q : TokenSum) → not r ≡ false → d ≡ dataOf x
+        → ((type o : List ℕ) → isOf type (record { output = o; cellData = d }) ≡ true → inTokens q ≡ counted type (tokenCount n) (record { output = o; cellData = d }))
+        → inTokens q ≡ counted type (tokenCount n) (recordCellAt s i)
+    record-amount {d} q t ed h = h type o (of-type d ∙ not-false r t) ∙ record-cell d ed
 
-      pub token-fits : {n : Tokens} → q ≡ CheckedTokens.Fits n → inTokens (TokenSum.Is n) ≡ counted type (tokenCount s) (record { output = o; cellData = d })
-      unfolding counted check checkWith _>>_
-      token-fits {n} z =
-          rw (of-type, not-false r t, long, ← amount-there o d eg h, lt-ltb (tokenCount s + tokenCount a) (2 ^ 128) (tokens-below s a eq z))
-          (ap fine (tokens-sum s a eq z))
+  module _ (f g : List ℕ) (i : ℕ) (eo : o ≡ itemOf f i) where
+    item-cell : (d : List ℕ) → d ≡ entryOf g i → counted type (tokenCount n) (with-data o d) ≡ counted type (tokenCount n) (with-data (itemOf f i) (entryOf g i))
+    item-cell d ed = ap₂ (λ (a b : List ℕ). counted type (tokenCount n) (with-data a b)) eo ed
 
-pub token-record : (type s : List ℕ) (i : ℕ) (n : Tokens) (q : TokenSum) {x o d : List ℕ} → x ≡ itemOf s i → o ≡ firstOf x → d ≡ dataOf x
-    → inTokens q ≡ counted type (tokenCount n) (record { output = o; cellData = d }) → inTokens q ≡ counted type (tokenCount n) (recordCellAt s i)
-unfolding recordCellAt
-token-record type s i n q {x} {o} {d} ex eo ed h =
-    h ∙ ap₂ (λ (a b : List ℕ). counted type (tokenCount n) (with-data a b)) eo ed ∙ ap (λ (y : List ℕ). counted type (tokenCount n) (recordCell y)) ex
+    pub item-other : not r ≡ true → inTokens (TokenSum.Is n) ≡ counted type (tokenCount n) (record { output = itemOf f i; cellData = entryOf g i })
+    item-other t = other (entryOf g i) t ∙ item-cell (entryOf g i) refl
 
-pub token-item : (type f g : List ℕ) (i : ℕ) (n : Tokens) (q : TokenSum) {o d : List ℕ} → o ≡ itemOf f i → d ≡ entryOf g i
-    → inTokens q ≡ counted type (tokenCount n) (record { output = o; cellData = d })
-    → inTokens q ≡ counted type (tokenCount n) (record { output = itemOf f i; cellData = entryOf g i })
-token-item type f g i n q eo ed h = h ∙ ap₂ (λ (a b : List ℕ). counted type (tokenCount n) (with-data a b)) eo ed
+    pub item-amount : {d : List ℕ} (q : TokenSum) → not r ≡ false → d ≡ entryOf g i
+        → ((type o : List ℕ) → isOf type (record { output = o; cellData = d }) ≡ true → inTokens q ≡ counted type (tokenCount n) (record { output = o; cellData = d }))
+        → inTokens q ≡ counted type (tokenCount n) (record { output = itemOf f i; cellData = entryOf g i })
+    item-amount {d} q t ed h = h type o (of-type d ∙ not-false r t) ∙ item-cell d ed
 
 pub token-output : (type s : List ℕ) (i : ℕ) (n : Tokens) (q : TokenSum) {f g : List ℕ} → f ≡ rawField s 4 → g ≡ rawField s 5
     → inTokens q ≡ counted type (tokenCount n) (record { output = itemOf f i; cellData = entryOf g i }) → inTokens q ≡ counted type (tokenCount n) (cellAt s i)

@@ -4,11 +4,14 @@ use units::CheckedTokens;
 use units::Tokens;
 use units::TokensRead;
 ghost use mathlib.Core.Path.{_≡_};
+ghost use mathlib.Core.Bool.{true};
+ghost use mathlib.Core.List.{List};
+ghost use Prim.Native.Nat.{ℕ};
 ghost use Rattle.units.specs.Units.{tokenCount};
 ghost use Rattle.molecule.specs.Layout.{itemOf, entryOf};
 ghost use Rattle.transaction.specs.Tx.{txAt};
 ghost use Rattle.rules.specs.Cells.{recordCellAt, recordCells};
-ghost use Rattle.rules.specs.Surplus.{added};
+ghost use Rattle.rules.specs.Surplus.{added, isOf};
 ghost use Rattle.rules.specs.Judge.{counted, tally, settled, tokenAccount};
 ghost use Rattle.accounts.specs.Answers.{inTokens};
 
@@ -19,14 +22,10 @@ pub enum TokenSum {
     Overflow,
 }
 
-// A sum with the tokens of one more cell, of output o and data d; a cell of another type may hold any data.
-fn add_cell(udt: &[u8], o: &[u8], d: &[u8], sum: Tokens) -> TokenSum
-    ensures { λ r. ⌜ inTokens r ≡ counted (now (udt .entry)) (tokenCount sum) (record { output = now (o .entry); cellData = now (d .entry) }) ⌝ }
+// A sum with the amount of one more cell of the type that is asked for, whatever that is; d is its data.
+fn add_amount(d: &[u8], sum: Tokens) -> TokenSum
+    ensures { λ r. ⌜ ((type o : List ℕ) → isOf type (record { output = o; cellData = now (d .entry) }) ≡ true → inTokens r ≡ counted type (tokenCount sum) (record { output = o; cellData = now (d .entry) })) ⌝ }
 {
-    let t = fields::type_script(o);
-    if !lists::same(udt, t) {
-        return TokenSum::Is(sum);
-    }
     let amount = match crate::read_udt_amount(d) {
         TokensRead::Tokens(amount) => amount,
         TokensRead::Short => return TokenSum::Invalid,
@@ -37,13 +36,18 @@ fn add_cell(udt: &[u8], o: &[u8], d: &[u8], sum: Tokens) -> TokenSum
     }
 }
 
+// A sum with the tokens of record i; a cell of another type may hold any data.
 fn add_record(udt: &[u8], records: &[u8], i: usize, sum: Tokens) -> TokenSum
     ensures { λ r. ⌜ inTokens r ≡ counted (now (udt .entry)) (tokenCount sum) (recordCellAt (now (records .entry)) i) ⌝ }
 {
     let x = molecule::item(records, i);
     let o = fields::record_output(x);
+    let t = fields::type_script(o);
+    if !lists::same_script(udt, t) {
+        return TokenSum::Is(sum);
+    }
     let d = fields::record_data(x);
-    add_cell(udt, o, d, sum)
+    add_amount(d, sum)
 }
 
 // The same for output i of a list of outputs, with its entry in a list of data.
@@ -51,8 +55,12 @@ fn add_output(udt: &[u8], outputs: &[u8], entries: &[u8], i: usize, sum: Tokens)
     ensures { λ r. ⌜ inTokens r ≡ counted (now (udt .entry)) (tokenCount sum) (record { output = itemOf (now (outputs .entry)) i; cellData = entryOf (now (entries .entry)) i }) ⌝ }
 {
     let o = molecule::item(outputs, i);
+    let t = fields::type_script(o);
+    if !lists::same(udt, t) {
+        return TokenSum::Is(sum);
+    }
     let d = molecule::entry(entries, i);
-    add_cell(udt, o, d, sum)
+    add_amount(d, sum)
 }
 
 fn records_tokens(udt: &[u8], records: &[u8]) -> TokenSum

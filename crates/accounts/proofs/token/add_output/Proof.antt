@@ -7,6 +7,9 @@ add-output-spec =
     tie.close
     (tie.spec
     (λ c κs. search ways)  -- item-requires
+    (λ c κs. search ways)  -- type-script-requires
+    (λ c κs. search ways)  -- same-requires
+    (λ c. search ways)  -- returns
     (λ c κs. search ways)  -- entry-requires
-    (λ c κs. search ways)  -- add-cell-requires
-    (λ c. search ways))  -- returns
+    (λ c κs. search ways)  -- add-amount-requires
+    (λ c. search ways))  -- returns-2

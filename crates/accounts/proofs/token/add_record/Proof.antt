@@ -8,6 +8,9 @@ add-record-spec =
     (tie.spec
     (λ c κs. search ways)  -- item-requires
     (λ c κs. search ways)  -- record-output-requires
+    (λ c κs. search ways)  -- type-script-requires
+    (λ c κs. search ways)  -- same-script-requires
+    (λ c. search ways)  -- returns
     (λ c κs. search ways)  -- record-data-requires
-    (λ c κs. search ways)  -- add-cell-requires
-    (λ c. search ways))  -- returns
+    (λ c κs. search ways)  -- add-amount-requires
+    (λ c. search ways))  -- returns-2
