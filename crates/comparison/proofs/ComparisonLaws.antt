@@ -7,8 +7,10 @@ use native.Mathlib.Omega.{arith}
 use borrow.Author.Tests.{le-leb, lt-leb, eq-eqb, ne-eqb, not-true, not-false}
 use lib.ListN.{length, drop}
 use lib.Dec.{leb, eqb}
-use Rattle.molecule.specs.Layout.{fixCount, fixItems, itemCount, itemsOf, entriesOf}
+use Rattle.arithmetic.specs.LittleEndian.{numAt}
+use Rattle.molecule.specs.Layout.{part, word, span, start, fieldOf, fixCount, fixItems, itemCount, itemsOf, entriesOf}
 use Rattle.molecule.proofs.Offsets.{span-length}
+use Rattle.molecule.proofs.ReadableLaws.{by-length}
 use Rattle.lists.specs.Lists.{eqBytes, agree, containsAll, extends}
 use Rattle.lists.proofs.AgreeLaws.{extends-is, extends-rest}
 use Rattle.transaction.specs.Tx.{txAt, rawField, lockOf, typeOf}
@@ -173,3 +175,39 @@ module _ (lock type o p : List ℕ) where
       (pass-two 5 _ _ (two-lines (txAt o .headerDeps) (txAt p .headerDeps) e3 true (not-false _ t3))
       (pass-two 5 _ _ (two-lines (txAt o .inputs) (txAt p .inputs) e4 true (not-false _ t4))
       (pass 5 n (pass 5 l (pass-two 5 _ _ k (pass 5 a (last-is 5 e ∙ last-two 5 _ _))))))))
+
+-- ---- where there is nothing of ours
+
+none-missing : (ys : List (List ℕ)) → true ≡ noneMissing (txAt [] .cellDeps) ys
+unfolding rawField fieldOf part start word numAt span noneMissing containsAll
+none-missing ys = rw (le-leb 0 (length ys) (omega arith))
+
+no-header : (ys : List (List ℕ)) → true ≡ extends (txAt [] .headerDeps) ys
+unfolding rawField fieldOf part start word numAt span extends
+no-header ys = refl
+
+no-input : (ys : List (List ℕ)) → true ≡ extends (txAt [] .inputs) ys
+unfolding rawField fieldOf part start word numAt span extends
+no-input ys = refl
+
+no-output : (ys : List (List ℕ)) → true ≡ keptAfterFirst (txAt [] .outputs) ys
+unfolding rawField fieldOf part start word numAt span itemCount keptAfterFirst agree
+no-output ys = rw (le-leb 0 (length ys) (omega arith))
+
+no-data : (ys : List (List ℕ)) → true ≡ keptAfterFirst (txAt [] .outputsData) ys
+unfolding rawField fieldOf part start word numAt span itemCount keptAfterFirst agree
+no-data ys = rw (le-leb 0 (length ys) (omega arith))
+
+module _ (lock type o p : List ℕ) where
+  pub opens : {r s : Bool} → r ≡ fundingCellFirst lock type (cells (txAt p)) → not r ≡ false
+      → s ≡ eqb (txAt o .version) (txAt p .version) → not s ≡ false → length o ≡ 0
+      → check 5 true ≡ comparison lock type (txAt o) (txAt p)
+  opens e t f u z =
+      let y : [] ≡ o = by-length o sym (λ n. absurd (n z)) in
+      differs-data lock type o p f u
+      (none-missing _ ∙ ap (λ (x : List ℕ). noneMissing (txAt x .cellDeps) (txAt p .cellDeps)) y) refl
+      (no-header _ ∙ ap (λ (x : List ℕ). extends (txAt x .headerDeps) (txAt p .headerDeps)) y) refl
+      (no-input _ ∙ ap (λ (x : List ℕ). extends (txAt x .inputs) (txAt p .inputs)) y) refl
+      (no-output _ ∙ ap (λ (x : List ℕ). keptAfterFirst (txAt x .outputs) (txAt p .outputs)) y) refl
+      e t
+      (no-data _ ∙ ap (λ (x : List ℕ). keptAfterFirst (txAt x .outputsData) (txAt p .outputsData)) y)

@@ -96,13 +96,19 @@ fn keeps_data(ours: &[u8], peer: &[u8]) -> bool
     lists::entries_extend(a, b)
 }
 
-// Whether the peer keeps what is ours and has the expected funding cell as output 0; the refusal is 5. Tests that read one list stand together: all of
-// them have the one refusal, so their order can't be told.
+// Whether the peer keeps what is ours and has the expected funding cell as output 0; the refusal is 5. Tests that read one list stand together, and where
+// there is no transaction of ours no list is read: all of them have the one refusal, so their order can't be told.
 pub fn keeps_ours(ours: &[u8], peer: &[u8], lock: &[u8], udt: &[u8]) -> bool
     ensures { λ r. ⌜ check 5 r ≡ comparison (now (lock .entry)) (now (udt .entry)) (txAt (now (ours .entry))) (txAt (now (peer .entry))) ⌝ }
 {
+    if !is_funding_cell(lock, udt, peer) {
+        return false;
+    }
     if !same_version(ours, peer) {
         return false;
+    }
+    if ours.len() == 0 {
+        return true;
     }
     if !keeps_cell_deps(ours, peer) {
         return false;
@@ -114,9 +120,6 @@ pub fn keeps_ours(ours: &[u8], peer: &[u8], lock: &[u8], udt: &[u8]) -> bool
         return false;
     }
     if !keeps_outputs(ours, peer) {
-        return false;
-    }
-    if !is_funding_cell(lock, udt, peer) {
         return false;
     }
     keeps_data(ours, peer)

@@ -6,17 +6,18 @@ pub keeps-ours-spec : {M : Type 1} → statement M
 keeps-ours-spec =
     tie.close
     (tie.spec
-    (λ c κs. search ways)  -- same-version-requires
-    (λ c. search ways)  -- returns
-    (λ c κs. search ways)  -- keeps-cell-deps-requires
-    (λ c. search ways)  -- returns-2
-    (λ c κs. search ways)  -- extends-header-deps-requires
-    (λ c. search ways)  -- returns-3
-    (λ c κs. search ways)  -- extends-inputs-requires
-    (λ c. search ways)  -- returns-4
-    (λ c κs. search ways)  -- keeps-outputs-requires
-    (λ c. search ways)  -- returns-5
     (λ c κs. search ways)  -- is-funding-cell-requires
+    (λ c. search ways)  -- returns
+    (λ c κs. search ways)  -- same-version-requires
+    (λ c. search ways)  -- returns-2
+    (λ c. search ways)  -- returns-3
+    (λ c κs. search ways)  -- keeps-cell-deps-requires
+    (λ c. search ways)  -- returns-4
+    (λ c κs. search ways)  -- extends-header-deps-requires
+    (λ c. search ways)  -- returns-5
+    (λ c κs. search ways)  -- extends-inputs-requires
     (λ c. search ways)  -- returns-6
+    (λ c κs. search ways)  -- keeps-outputs-requires
+    (λ c. search ways)  -- returns-7
     (λ c κs. search ways)  -- keeps-data-requires
-    (λ c. search ways))  -- returns-7
+    (λ c. search ways))  -- returns-8
