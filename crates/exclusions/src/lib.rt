@@ -1,4 +1,5 @@
-// The calls on a lent exclusion map. Bytes that are no table are refused before all else, and a refusal leaves the table's bytes and the buffer as they were.
+// LiveCellsExclusionMap: the cells that funding transactions spend, kept out of later picks. The map is bytes that the caller keeps and lends to each call, which works on them in
+// place. Bytes that are no map are refused before all else, and a refusal leaves the map's bytes and the buffer as they were.
 use error::Answer;
 use error::Refusal;
 use exclusion_entries::Rule;
