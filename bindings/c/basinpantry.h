@@ -137,7 +137,7 @@ uint32_t basinpantry_build_base(const uint8_t *ours, size_t ours_len, const uint
 
 /* ---- tables of cells: bytes that the caller keeps and lends to each call. All zeros are the empty table; any other content is safe.
    A table is a count (4 bytes), then its records one after the other. Bytes beyond them mean nothing, and a call leaves them as they were. A table of another length is 3,
-   before all else. Lists of out points are written to the start of their buffer as they are read: a count of four bytes and 36 bytes for each. */
+   before all else but 1. Lists of out points are written to the start of their buffer as they are read: a count of four bytes and 36 bytes for each. */
 
 /* Held cells: 256 places of 48 bytes, each an out point (36), a kind (4) and a number (8). Kind 0 is a funding, and the number its holder; any other kind the watchtower, and
    the number the end in milliseconds: every content means a table. A call that is done writes the records that stand anew in this form. */
@@ -173,7 +173,7 @@ uint32_t basinpantry_take(uint8_t *held, size_t held_len, const uint8_t *picked,
    another kind, a pending entry with a block) are 3 like a table of another length, and stay as they are. */
 #define BASINPANTRY_EXCLUSIONS_BYTES 21508
 
-/* Enters the inputs of a transaction (no bytes: none) under its hash of 32 bytes, which the caller answers for. Refused: 3 (the table), 1, 3, 15. */
+/* Enters the inputs of a transaction (no bytes: none) under its hash of 32 bytes, which the caller answers for. Refused: 1, 3, 15. */
 uint32_t basinpantry_exclusions_add(uint8_t *map, size_t map_len, const uint8_t *hash, size_t hash_len, const uint8_t *tx, size_t tx_len);
 
 /* The transaction of this hash was committed in this block. Refused: 3. */
@@ -182,7 +182,7 @@ uint32_t basinpantry_exclusions_commit(uint8_t *map, size_t map_len, const uint8
 /* Removes the transaction of this hash. Refused: 3. */
 uint32_t basinpantry_exclusions_remove(uint8_t *map, size_t map_len, const uint8_t *hash, size_t hash_len);
 
-/* Moves an entry to the transaction that replaces it. Refused: 3 (the table), 1, 3, 15. */
+/* Moves an entry to the transaction that replaces it. Refused: 1, 3, 15. */
 uint32_t basinpantry_exclusions_migrate_funding_tx(uint8_t *map, size_t map_len, const uint8_t *old_hash, size_t old_hash_len, const uint8_t *new_hash,
                                                    size_t new_hash_len, const uint8_t *tx, size_t tx_len);
 

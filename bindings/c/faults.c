@@ -631,7 +631,9 @@ static void call(size_t which) {
         default: r = basinpantry_exclusions_apply(S(t), S(o)); break;
         }
         if (r > 15 || (allowed >> r & 1) == 0) fail("an answer that the header does not name");
-        if (t.len != (holds ? BASINPANTRY_HELD_BYTES : BASINPANTRY_EXCLUSIONS_BYTES) && r != 3) fail("a table of another length, and not 3");
+        uint32_t first = (which == 20 || which == 23) && x.len != 0 && !basinpantry_is_transaction(S(x)) ? 1 : 3;
+        if (first == 1 && r != 1) fail("a transaction that can't be read, and not 1");
+        if (t.len != (holds ? BASINPANTRY_HELD_BYTES : BASINPANTRY_EXCLUSIONS_BYTES) && r != first) fail("a table of another length, and not 3");
         w = NULL;
     }
     }

@@ -10,7 +10,7 @@ ghost use Rattle.exclusion_entries.specs.Exclusions.{commitOn, removeOn, trunca
 ghost use Rattle.table_bytes.specs.Lent.{lentTable, lentWith, lentWithTwo, lentRead, withBytes, toldNumber};
 ghost use Rattle.held_bytes.specs.HeldBytes.{heldOf, heldAt, heldBytes};
 ghost use Rattle.exclusion_entries.specs.Entries.{excludedAt};
-ghost use Rattle.exclusions.specs.LentMap.{lentMap, lentList};
+ghost use Rattle.exclusions.specs.LentMap.{lentMap, lentTx, lentList};
 
 // ---- holds
 
@@ -103,7 +103,7 @@ pub extern "C" fn basinpantry_take(
 // Enters the inputs of a transaction under its hash.
 #[no_mangle]
 pub extern "C" fn basinpantry_exclusions_add(map: &mut [u8], hash: &[u8], tx: &[u8]) -> u32
-    ensures { λ r. ⌜ toldNumber (withBytes excludedAt) r (now (map .exit)) ≡ lentMap (now (map .entry)) (addOn (now (map .entry)) (excludedAt (now (map .entry))) (now (hash .entry)) (now (tx .entry))) ⌝ }
+    ensures { λ r. ⌜ toldNumber (withBytes excludedAt) r (now (map .exit)) ≡ lentTx (now (tx .entry)) (now (map .entry)) (addOn (excludedAt (now (map .entry))) (now (hash .entry)) (now (tx .entry))) ⌝ }
 {
     let a = exclusions::add(map, hash, tx);
     a.number() as u32
@@ -112,7 +112,7 @@ pub extern "C" fn basinpantry_exclusions_add(map: &mut [u8], hash: &[u8], tx: &[
 // The transaction of this hash was committed in this block.
 #[no_mangle]
 pub extern "C" fn basinpantry_exclusions_commit(map: &mut [u8], hash: &[u8], block: u64) -> u32
-    ensures { λ r. ⌜ toldNumber (withBytes excludedAt) r (now (map .exit)) ≡ lentMap (now (map .entry)) (commitOn (now (map .entry)) (excludedAt (now (map .entry))) (now (hash .entry)) (record { 0 = block })) ⌝ }
+    ensures { λ r. ⌜ toldNumber (withBytes excludedAt) r (now (map .exit)) ≡ lentMap (now (map .entry)) (commitOn (excludedAt (now (map .entry))) (now (hash .entry)) (record { 0 = block })) ⌝ }
 {
     let number = BlockNumber(block);
     let a = exclusions::commit(map, hash, number);
@@ -122,7 +122,7 @@ pub extern "C" fn basinpantry_exclusions_commit(map: &mut [u8], hash: &[u8], blo
 // Removes the transaction of this hash.
 #[no_mangle]
 pub extern "C" fn basinpantry_exclusions_remove(map: &mut [u8], hash: &[u8]) -> u32
-    ensures { λ r. ⌜ toldNumber (withBytes excludedAt) r (now (map .exit)) ≡ lentMap (now (map .entry)) (removeOn (now (map .entry)) (excludedAt (now (map .entry))) (now (hash .entry))) ⌝ }
+    ensures { λ r. ⌜ toldNumber (withBytes excludedAt) r (now (map .exit)) ≡ lentMap (now (map .entry)) (removeOn (excludedAt (now (map .entry))) (now (hash .entry))) ⌝ }
 {
     let a = exclusions::remove(map, hash);
     a.number() as u32
@@ -136,7 +136,7 @@ pub extern "C" fn basinpantry_exclusions_migrate_funding_tx(
     new: &[u8],
     tx: &[u8],
 ) -> u32
-    ensures { λ r. ⌜ toldNumber (withBytes excludedAt) r (now (map .exit)) ≡ lentMap (now (map .entry)) (migrateOn (now (map .entry)) (excludedAt (now (map .entry))) (now (old .entry)) (now (new .entry)) (now (tx .entry))) ⌝ }
+    ensures { λ r. ⌜ toldNumber (withBytes excludedAt) r (now (map .exit)) ≡ lentTx (now (tx .entry)) (now (map .entry)) (migrateOn (excludedAt (now (map .entry))) (now (old .entry)) (now (new .entry)) (now (tx .entry))) ⌝ }
 {
     let a = exclusions::migrate_funding_tx(map, old, new, tx);
     a.number() as u32
@@ -145,7 +145,7 @@ pub extern "C" fn basinpantry_exclusions_migrate_funding_tx(
 // Drops what was committed 13 blocks before the tip, or earlier.
 #[no_mangle]
 pub extern "C" fn basinpantry_exclusions_truncate(map: &mut [u8], tip: u64) -> u32
-    ensures { λ r. ⌜ toldNumber (withBytes excludedAt) r (now (map .exit)) ≡ lentMap (now (map .entry)) (truncateOn (now (map .entry)) (excludedAt (now (map .entry))) (record { 0 = tip })) ⌝ }
+    ensures { λ r. ⌜ toldNumber (withBytes excludedAt) r (now (map .exit)) ≡ lentMap (now (map .entry)) (truncateOn (excludedAt (now (map .entry))) (record { 0 = tip })) ⌝ }
 {
     let number = BlockNumber(tip);
     let a = exclusions::truncate(map, number);

@@ -1,13 +1,11 @@
--- The exclusion map (01-scope.md, "Holds and exclusions"): it is a list of entries, and each call is a definition on such lists, whatever the table t is that
--- a refusal hands back.
+-- The exclusion map (01-scope.md, "Holds and exclusions"): it is a list of entries, and each call has a rule on such lists.
 use Prim.Native.Nat.{ℕ}
 use mathlib.Core.Bool.{Bool, true, false, not, cond}
 use mathlib.Core.List.{List, [], _∷_, _++_, map}
 use mathlib.Core.Option.{Option, none, some}
 use lib.{Dec.eqb, Dec.leb, ListN.length}
 use Rattle.units.specs.{declared.BlockNumber.BlockNumber, Units.isAtLeast}
-use Rattle.molecule.specs.Molecule.{readable, option}
-use Rattle.transaction.specs.{Ckb.Transaction, Tx.txAt, Tx.previousOutputOf}
+use Rattle.transaction.specs.Tx.{txAt, previousOutputOf}
 use Rattle.out_points.specs.{declared.Byte32.Byte32, declared.OutPoint.OutPoint, OutPoints.eqHash, OutPoints.byte32At, OutPoints.outPointAt}
 use Rattle.out_points.specs.Tables.{keep, renew, Outcome, done, refused, check, hasRoom, written}
 
@@ -17,6 +15,10 @@ pub record Entry : Type 0 where
   pub committed : Option BlockNumber
   pub points : List OutPoint
 
+-- what a rule gives: the entries that the call leaves, or the number of its refusal
+abbrev pub Ruling : Type 0
+Ruling = Outcome (Unit {0}) (List Entry)
+
 unfoldable pub hasHash : Byte32 → Entry → Bool
 hasHash hash e = eqHash (e .hash) hash
 
@@ -24,15 +26,15 @@ hasHash hash e = eqHash (e .hash) hash
 unfoldable pub committedAt : Byte32 → BlockNumber → Entry → Entry
 committedAt hash block e = cond (hasHash hash e) (record { hash = hash; committed = some block; points = e .points }) e
 
-unfoldable pub commitOn : {T : Type 0} → T → List Entry → List ℕ → BlockNumber → Outcome T (List Entry)
-commitOn t l hash block = check (eqb (length hash) 32) (refused 3 t) (done (map (committedAt (byte32At hash 0) block) l))
+unfoldable pub commitOn : List Entry → List ℕ → BlockNumber → Ruling
+commitOn l hash block = check (eqb (length hash) 32) (refused 3 tt) (done (map (committedAt (byte32At hash 0) block) l))
 
 -- `remove`: the entry of the hash goes
 unfoldable pub without : Byte32 → List Entry → List Entry
 without hash l = keep (λ e. not (hasHash hash e)) l
 
-unfoldable pub removeOn : {T : Type 0} → T → List Entry → List ℕ → Outcome T (List Entry)
-removeOn t l hash = check (eqb (length hash) 32) (refused 3 t) (done (without (byte32At hash 0) l))
+unfoldable pub removeOn : List Entry → List ℕ → Ruling
+removeOn l hash = check (eqb (length hash) 32) (refused 3 tt) (done (without (byte32At hash 0) l))
 
 -- "`truncate` drops an entry committed at c exactly when tip is at least c + 13": it is never refused
 unfoldable pub isRecent : BlockNumber → Option BlockNumber → Bool
@@ -42,8 +44,8 @@ isRecent tip (some c) = not (isAtLeast tip c 13)
 unfoldable pub truncated : BlockNumber → List Entry → List Entry
 truncated tip l = keep (λ e. isRecent tip (e .committed)) l
 
-unfoldable pub truncateOn : {T : Type 0} → T → List Entry → BlockNumber → Outcome T (List Entry)
-truncateOn t l tip = done (truncated tip l)
+unfoldable pub truncateOn : List Entry → BlockNumber → Ruling
+truncateOn l tip = done (truncated tip l)
 
 -- "`apply` writes out points in entry order": 0 or the refusal's number, and the buffer
 unfoldable pub excluded : List Entry → List OutPoint
@@ -60,27 +62,23 @@ unfoldable pub pending : Byte32 → List ℕ → Entry
 pending hash tx = record { hash = hash; committed = none; points = map (λ i. outPointAt (previousOutputOf i) 0) (txAt tx .inputs) }
 
 -- 15: the call would leave over 64 transactions or 512 out points
-unfoldable pub fitting : {T : Type 0} → T → List Entry → Outcome T (List Entry)
-fitting t after = check (leb (length after) 64) (refused 15 t) (check (leb (length (excluded after)) 512) (refused 15 t) (done after))
+unfoldable pub fitting : List Entry → Ruling
+fitting after = check (leb (length after) 64) (refused 15 tt) (check (leb (length (excluded after)) 512) (refused 15 tt) (done after))
 
 -- "no transaction (empty bytes) adds nothing"
-unfoldable pub entering : {T : Type 0} → T → List Entry → Byte32 → List ℕ → Outcome T (List Entry)
-entering t l hash tx = cond (eqb (length tx) 0) (done l) (fitting t (renew (hasHash hash) (pending hash tx) l))
+unfoldable pub entering : List Entry → Byte32 → List ℕ → Ruling
+entering l hash tx = cond (eqb (length tx) 0) (done l) (fitting (renew (hasHash hash) (pending hash tx) l))
 
-unfoldable pub addOn : {T : Type 0} → T → List Entry → List ℕ → List ℕ → Outcome T (List Entry)
-addOn t l hash tx =
-    check (readable (option Transaction) tx) (refused 1 t)
-    (check (eqb (length hash) 32) (refused 3 t)
-    (entering t l (byte32At hash 0) tx))
+unfoldable pub addOn : List Entry → List ℕ → List ℕ → Ruling
+addOn l hash tx = check (eqb (length hash) 32) (refused 3 tt) (entering l (byte32At hash 0) tx)
 
 -- "Migrating a known hash removes its entry, then adds the new one, last if its hash is not entered"
 unfoldable pub entered : Byte32 → List Entry → Bool
 entered hash [] = false
 entered hash (e ∷ l) = cond (hasHash hash e) true (entered hash l)
 
-unfoldable pub migrateOn : {T : Type 0} → T → List Entry → List ℕ → List ℕ → List ℕ → Outcome T (List Entry)
-migrateOn t l old new tx =
-    check (readable (option Transaction) tx) (refused 1 t)
-    (check (eqb (length old) 32) (refused 3 t)
-    (check (eqb (length new) 32) (refused 3 t)
-    (cond (entered (byte32At old 0) l) (entering t (without (byte32At old 0) l) (byte32At new 0) tx) (done l))))
+unfoldable pub migrateOn : List Entry → List ℕ → List ℕ → List ℕ → Ruling
+migrateOn l old new tx =
+    check (eqb (length old) 32) (refused 3 tt)
+    (check (eqb (length new) 32) (refused 3 tt)
+    (cond (entered (byte32At old 0) l) (entering (without (byte32At old 0) l) (byte32At new 0) tx) (done l)))

@@ -14,14 +14,13 @@ use Rattle.units.specs.declared.{BlockNumber.BlockNumber}
 use Rattle.molecule.specs.Molecule.{readable, option}
 use Rattle.molecule.specs.Partial.{All}
 use Rattle.molecule.specs.Write.{splice, putAt}
-use Rattle.molecule.proofs.HeaderLaws.{option-readable}
 use Rattle.molecule.proofs.WriteLaws.{put-yes, splice-zero, splice-length}
 use Rattle.transaction.specs.Ckb.{Transaction}
 use Rattle.out_points.specs.declared.{Byte32.Byte32}
 use Rattle.out_points.specs.OutPoints.{byte32At, bytesOf, pointList}
-use Rattle.out_points.specs.Tables.{Outcome, done, told, keep, renew, hasRoom, written}
+use Rattle.out_points.specs.Tables.{done, told, keep, renew, hasRoom, written}
 use Rattle.out_points.proofs.ListLaws.{length-list, length-bytes}
-use Rattle.exclusion_entries.specs.Exclusions.{Entry, hasHash, committedAt, commitOn, without, removeOn, truncated, truncateOn, excluded, applyOn, pending, fitting, entering, addOn, entered, migrateOn}
+use Rattle.exclusion_entries.specs.Exclusions.{Entry, Ruling, hasHash, committedAt, commitOn, without, removeOn, truncated, truncateOn, excluded, applyOn, pending, fitting, entering, addOn, entered, migrateOn}
 use Rattle.table_bytes.specs.Lent.{After, leaving, withBytes}
 use Rattle.exclusion_entries.specs.declared.{Rule.Rule, Survey.Survey}
 use Rattle.exclusion_entries.specs.Entries.{mapBytes, FitEntry, excludedAt, isMap}
@@ -30,15 +29,22 @@ use Rattle.exclusion_entries.proofs.EntryLaws.{entries-size}
 use Rattle.exclusion_entries.proofs.MapLaws.{map-long, map-few, map-count, map-points, map-same, map-fits, map-size, splice-back}
 use Rattle.exclusion_entries.proofs.SpliceLaws.{splice-under}
 use Rattle.exclusion_entries.proofs.StayLaws.{stay-size, stay-all, told-lost, told-points, told-bad, told-good}
-use Rattle.exclusions.specs.LentMap.{lentMap, lentList}
-use Rattle.exclusions.proofs.EnterLaws.{read-yes}
+use Rattle.exclusions.specs.LentMap.{lentMap, lentTx, lentList}
 
-read-none : (tx : List ℕ) → length tx ≡ 0 → readable (option Transaction) tx ≡ true
-read-none tx z = option-readable Transaction tx ∙ rw (eq-eqb (length tx) 0 z)
+-- ---- a transaction that can't be read, and one that can
+
+module _ (s tx : List ℕ) (o : Ruling) {r : Bool} (er : r ≡ readable (option Transaction) tx) where
+  pub tx-bad : not r ≡ true → told (withBytes excludedAt) (Answer.Refused Refusal.OurTransactionUnreadable) s ≡ lentTx tx s o
+  unfolding lentTx told number
+  tx-bad h = rw (← er, not-true r h)
+
+  pub tx-read : {a : After (List Entry)} → not r ≡ false → a ≡ lentMap s o → a ≡ lentTx tx s o
+  unfolding lentTx
+  tx-read h e = e ∙ rw (← er, not-false r h)
 
 -- ---- bytes that are no table
 
-module _ {T : Type 0} (s : List ℕ) (o : Outcome T (List Entry)) where
+module _ (s : List ℕ) (o : Ruling) where
   pub lent-bad : (rule : Rule) {v : Survey} → v ≡ surveyOf rule s → not (v .good) ≡ true → told (withBytes excludedAt) (Answer.Refused Refusal.LentBytesUnreadable) s ≡ lentMap s o
   unfolding lentMap told number
   lent-bad rule e h = rw (told-bad rule s e h)
@@ -49,7 +55,7 @@ module _ {T : Type 0} (s : List ℕ) (o : Outcome T (List Entry)) where
 
 -- ---- a table that stays as it was
 
-same-left : (s : List ℕ) → isMap s ≡ true → AllBytes s → told (withBytes excludedAt) Answer.Done s ≡ leaving {T = List ℕ} mapBytes s (done (excludedAt s))
+same-left : (s : List ℕ) → isMap s ≡ true → AllBytes s → told (withBytes excludedAt) Answer.Done s ≡ leaving {T = Unit {0}} mapBytes s (done (excludedAt s))
 unfolding told leaving withBytes
 same-left s g b =
     let L = excludedAt s in
@@ -59,7 +65,7 @@ same-left s g b =
 -- ---- only entries that stay
 
 kept-left : (rule : Rule) (s : List ℕ) {o : List ℕ} → isMap s ≡ true → AllBytes s → o ≡ splice s 0 (mapBytes (stay (keeps rule) (takes rule) false (excludedAt s)))
-    → told (withBytes excludedAt) Answer.Done o ≡ leaving {T = List ℕ} mapBytes s (done (stay (keeps rule) (takes rule) false (excludedAt s)))
+    → told (withBytes excludedAt) Answer.Done o ≡ leaving {T = Unit {0}} mapBytes s (done (stay (keeps rule) (takes rule) false (excludedAt s)))
 unfolding told leaving withBytes
 kept-left rule s {o} g b e =
     let L = excludedAt s in
@@ -91,75 +97,70 @@ unfolding keep
 keep-all f n [] = refl
 keep-all f n (e ∷ l) = rw (n e) (ap (λ (r : List Entry). e ∷ r) (keep-all f n l))
 
-entering-some : (s : List ℕ) (l : List Entry) (hash : Byte32) (tx : List ℕ) → (length tx ≡ 0 → ⊥) → fitting s (renew (hasHash hash) (pending hash tx) l) ≡ entering s l hash tx
+entering-some : (l : List Entry) (hash : Byte32) (tx : List ℕ) → (length tx ≡ 0 → ⊥) → fitting (renew (hasHash hash) (pending hash tx) l) ≡ entering l hash tx
 unfolding entering
-entering-some s l hash tx z = rw (ne-eqb (length tx) 0 z)
+entering-some l hash tx z = rw (ne-eqb (length tx) 0 z)
 
-module _ (s hash tx : List ℕ) (rule : Rule) {v : Survey} (ev : v ≡ surveyOf rule s) (g : not (v .good) ≡ false) {r : Bool} (er : r ≡ readable (option Transaction) tx) where
-  abbrev added : Outcome (List ℕ) (List Entry)
-  added = addOn s (excludedAt s) hash tx
+module _ (s hash tx : List ℕ) (rule : Rule) {v : Survey} (ev : v ≡ surveyOf rule s) (g : not (v .good) ≡ false) where
+  abbrev added : Ruling
+  added = addOn (excludedAt s) hash tx
 
-  pub add-bad-tx : not r ≡ true → told (withBytes excludedAt) (Answer.Refused Refusal.OurTransactionUnreadable) s ≡ lentMap s (addOn s (excludedAt s) hash tx)
+  pub add-bad : (length hash ≡ 32 → ⊥) → told (withBytes excludedAt) (Answer.Refused Refusal.LentBytesUnreadable) s ≡ lentMap s (addOn (excludedAt s) hash tx)
   unfolding told leaving addOn number
-  add-bad-tx h = lent-on s added (told-good rule s ev g) (rw (← er, not-true r h))
+  add-bad n = lent-on s added (told-good rule s ev g) (rw (ne-eqb (length hash) 32 n))
 
-  module _ (h : not r ≡ false) where
-    pub add-bad-hash : (length hash ≡ 32 → ⊥) → told (withBytes excludedAt) (Answer.Refused Refusal.LentBytesUnreadable) s ≡ lentMap s (addOn s (excludedAt s) hash tx)
-    unfolding told leaving addOn number
-    add-bad-hash n = lent-on s added (told-good rule s ev g) (rw (← er, not-false r h, ne-eqb (length hash) 32 n))
+  module _ (n : length hash ≡ 32) where
+    enters : entering (excludedAt s) (byte32At hash 0) tx ≡ added
+    unfolding addOn
+    enters = rw (eq-eqb (length hash) 32 n)
 
-    module _ (n : length hash ≡ 32) where
-      enters : entering s (excludedAt s) (byte32At hash 0) tx ≡ added
-      unfolding addOn
-      enters = rw (← er, not-false r h, eq-eqb (length hash) 32 n)
+    pub add-none : AllBytes s → length tx ≡ 0 → told (withBytes excludedAt) Answer.Done s ≡ lentMap s (addOn (excludedAt s) hash tx)
+    unfolding entering
+    add-none b z =
+        let i = told-good rule s ev g in
+        lent-on s added i (same-left s i b ∙ ap (leaving mapBytes s) (sym (rw (eq-eqb (length tx) 0 z)) ∙ enters))
 
-      pub add-none : AllBytes s → length tx ≡ 0 → told (withBytes excludedAt) Answer.Done s ≡ lentMap s (addOn s (excludedAt s) hash tx)
-      unfolding entering
-      add-none b z =
-          let i = told-good rule s ev g in
-          lent-on s added i (same-left s i b ∙ ap (leaving mapBytes s) (sym (rw (eq-eqb (length tx) 0 z)) ∙ enters))
-
-pub add-done : (s hash tx : List ℕ) (h : Byte32) {v : Survey} {r : Bool} {a : After (List Entry)} → v ≡ surveyOf (Rule.Enter h) s → not (v .good) ≡ false → r ≡ readable (option Transaction) tx → not r ≡ false → length hash ≡ 32
-    → (length tx ≡ 0 → ⊥) → h ≡ byte32At hash 0 → a ≡ leaving mapBytes s (fitting s (renew (takes (Rule.Enter h)) (pending h tx) (keep (keeps (Rule.Enter h)) (excludedAt s)))) → a ≡ lentMap s (addOn s (excludedAt s) hash tx)
+pub add-done : (s hash tx : List ℕ) (h : Byte32) {v : Survey} {a : After (List Entry)} → v ≡ surveyOf (Rule.Enter h) s → not (v .good) ≡ false → length hash ≡ 32 → (length tx ≡ 0 → ⊥) → h ≡ byte32At hash 0
+    → a ≡ leaving mapBytes s (fitting (renew (takes (Rule.Enter h)) (pending h tx) (keep (keeps (Rule.Enter h)) (excludedAt s)))) → a ≡ lentMap s (addOn (excludedAt s) hash tx)
 unfolding keeps takes
-add-done s hash tx h ev g er k n z eh e =
-    lent-on s (addOn s (excludedAt s) hash tx) (told-good (Rule.Enter h) s ev g)
+add-done s hash tx h ev g n z eh e =
+    lent-on s (addOn (excludedAt s) hash tx) (told-good (Rule.Enter h) s ev g)
     (e ∙ ap (leaving mapBytes s)
-    (ap (λ (l : List Entry). fitting s (renew (hasHash h) (pending h tx) l)) (keep-all (λ e. true) (λ e. refl) (excludedAt s)) ∙ entering-some s (excludedAt s) h tx z ∙ ap (λ (b : Byte32). entering s (excludedAt s) b tx) eh
-    ∙ enters s hash tx (Rule.Enter h) ev g er k n))
+    (ap (λ (l : List Entry). fitting (renew (hasHash h) (pending h tx) l)) (keep-all (λ e. true) (λ e. refl) (excludedAt s)) ∙ entering-some (excludedAt s) h tx z ∙ ap (λ (b : Byte32). entering (excludedAt s) b tx) eh
+    ∙ enters s hash tx (Rule.Enter h) ev g n))
 
 -- ---- commit, remove, truncate
 
 module _ (s hash : List ℕ) (rule : Rule) {v : Survey} (ev : v ≡ surveyOf rule s) (g : not (v .good) ≡ false) where
-  pub commit-bad : (block : BlockNumber) → (length hash ≡ 32 → ⊥) → told (withBytes excludedAt) (Answer.Refused Refusal.LentBytesUnreadable) s ≡ lentMap s (commitOn s (excludedAt s) hash block)
+  pub commit-bad : (block : BlockNumber) → (length hash ≡ 32 → ⊥) → told (withBytes excludedAt) (Answer.Refused Refusal.LentBytesUnreadable) s ≡ lentMap s (commitOn (excludedAt s) hash block)
   unfolding told leaving commitOn number
-  commit-bad block n = lent-on s (commitOn s (excludedAt s) hash block) (told-good rule s ev g) (rw (ne-eqb (length hash) 32 n))
+  commit-bad block n = lent-on s (commitOn (excludedAt s) hash block) (told-good rule s ev g) (rw (ne-eqb (length hash) 32 n))
 
   pub commit-done : (block : BlockNumber) {h : Byte32} {o : List ℕ} → length hash ≡ 32 → h ≡ byte32At hash 0 → excludedAt o ≡ map (committedAt h block) (excludedAt s) → o ≡ putAt s 0 (mapBytes (map (committedAt h block) (excludedAt s)))
-      → told (withBytes excludedAt) Answer.Done o ≡ lentMap s (commitOn s (excludedAt s) hash block)
+      → told (withBytes excludedAt) Answer.Done o ≡ lentMap s (commitOn (excludedAt s) hash block)
   unfolding told leaving withBytes commitOn
   commit-done block n eh m e =
-      lent-on s (commitOn s (excludedAt s) hash block) (told-good rule s ev g)
+      lent-on s (commitOn (excludedAt s) hash block) (told-good rule s ev g)
       (rw (eq-eqb (length hash) 32 n, ← eh) (ap₂ (λ (l : List Entry) (x : List ℕ). done (l, x)) m e))
 
-  pub remove-bad : (length hash ≡ 32 → ⊥) → told (withBytes excludedAt) (Answer.Refused Refusal.LentBytesUnreadable) s ≡ lentMap s (removeOn s (excludedAt s) hash)
+  pub remove-bad : (length hash ≡ 32 → ⊥) → told (withBytes excludedAt) (Answer.Refused Refusal.LentBytesUnreadable) s ≡ lentMap s (removeOn (excludedAt s) hash)
   unfolding told leaving removeOn number
-  remove-bad n = lent-on s (removeOn s (excludedAt s) hash) (told-good rule s ev g) (rw (ne-eqb (length hash) 32 n))
+  remove-bad n = lent-on s (removeOn (excludedAt s) hash) (told-good rule s ev g) (rw (ne-eqb (length hash) 32 n))
 
 pub remove-done : (s hash : List ℕ) (h : Byte32) {v : Survey} {o : List ℕ} → v ≡ surveyOf (Rule.Remove h) s → not (v .good) ≡ false → AllBytes s → length hash ≡ 32 → h ≡ byte32At hash 0
-    → o ≡ splice s 0 (mapBytes (stay (keeps (Rule.Remove h)) (takes (Rule.Remove h)) false (excludedAt s))) → told (withBytes excludedAt) Answer.Done o ≡ lentMap s (removeOn s (excludedAt s) hash)
+    → o ≡ splice s 0 (mapBytes (stay (keeps (Rule.Remove h)) (takes (Rule.Remove h)) false (excludedAt s))) → told (withBytes excludedAt) Answer.Done o ≡ lentMap s (removeOn (excludedAt s) hash)
 unfolding removeOn
 remove-done s hash h ev g b n eh e =
     let i = told-good (Rule.Remove h) s ev g in
-    lent-on s (removeOn s (excludedAt s) hash) i
+    lent-on s (removeOn (excludedAt s) hash) i
     (kept-left (Rule.Remove h) s i b e ∙ ap (leaving mapBytes s) (sym (rw (eq-eqb (length hash) 32 n, ← eh) (ap done (sym (stay-removed h (excludedAt s)))))))
 
 pub truncate-done : (s : List ℕ) (tip : BlockNumber) {v : Survey} {o : List ℕ} → v ≡ surveyOf (Rule.Truncate tip) s → not (v .good) ≡ false → AllBytes s
-    → o ≡ splice s 0 (mapBytes (stay (keeps (Rule.Truncate tip)) (takes (Rule.Truncate tip)) false (excludedAt s))) → told (withBytes excludedAt) Answer.Done o ≡ lentMap s (truncateOn s (excludedAt s) tip)
+    → o ≡ splice s 0 (mapBytes (stay (keeps (Rule.Truncate tip)) (takes (Rule.Truncate tip)) false (excludedAt s))) → told (withBytes excludedAt) Answer.Done o ≡ lentMap s (truncateOn (excludedAt s) tip)
 unfolding truncateOn
 truncate-done s tip ev g b e =
     let i = told-good (Rule.Truncate tip) s ev g in
-    lent-on s (truncateOn s (excludedAt s) tip) i (kept-left (Rule.Truncate tip) s i b e ∙ ap (λ (l : List Entry). leaving {T = List ℕ} mapBytes s (done l)) (stay-truncated tip (excludedAt s)))
+    lent-on s (truncateOn (excludedAt s) tip) i (kept-left (Rule.Truncate tip) s i b e ∙ ap (λ (l : List Entry). leaving {T = Unit {0}} mapBytes s (done l)) (stay-truncated tip (excludedAt s)))
 
 -- ---- apply
 
@@ -227,71 +228,53 @@ without-none o (x ∷ l) e = by (without-none o l) (hasHash o x) e
     by r false f = ap (λ (k : List Entry). x ∷ k) (r f)
 
 module _ (s old new tx : List ℕ) where
-  abbrev moved : Outcome (List ℕ) (List Entry)
-  moved = migrateOn s (excludedAt s) old new tx
+  abbrev moved : Ruling
+  moved = migrateOn (excludedAt s) old new tx
 
   module _ (rule : Rule) {v : Survey} (ev : v ≡ surveyOf rule s) (g : not (v .good) ≡ false) where
-    pub migrate-bad-tx : {r : Bool} → r ≡ readable (option Transaction) tx → not r ≡ true → told (withBytes excludedAt) (Answer.Refused Refusal.OurTransactionUnreadable) s ≡ lentMap s (migrateOn s (excludedAt s) old new tx)
+    pub migrate-bad-old : (length old ≡ 32 → ⊥) → told (withBytes excludedAt) (Answer.Refused Refusal.LentBytesUnreadable) s ≡ lentMap s (migrateOn (excludedAt s) old new tx)
     unfolding told leaving migrateOn number
-    migrate-bad-tx {r} er h = lent-on s moved (told-good rule s ev g) (rw (← er, not-true r h))
+    migrate-bad-old n = lent-on s moved (told-good rule s ev g) (rw (ne-eqb (length old) 32 n))
 
-    module _ (y : readable (option Transaction) tx ≡ true) where
-      bad-old : (length old ≡ 32 → ⊥) → told (withBytes excludedAt) (Answer.Refused Refusal.LentBytesUnreadable) s ≡ lentMap s (migrateOn s (excludedAt s) old new tx)
-      unfolding told leaving migrateOn number
-      bad-old n = lent-on s moved (told-good rule s ev g) (rw (y, ne-eqb (length old) 32 n))
-
-      bad-new : length old ≡ 32 → (length new ≡ 32 → ⊥) → told (withBytes excludedAt) (Answer.Refused Refusal.LentBytesUnreadable) s ≡ lentMap s (migrateOn s (excludedAt s) old new tx)
-      unfolding told leaving migrateOn number
-      bad-new m n = lent-on s moved (told-good rule s ev g) (rw (y, eq-eqb (length old) 32 m, ne-eqb (length new) 32 n))
-
-    pub migrate-bad-old : {r : Bool} → r ≡ readable (option Transaction) tx → not r ≡ false → (length old ≡ 32 → ⊥) → told (withBytes excludedAt) (Answer.Refused Refusal.LentBytesUnreadable) s ≡ lentMap s (migrateOn s (excludedAt s) old new tx)
-    migrate-bad-old er h = bad-old (read-yes tx er h)
-
-    pub migrate-bad-new : {r : Bool} → r ≡ readable (option Transaction) tx → not r ≡ false → length old ≡ 32 → (length new ≡ 32 → ⊥)
-        → told (withBytes excludedAt) (Answer.Refused Refusal.LentBytesUnreadable) s ≡ lentMap s (migrateOn s (excludedAt s) old new tx)
-    migrate-bad-new er h = bad-new (read-yes tx er h)
-
-    pub none-bad-old : length tx ≡ 0 → (length old ≡ 32 → ⊥) → told (withBytes excludedAt) (Answer.Refused Refusal.LentBytesUnreadable) s ≡ lentMap s (migrateOn s (excludedAt s) old new tx)
-    none-bad-old z = bad-old (read-none tx z)
-
-    pub none-bad-new : length tx ≡ 0 → length old ≡ 32 → (length new ≡ 32 → ⊥) → told (withBytes excludedAt) (Answer.Refused Refusal.LentBytesUnreadable) s ≡ lentMap s (migrateOn s (excludedAt s) old new tx)
-    none-bad-new z = bad-new (read-none tx z)
+    pub migrate-bad-new : length old ≡ 32 → (length new ≡ 32 → ⊥) → told (withBytes excludedAt) (Answer.Refused Refusal.LentBytesUnreadable) s ≡ lentMap s (migrateOn (excludedAt s) old new tx)
+    unfolding told leaving migrateOn number
+    migrate-bad-new m n = lent-on s moved (told-good rule s ev g) (rw (eq-eqb (length old) 32 m, ne-eqb (length new) 32 n))
 
   module _ (m : length old ≡ 32) (n : length new ≡ 32) {o : Byte32} (eo : o ≡ byte32At old 0) where
-    goes : readable (option Transaction) tx ≡ true → cond (entered o (excludedAt s)) (entering s (without o (excludedAt s)) (byte32At new 0) tx) (done (excludedAt s)) ≡ moved
+    goes : cond (entered o (excludedAt s)) (entering (without o (excludedAt s)) (byte32At new 0) tx) (done (excludedAt s)) ≡ moved
     unfolding migrateOn
-    goes y = rw (y, eq-eqb (length old) 32 m, eq-eqb (length new) 32 n, eo)
+    goes = rw (eq-eqb (length old) 32 m, eq-eqb (length new) 32 n, eo)
 
     pub none-done : {v : Survey} {a : List ℕ} → length tx ≡ 0 → v ≡ surveyOf (Rule.Remove o) s → not (v .good) ≡ false → AllBytes s
-        → a ≡ splice s 0 (mapBytes (stay (keeps (Rule.Remove o)) (takes (Rule.Remove o)) false (excludedAt s))) → told (withBytes excludedAt) Answer.Done a ≡ lentMap s (migrateOn s (excludedAt s) old new tx)
+        → a ≡ splice s 0 (mapBytes (stay (keeps (Rule.Remove o)) (takes (Rule.Remove o)) false (excludedAt s))) → told (withBytes excludedAt) Answer.Done a ≡ lentMap s (migrateOn (excludedAt s) old new tx)
     unfolding entering
     none-done z ev g b e =
         let i = told-good (Rule.Remove o) s ev g in
         let L = excludedAt s in
         lent-on s moved i
         (kept-left (Rule.Remove o) s i b e
-        ∙ ap (leaving mapBytes s) (ap done (stay-removed o L) ∙ by (entered o L) refl ∙ goes (read-none tx z)))
+        ∙ ap (leaving mapBytes s) (ap done (stay-removed o L) ∙ by (entered o L) refl ∙ goes))
       where
         by : (t : Bool) → entered o (excludedAt s) ≡ t
-            → _≡_ {A = Outcome (List ℕ) (List Entry)} (done (without o (excludedAt s))) (cond (entered o (excludedAt s)) (entering s (without o (excludedAt s)) (byte32At new 0) tx) (done (excludedAt s)))
+            → _≡_ {A = Ruling} (done (without o (excludedAt s))) (cond (entered o (excludedAt s)) (entering (without o (excludedAt s)) (byte32At new 0) tx) (done (excludedAt s)))
         by true k = rw (k, eq-eqb (length tx) 0 z)
         by false k = rw k (ap done (without-none o (excludedAt s) k))
 
-    module _ (h : Byte32) {v : Survey} (ev : v ≡ surveyOf (Rule.Migrate o h) s) (g : not (v .good) ≡ false) {r : Bool} (er : r ≡ readable (option Transaction) tx) (k : not r ≡ false) where
+    module _ (h : Byte32) {v : Survey} (ev : v ≡ surveyOf (Rule.Migrate o h) s) (g : not (v .good) ≡ false) where
       is-entered : v .lost ≡ entered o (excludedAt s)
       is-entered = told-lost (Rule.Migrate o h) s (told-good (Rule.Migrate o h) s ev g) ev ∙ lost-entered o h (excludedAt s)
 
-      pub migrate-unknown : AllBytes s → not (v .lost) ≡ true → told (withBytes excludedAt) Answer.Done s ≡ lentMap s (migrateOn s (excludedAt s) old new tx)
+      pub migrate-unknown : AllBytes s → not (v .lost) ≡ true → told (withBytes excludedAt) Answer.Done s ≡ lentMap s (migrateOn (excludedAt s) old new tx)
       migrate-unknown b u =
           let i = told-good (Rule.Migrate o h) s ev g in
           let q : entered o (excludedAt s) ≡ false = sym is-entered ∙ not-true (v .lost) u in
-          lent-on s moved i (same-left s i b ∙ ap (leaving mapBytes s) (rw q at (goes (read-yes tx er k))))
+          lent-on s moved i (same-left s i b ∙ ap (leaving mapBytes s) (rw q at goes))
 
       pub migrate-done : {a : After (List Entry)} → not (v .lost) ≡ false → (length tx ≡ 0 → ⊥) → h ≡ byte32At new 0
-          → a ≡ leaving mapBytes s (fitting s (renew (takes (Rule.Migrate o h)) (pending h tx) (keep (keeps (Rule.Migrate o h)) (excludedAt s)))) → a ≡ lentMap s (migrateOn s (excludedAt s) old new tx)
+          → a ≡ leaving mapBytes s (fitting (renew (takes (Rule.Migrate o h)) (pending h tx) (keep (keeps (Rule.Migrate o h)) (excludedAt s)))) → a ≡ lentMap s (migrateOn (excludedAt s) old new tx)
       unfolding keeps takes without
       migrate-done u z eh e =
           let i = told-good (Rule.Migrate o h) s ev g in
           let q : entered o (excludedAt s) ≡ true = sym is-entered ∙ not-false (v .lost) u in
           lent-on s moved i
-          (e ∙ ap (leaving mapBytes s) (entering-some s (without o (excludedAt s)) h tx z ∙ ap (λ (b : Byte32). entering s (without o (excludedAt s)) b tx) eh ∙ (rw q at (goes (read-yes tx er k)))))
+          (e ∙ ap (leaving mapBytes s) (entering-some (without o (excludedAt s)) h tx z ∙ ap (λ (b : Byte32). entering (without o (excludedAt s)) b tx) eh ∙ (rw q at goes)))

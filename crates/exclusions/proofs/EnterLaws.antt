@@ -126,11 +126,11 @@ module _ (rule : Rule) (s : List ℕ) (hash : Byte32) (tx : List ℕ) {v : Surve
       let y : v .points ≡ length (excluded A) + length (excluded B) = told-points rule s g ev ∙ ap (λ (l : List Entry). length (excluded l)) split ∙ ap length (excluded-join A B) ∙ length-append (excluded A) (excluded B) in
       ap (λ (l : List Entry). length (excluded l)) after-is ∙ z ∙ omega (arith, pending-count hash tx en)
 
-  pub enter-many : 64 ≤ v .stays → told (withBytes excludedAt) (Answer.Refused Refusal.TooManyExclusions) s ≡ leaving mapBytes s (fitting s after)
+  pub enter-many : 64 ≤ v .stays → told (withBytes excludedAt) (Answer.Refused Refusal.TooManyExclusions) s ≡ leaving mapBytes s (fitting after)
   unfolding told number leaving fitting
   enter-many h = rw (lt-leb (length after) 64 (omega (arith, after-count)))
 
-  pub enter-full : v .stays < 64 → 512 < v .points + n → told (withBytes excludedAt) (Answer.Refused Refusal.TooManyExclusions) s ≡ leaving mapBytes s (fitting s after)
+  pub enter-full : v .stays < 64 → 512 < v .points + n → told (withBytes excludedAt) (Answer.Refused Refusal.TooManyExclusions) s ≡ leaving mapBytes s (fitting after)
   unfolding told number leaving fitting
   enter-full h k = rw (le-leb (length after) 64 (omega (arith, after-count)), lt-leb (length (excluded after)) 512 (omega (arith, after-points)))
 
@@ -138,7 +138,7 @@ module _ (rule : Rule) (s : List ℕ) (hash : Byte32) (tx : List ℕ) {v : Surve
     put : o ≡ putAt s 0 (mapBytes after)
     put = eo ∙ sym (put-yes s 0 (mapBytes after) (omega (arith, map-size after, after-count, after-points, map-long s g)))
 
-    pub enter-done : AllBytes s → AllBytes tx → hash .a < 2 ^ 64 → hash .b < 2 ^ 64 → hash .c < 2 ^ 64 → hash .d < 2 ^ 64 → told (withBytes excludedAt) Answer.Done o ≡ leaving mapBytes s (fitting s after)
+    pub enter-done : AllBytes s → AllBytes tx → hash .a < 2 ^ 64 → hash .b < 2 ^ 64 → hash .c < 2 ^ 64 → hash .d < 2 ^ 64 → told (withBytes excludedAt) Answer.Done o ≡ leaving mapBytes s (fitting after)
     unfolding told leaving fitting withBytes
     enter-done b bt fa fb fc fd =
         let fits : All FitEntry (A ++ B) = rw split at (stay-all (keeps rule) (takes rule) FitEntry false (excludedAt s) (map-fits s b)) in

@@ -1,15 +1,21 @@
--- The calls on a lent exclusion map. Bytes that are no table are refused with 3 before all else; of the others each call has its rule
--- (crates/exclusion_entries/specs/Exclusions.antt) over the entries that they hold.
+-- The calls on a lent exclusion map: "our transaction unreadable is 1, then a script or lent list 3", where the map is the first of the lent lists. Of bytes that
+-- are a map each call has its rule (crates/exclusion_entries/specs/Exclusions.antt) over the entries that they hold.
 use Prim.Native.Nat.{ℕ}
 use mathlib.Core.List.{List}
-use Rattle.out_points.specs.Tables.{Outcome, done, refused, check}
+use Rattle.molecule.specs.Molecule.{readable, option}
+use Rattle.transaction.specs.Ckb.{Transaction}
+use Rattle.out_points.specs.Tables.{done, refused, check}
 use Rattle.table_bytes.specs.Lent.{After, leaving}
-use Rattle.exclusion_entries.specs.Exclusions.{Entry}
+use Rattle.exclusion_entries.specs.Exclusions.{Entry, Ruling}
 use Rattle.exclusion_entries.specs.Entries.{mapBytes, isMap}
 
 -- what a call leaves of the bytes s
-unfoldable pub lentMap : {T : Type 0} → List ℕ → Outcome T (List Entry) → After (List Entry)
+unfoldable pub lentMap : List ℕ → Ruling → After (List Entry)
 lentMap s o = check (isMap s) (refused 3 s) (leaving mapBytes s o)
+
+-- the same of a call that is lent a transaction too, or none: empty bytes
+unfoldable pub lentTx : List ℕ → List ℕ → Ruling → After (List Entry)
+lentTx tx s o = check (readable (option Transaction) tx) (refused 1 s) (lentMap s o)
 
 -- the bytes after it
 abbrev pub left : After (List Entry) → List ℕ

@@ -1,5 +1,5 @@
 // LiveCellsExclusionMap: the cells that funding transactions spend, kept out of later picks. The map is bytes that the caller keeps and lends to each call, which works on them in
-// place. Bytes that are no map are refused before all else, and a refusal leaves the map's bytes and the buffer as they were.
+// place. A transaction that can't be read is refused first, then bytes that are no map; a refusal leaves the map's bytes and the buffer as they were.
 use error::Answer;
 use error::Refusal;
 use exclusion_entries::Rule;
@@ -21,7 +21,7 @@ ghost use Rattle.exclusion_entries.specs.Exclusions.{commitOn, removeOn, trunca
 ghost use Rattle.table_bytes.specs.Lent.{leaving, withBytes};
 ghost use Rattle.exclusion_entries.specs.Entries.{mapBytes, excludedAt, isMap};
 ghost use Rattle.exclusion_entries.specs.Survey.{keeps, takes, surveyOf};
-ghost use Rattle.exclusions.specs.LentMap.{lentMap, lentList};
+ghost use Rattle.exclusions.specs.LentMap.{lentMap, lentTx, lentList};
 
 mod changes;
 mod moves;
@@ -38,7 +38,7 @@ fn enter(map: &mut [u8], rule: Rule, v: Survey, hash: Byte32, tx: &[u8]) -> Answ
     requires { ⌜ v .points ≤ 512 ⌝ }
     requires { ⌜ readable (option Transaction) (now tx) ≡ true ⌝ }
     requires { ⌜ (length (now tx) ≡ 0 → ⊥) ⌝ }
-    ensures { λ r. ⌜ told (withBytes excludedAt) r (now (map .exit)) ≡ leaving mapBytes (now (map .entry)) (fitting (now (map .entry)) (renew (takes rule) (pending hash (now (tx .entry))) (keep (keeps rule) (excludedAt (now (map .entry)))))) ⌝ }
+    ensures { λ r. ⌜ told (withBytes excludedAt) r (now (map .exit)) ≡ leaving mapBytes (now (map .entry)) (fitting (renew (takes rule) (pending hash (now (tx .entry))) (keep (keeps rule) (excludedAt (now (map .entry)))))) ⌝ }
 {
     let n = fields::input_count(tx);
     if MOST_ENTRIES <= v.stays {
@@ -52,18 +52,16 @@ fn enter(map: &mut [u8], rule: Rule, v: Survey, hash: Byte32, tx: &[u8]) -> Answ
     Answer::Done
 }
 
-// Enters a transaction, uncommitted, under its hash; empty bytes are none.
-pub fn add(map: &mut [u8], hash: &[u8], tx: &[u8]) -> Answer
-    ensures { λ r. ⌜ told (withBytes excludedAt) r (now (map .exit)) ≡ lentMap (now (map .entry)) (addOn (now (map .entry)) (excludedAt (now (map .entry))) (now (hash .entry)) (now (tx .entry))) ⌝ }
+// A transaction that can be read is entered.
+fn add_readable(map: &mut [u8], hash: &[u8], tx: &[u8]) -> Answer
+    requires { ⌜ readable (option Transaction) (now tx) ≡ true ⌝ }
+    ensures { λ r. ⌜ told (withBytes excludedAt) r (now (map .exit)) ≡ lentMap (now (map .entry)) (addOn (excludedAt (now (map .entry))) (now (hash .entry)) (now (tx .entry))) ⌝ }
 {
     let h = out_points::byte32_at(hash, 0);
     let rule = Rule::Enter(h);
     let v = exclusion_entries::read_map(map, rule);
     if !v.good {
         return Answer::Refused(Refusal::LentBytesUnreadable);
-    }
-    if !transaction::is_optional_transaction(tx) {
-        return Answer::Refused(Refusal::OurTransactionUnreadable);
     }
     if hash.len() != 32 {
         return Answer::Refused(Refusal::LentBytesUnreadable);
@@ -75,9 +73,19 @@ pub fn add(map: &mut [u8], hash: &[u8], tx: &[u8]) -> Answer
     enter(map, rule, v, h, tx)
 }
 
+// Enters a transaction, uncommitted, under its hash; empty bytes are none.
+pub fn add(map: &mut [u8], hash: &[u8], tx: &[u8]) -> Answer
+    ensures { λ r. ⌜ told (withBytes excludedAt) r (now (map .exit)) ≡ lentTx (now (tx .entry)) (now (map .entry)) (addOn (excludedAt (now (map .entry))) (now (hash .entry)) (now (tx .entry))) ⌝ }
+{
+    if !transaction::is_optional_transaction(tx) {
+        return Answer::Refused(Refusal::OurTransactionUnreadable);
+    }
+    add_readable(map, hash, tx)
+}
+
 // The transaction with this hash is committed in this block.
 pub fn commit(map: &mut [u8], hash: &[u8], block: BlockNumber) -> Answer
-    ensures { λ r. ⌜ told (withBytes excludedAt) r (now (map .exit)) ≡ lentMap (now (map .entry)) (commitOn (now (map .entry)) (excludedAt (now (map .entry))) (now (hash .entry)) block) ⌝ }
+    ensures { λ r. ⌜ told (withBytes excludedAt) r (now (map .exit)) ≡ lentMap (now (map .entry)) (commitOn (excludedAt (now (map .entry))) (now (hash .entry)) block) ⌝ }
 {
     let v = exclusion_entries::read_map(map, Rule::All);
     if !v.good {
@@ -94,7 +102,7 @@ pub fn commit(map: &mut [u8], hash: &[u8], block: BlockNumber) -> Answer
 
 // The table without the transaction of this hash.
 pub fn remove(map: &mut [u8], hash: &[u8]) -> Answer
-    ensures { λ r. ⌜ told (withBytes excludedAt) r (now (map .exit)) ≡ lentMap (now (map .entry)) (removeOn (now (map .entry)) (excludedAt (now (map .entry))) (now (hash .entry))) ⌝ }
+    ensures { λ r. ⌜ told (withBytes excludedAt) r (now (map .exit)) ≡ lentMap (now (map .entry)) (removeOn (excludedAt (now (map .entry))) (now (hash .entry))) ⌝ }
 {
     let h = out_points::byte32_at(hash, 0);
     let rule = Rule::Remove(h);
@@ -112,7 +120,7 @@ pub fn remove(map: &mut [u8], hash: &[u8]) -> Answer
 
 // Drops what was committed 13 blocks before the tip, or earlier.
 pub fn truncate(map: &mut [u8], tip: BlockNumber) -> Answer
-    ensures { λ r. ⌜ told (withBytes excludedAt) r (now (map .exit)) ≡ lentMap (now (map .entry)) (truncateOn (now (map .entry)) (excludedAt (now (map .entry))) tip) ⌝ }
+    ensures { λ r. ⌜ told (withBytes excludedAt) r (now (map .exit)) ≡ lentMap (now (map .entry)) (truncateOn (excludedAt (now (map .entry))) tip) ⌝ }
 {
     let rule = Rule::Truncate(tip);
     let v = exclusion_entries::read_map(map, rule);
@@ -127,7 +135,7 @@ pub fn truncate(map: &mut [u8], tip: BlockNumber) -> Answer
 // A transaction that is replaced by none.
 fn migrate_to_none(map: &mut [u8], old: &[u8], new: &[u8], tx: &[u8]) -> Answer
     requires { ⌜ length (now tx) ≡ 0 ⌝ }
-    ensures { λ r. ⌜ told (withBytes excludedAt) r (now (map .exit)) ≡ lentMap (now (map .entry)) (migrateOn (now (map .entry)) (excludedAt (now (map .entry))) (now (old .entry)) (now (new .entry)) (now (tx .entry))) ⌝ }
+    ensures { λ r. ⌜ told (withBytes excludedAt) r (now (map .exit)) ≡ lentMap (now (map .entry)) (migrateOn (excludedAt (now (map .entry))) (now (old .entry)) (now (new .entry)) (now (tx .entry))) ⌝ }
 {
     let o = out_points::byte32_at(old, 0);
     let rule = Rule::Remove(o);
@@ -148,8 +156,9 @@ fn migrate_to_none(map: &mut [u8], old: &[u8], new: &[u8], tx: &[u8]) -> Answer
 
 // A transaction that is replaced by another.
 fn migrate_to(map: &mut [u8], old: &[u8], new: &[u8], tx: &[u8]) -> Answer
+    requires { ⌜ readable (option Transaction) (now tx) ≡ true ⌝ }
     requires { ⌜ (length (now tx) ≡ 0 → ⊥) ⌝ }
-    ensures { λ r. ⌜ told (withBytes excludedAt) r (now (map .exit)) ≡ lentMap (now (map .entry)) (migrateOn (now (map .entry)) (excludedAt (now (map .entry))) (now (old .entry)) (now (new .entry)) (now (tx .entry))) ⌝ }
+    ensures { λ r. ⌜ told (withBytes excludedAt) r (now (map .exit)) ≡ lentMap (now (map .entry)) (migrateOn (excludedAt (now (map .entry))) (now (old .entry)) (now (new .entry)) (now (tx .entry))) ⌝ }
 {
     let o = out_points::byte32_at(old, 0);
     let h = out_points::byte32_at(new, 0);
@@ -157,9 +166,6 @@ fn migrate_to(map: &mut [u8], old: &[u8], new: &[u8], tx: &[u8]) -> Answer
     let v = exclusion_entries::read_map(map, rule);
     if !v.good {
         return Answer::Refused(Refusal::LentBytesUnreadable);
-    }
-    if !transaction::is_optional_transaction(tx) {
-        return Answer::Refused(Refusal::OurTransactionUnreadable);
     }
     if old.len() != 32 {
         return Answer::Refused(Refusal::LentBytesUnreadable);
@@ -176,8 +182,11 @@ fn migrate_to(map: &mut [u8], old: &[u8], new: &[u8], tx: &[u8]) -> Answer
 
 // Moves an entry to the transaction that replaces it.
 pub fn migrate_funding_tx(map: &mut [u8], old: &[u8], new: &[u8], tx: &[u8]) -> Answer
-    ensures { λ r. ⌜ told (withBytes excludedAt) r (now (map .exit)) ≡ lentMap (now (map .entry)) (migrateOn (now (map .entry)) (excludedAt (now (map .entry))) (now (old .entry)) (now (new .entry)) (now (tx .entry))) ⌝ }
+    ensures { λ r. ⌜ told (withBytes excludedAt) r (now (map .exit)) ≡ lentTx (now (tx .entry)) (now (map .entry)) (migrateOn (excludedAt (now (map .entry))) (now (old .entry)) (now (new .entry)) (now (tx .entry))) ⌝ }
 {
+    if !transaction::is_optional_transaction(tx) {
+        return Answer::Refused(Refusal::OurTransactionUnreadable);
+    }
     if tx.len() == 0 {
         return migrate_to_none(map, old, new, tx);
     }

@@ -23,13 +23,15 @@ known-no-map = refl and refl and refl and refl and refl and refl and refl and re
 pub known-unread : AllRight unread
 unfolding computing
 known-unread =
-    add-on zeros-hold [] (0 ∷ [])
-    and add-on zeros-hold (replicate 31 0) (spends 2)
+    refl
+    and refl
+    and add-on zeros-hold (replicate 31 0) (spends 2) refl
     and commit-on zeros-hold (replicate 33 0) 100
     and remove-on zeros-hold []
-    and migrate-on zeros-hold [] [] (0 ∷ [])
-    and migrate-on zeros-hold (replicate 31 0) (hash 8) (spends 2)
-    and migrate-on zeros-hold (hash 7) (replicate 33 0) (spends 2)
+    and refl
+    and refl
+    and migrate-on zeros-hold (replicate 31 0) (hash 8) (spends 2) refl
+    and migrate-on zeros-hold (hash 7) (replicate 33 0) (spends 2) refl
     and done
 
 -- ---- maps with entries
@@ -59,15 +61,15 @@ wide-two =
 pub known-full : AllRight full
 unfolding computing
 known-full =
-    add-on full-63 (hash 63) []
-    and add-on full-63 (hash 63) (spends 0)
-    and add-on full-64 (hash 64) (spends 0)
-    and add-on full-64 (hash 63) (spends 0)
-    and add-on wide-511 (hash 2) (spends 1)
-    and add-on wide-512 (hash 2) (spends 1)
-    and add-on wide-512 (hash 1) (spends 1)
-    and migrate-on wide-512 (hash 1) (hash 2) (spends 1)
-    and migrate-on wide-two (hash 3) (hash 2) (spends 1)
+    add-on full-63 (hash 63) [] refl
+    and add-on full-63 (hash 63) (spends 0) refl
+    and add-on full-64 (hash 64) (spends 0) refl
+    and add-on full-64 (hash 63) (spends 0) refl
+    and add-on wide-511 (hash 2) (spends 1) refl
+    and add-on wide-512 (hash 2) (spends 1) refl
+    and add-on wide-512 (hash 1) (spends 1) refl
+    and migrate-on wide-512 (hash 1) (hash 2) (spends 1) refl
+    and migrate-on wide-two (hash 3) (hash 2) (spends 1) refl
     and done
 
 two-hold : Holds (lent two) two
@@ -81,18 +83,18 @@ last-holds = lent-holds (committedOf 7 (2 ^ 64 - 1) 2 ∷ []) (leb-true _ _ refl
 pub known-works : AllRight works
 unfolding computing
 known-works =
-    add-on two-hold (hash 7) (spends 1)
-    and add-on two-hold (hash 6) (spends 0)
+    add-on two-hold (hash 7) (spends 1) refl
+    and add-on two-hold (hash 6) (spends 0) refl
     and commit-on two-hold (hash 5) 9
     and commit-on two-hold (hash 6) 9
     and remove-on two-hold (hash 7)
     and remove-on two-hold (hash 6)
     and truncate-on last-holds (2 ^ 64 - 1)
     and truncate-on two-hold 14
-    and migrate-on two-hold (hash 7) (hash 7) (spends 1)
-    and migrate-on two-hold (hash 7) (hash 5) (spends 2)
-    and migrate-on two-hold (hash 7) (hash 6) []
-    and migrate-on two-hold (hash 6) (hash 8) (spends 1)
+    and migrate-on two-hold (hash 7) (hash 7) (spends 1) refl
+    and migrate-on two-hold (hash 7) (hash 5) (spends 2) refl
+    and migrate-on two-hold (hash 7) (hash 6) [] refl
+    and migrate-on two-hold (hash 6) (hash 8) (spends 1) refl
     and done
 
 pub known-lists : AllRight lists
@@ -103,7 +105,7 @@ known-lists = refl and apply-on two-hold (room 2) and apply-on two-hold (room 4)
 
 added7 : Holds (left (add zeros (hash 7) (spends 2))) pending7
 unfolding computing
-added7 = left-holds zeros-hold pending7 (add-on zeros-hold (hash 7) (spends 2)) (leb-true _ _ refl) (leb-true _ _ refl) (pending-fits 7 2 (omega arith) (omega arith), tt)
+added7 = left-holds zeros-hold pending7 (add-on zeros-hold (hash 7) (spends 2) refl) (leb-true _ _ refl) (leb-true _ _ refl) (pending-fits 7 2 (omega arith) (omega arith), tt)
 
 fits7 : FitEntry (committedOf 7 100 2)
 fits7 = committed-fits 7 100 2 (omega arith) (omega arith) (omega arith)
@@ -115,7 +117,7 @@ committed-holds : Holds at100 committed7
 unfolding computing
 committed-holds = left-holds added7 committed7 (commit-on added7 (hash 7) 100) (leb-true _ _ refl) (leb-true _ _ refl) (fits7, tt)
 
-kept : (tip : ℕ) → truncateOn at100 committed7 (record { 0 = tip }) ≡ table.done committed7 → excludedBy tip ≡ 0 ∷ 0 ∷ 1 ∷ []
+kept : (tip : ℕ) → truncateOn committed7 (record { 0 = tip }) ≡ table.done committed7 → excludedBy tip ≡ 0 ∷ 0 ∷ 1 ∷ []
 unfolding computing
 kept tip e = ap listed (apply-on (left-holds committed-holds committed7 (truncate-on committed-holds tip ∙ ap (leaving mapBytes at100) e) (leb-true _ _ refl) (leb-true _ _ refl) (fits7, tt)) (room 2))
 

@@ -8,17 +8,18 @@ use native.Mathlib.Omega.{arith}
 use lib.ListN.{length}
 use Rattle.units.specs.declared.{BlockNumber.BlockNumber}
 use Rattle.molecule.specs.Layout.{span}
+use Rattle.molecule.specs.Molecule.{readable, option}
 use Rattle.molecule.specs.Partial.{All}
 use Rattle.molecule.specs.Write.{putAt}
 use Rattle.molecule.proofs.Offsets.{span-length}
 use Rattle.molecule.proofs.WriteLaws.{put-yes}
+use Rattle.transaction.specs.Ckb.{Transaction}
 use Rattle.out_points.specs.OutPoints.{Fit}
-use Rattle.out_points.specs.Tables.{Outcome}
 use Rattle.table_bytes.specs.Lent.{After, leaving}
-use Rattle.exclusion_entries.specs.Exclusions.{Entry, commitOn, removeOn, truncateOn, excluded, applyOn, addOn, migrateOn}
+use Rattle.exclusion_entries.specs.Exclusions.{Entry, Ruling, commitOn, removeOn, truncateOn, excluded, applyOn, addOn, migrateOn}
 use Rattle.exclusion_entries.specs.Entries.{blockOf, mapBytes, FitEntry, excludedAt, isMap}
 use Rattle.exclusion_entries.proofs.MapLaws.{map-long, map-size, map-zeros, zeros-are, put-is, splice-back}
-use Rattle.exclusions.specs.LentMap.{lentMap, left, lentList}
+use Rattle.exclusions.specs.LentMap.{lentMap, lentTx, left, lentList}
 use Rattle.known_tables.specs.Exclusions.{add, commit, remove, truncate, migrate, apply, leaves, zeros, lent, point, entry, pendingOf, committedOf}
 
 pub record Holds (s : List ℕ) (l : List Entry) : Type 0 where
@@ -26,24 +27,29 @@ pub record Holds (s : List ℕ) (l : List Entry) : Type 0 where
   pub means : excludedAt s ≡ l
 
 module _ {s : List ℕ} {l : List Entry} (h : Holds s l) where
-  on : (o : List Entry → Outcome (List ℕ) (List Entry)) → lentMap s (o (excludedAt s)) ≡ leaving mapBytes s (o l)
+  on : (o : List Entry → Ruling) → lentMap s (o (excludedAt s)) ≡ leaving mapBytes s (o l)
   unfolding lentMap
   on o = rw (h .form, h .means)
 
-  pub add-on : (hash tx : List ℕ) → add s hash tx ≡ leaving mapBytes s (addOn s l hash tx)
-  add-on hash tx = on (λ (k : List Entry). addOn s k hash tx)
+  -- with a transaction that can be read
+  on-tx : (o : List Entry → Ruling) (tx : List ℕ) → readable (option Transaction) tx ≡ true → lentTx tx s (o (excludedAt s)) ≡ leaving mapBytes s (o l)
+  unfolding lentTx
+  on-tx o tx y = rw y (on o)
 
-  pub commit-on : (hash : List ℕ) (block : ℕ) → commit s hash block ≡ leaving mapBytes s (commitOn s l hash (record { 0 = block }))
-  commit-on hash block = on (λ (k : List Entry). commitOn s k hash (record { 0 = block }))
+  pub add-on : (hash tx : List ℕ) → readable (option Transaction) tx ≡ true → add s hash tx ≡ leaving mapBytes s (addOn l hash tx)
+  add-on hash tx = on-tx (λ (k : List Entry). addOn k hash tx) tx
 
-  pub remove-on : (hash : List ℕ) → remove s hash ≡ leaving mapBytes s (removeOn s l hash)
-  remove-on hash = on (λ (k : List Entry). removeOn s k hash)
+  pub commit-on : (hash : List ℕ) (block : ℕ) → commit s hash block ≡ leaving mapBytes s (commitOn l hash (record { 0 = block }))
+  commit-on hash block = on (λ (k : List Entry). commitOn k hash (record { 0 = block }))
 
-  pub truncate-on : (tip : ℕ) → truncate s tip ≡ leaving mapBytes s (truncateOn s l (record { 0 = tip }))
-  truncate-on tip = on (λ (k : List Entry). truncateOn s k (record { 0 = tip }))
+  pub remove-on : (hash : List ℕ) → remove s hash ≡ leaving mapBytes s (removeOn l hash)
+  remove-on hash = on (λ (k : List Entry). removeOn k hash)
 
-  pub migrate-on : (old new tx : List ℕ) → migrate s old new tx ≡ leaving mapBytes s (migrateOn s l old new tx)
-  migrate-on old new tx = on (λ (k : List Entry). migrateOn s k old new tx)
+  pub truncate-on : (tip : ℕ) → truncate s tip ≡ leaving mapBytes s (truncateOn l (record { 0 = tip }))
+  truncate-on tip = on (λ (k : List Entry). truncateOn k (record { 0 = tip }))
+
+  pub migrate-on : (old new tx : List ℕ) → readable (option Transaction) tx ≡ true → migrate s old new tx ≡ leaving mapBytes s (migrateOn l old new tx)
+  migrate-on old new tx = on-tx (λ (k : List Entry). migrateOn k old new tx) tx
 
   pub apply-on : (out : List ℕ) → apply s out ≡ applyOn l out
   unfolding lentList

@@ -14,26 +14,26 @@ use Rattle.out_points.specs.Tables.{done, refused}
 use Rattle.table_bytes.specs.Lent.{After}
 use Rattle.exclusion_entries.specs.Exclusions.{Entry, commitOn, removeOn, truncateOn, applyOn, addOn, migrateOn}
 use Rattle.exclusion_entries.specs.Entries.{mapBytes, excludedAt}
-use Rattle.exclusions.specs.LentMap.{lentMap, left, lentList}
+use Rattle.exclusions.specs.LentMap.{lentMap, lentTx, left, lentList}
 use Rattle.known_cases.specs.Rows.{Row, _gives_}
 use Rattle.known_cases.specs.Cases.{inputs, spending}
 
 -- ---- the calls on bytes s
 
 abbrev pub add : List ℕ → List ℕ → List ℕ → After (List Entry)
-add s hash tx = lentMap s (addOn s (excludedAt s) hash tx)
+add s hash tx = lentTx tx s (addOn (excludedAt s) hash tx)
 
 abbrev pub commit : List ℕ → List ℕ → ℕ → After (List Entry)
-commit s hash block = lentMap s (commitOn s (excludedAt s) hash (record { 0 = block }))
+commit s hash block = lentMap s (commitOn (excludedAt s) hash (record { 0 = block }))
 
 abbrev pub remove : List ℕ → List ℕ → After (List Entry)
-remove s hash = lentMap s (removeOn s (excludedAt s) hash)
+remove s hash = lentMap s (removeOn (excludedAt s) hash)
 
 abbrev pub truncate : List ℕ → ℕ → After (List Entry)
-truncate s tip = lentMap s (truncateOn s (excludedAt s) (record { 0 = tip }))
+truncate s tip = lentMap s (truncateOn (excludedAt s) (record { 0 = tip }))
 
 abbrev pub migrate : List ℕ → List ℕ → List ℕ → List ℕ → After (List Entry)
-migrate s old new tx = lentMap s (migrateOn s (excludedAt s) old new tx)
+migrate s old new tx = lentTx tx s (migrateOn (excludedAt s) old new tx)
 
 abbrev pub apply : List ℕ → List ℕ → ℕ × List ℕ
 apply s out = lentList s out (applyOn (excludedAt s) out)
@@ -122,10 +122,10 @@ excludedBy tip = listed (apply (left (truncate (left (commit (left (add zeros (h
 
 -- ---- the others
 
--- bytes that are no map: 3 before all else, and they stay
+-- bytes that are no map: 3, and they stay
 abbrev pub noMap : List (Row (After (List Entry)))
 noMap =
-    (add shorter (hash 7) unreadable gives refused 3 shorter)
+    (add shorter [] (spends 2) gives refused 3 shorter)
     ∷ (add over64 (hash 7) (spends 2) gives refused 3 over64)
     ∷ (add over512 (hash 7) (spends 2) gives refused 3 over512)
     ∷ (add ofKind2 (hash 7) (spends 2) gives refused 3 ofKind2)
@@ -133,16 +133,18 @@ noMap =
     ∷ (commit [] (hash 7) 100 gives refused 3 [])
     ∷ (remove [] (hash 7) gives refused 3 [])
     ∷ (truncate [] 100 gives refused 3 [])
-    ∷ (migrate [] (hash 7) (hash 8) unreadable gives refused 3 [])
+    ∷ (migrate [] (hash 7) (hash 8) (spends 2) gives refused 3 [])
     ∷ []
 
--- a transaction that is none, and then a hash of another length
+-- a transaction that can't be read: 1 before all else; and of a map a hash of another length
 abbrev pub unread : List (Row (After (List Entry)))
 unread =
-    (add zeros [] unreadable gives refused 1 zeros)
+    (add [] [] unreadable gives refused 1 [])
+    ∷ (add zeros [] unreadable gives refused 1 zeros)
     ∷ (add zeros (replicate 31 0) (spends 2) gives refused 3 zeros)
     ∷ (commit zeros (replicate 33 0) 100 gives refused 3 zeros)
     ∷ (remove zeros [] gives refused 3 zeros)
+    ∷ (migrate [] [] [] unreadable gives refused 1 [])
     ∷ (migrate zeros [] [] unreadable gives refused 1 zeros)
     ∷ (migrate zeros (replicate 31 0) (hash 8) (spends 2) gives refused 3 zeros)
     ∷ (migrate zeros (hash 7) (replicate 33 0) (spends 2) gives refused 3 zeros)

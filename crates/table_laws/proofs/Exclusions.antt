@@ -16,28 +16,39 @@ use Rattle.out_points.specs.declared.{Byte32.Byte32, OutPoint.OutPoint}
 use Rattle.out_points.specs.OutPoints.{Fit, byte32At, eqPoint, has, points}
 use Rattle.error.specs.declared.{Refusal.Refusal, Answer.Answer}
 use Rattle.error.specs.Refusal.{number, answered}
-use Rattle.out_points.specs.Tables.{keep, renew, Outcome, done, refused, told, hasRoom, written}
+use Rattle.out_points.specs.Tables.{keep, renew, done, refused, told, hasRoom, written}
 use Rattle.out_points.proofs.AgainLaws.{written-back}
 use Rattle.table_bytes.specs.Lent.{After, leaving, withBytes}
-use Rattle.exclusion_entries.specs.Exclusions.{Entry, hasHash, committedAt, commitOn, without, removeOn, isRecent, truncated, truncateOn, excluded, applyOn, pending, fitting, entering, addOn, entered, migrateOn}
+use Rattle.exclusion_entries.specs.Exclusions.{Entry, Ruling, hasHash, committedAt, commitOn, without, removeOn, isRecent, truncated, truncateOn, excluded, applyOn, pending, fitting, entering, addOn, entered, migrateOn}
 use Rattle.exclusion_entries.specs.Entries.{mapBytes, FitEntry, excludedAt, isMap}
 use Rattle.exclusion_entries.proofs.MapLaws.{map-few, map-count, map-points, map-fits, put-is, zeros-are}
-use Rattle.exclusions.specs.LentMap.{lentMap, left, lentList}
+use Rattle.exclusions.specs.LentMap.{lentMap, lentTx, left, lentList}
 use Rattle.table_laws.specs.Exclusions as run
 use Rattle.table_laws.specs.Exclusions.{Called, answerOf, StaysMap, StaysWithin, ZerosWithin, RefusedSame, OthersSame, Stands, here, there, outlives, StaysEntered, StaysExcluded, AddEnters, CommitMarks}
 
 -- ---- what a call's contract says of the bytes that it leaves, and of their entries
 
 -- the rule of the call, on the entries of s
-abbrev pub outcomeOf : {s t : List ℕ} → Called s t → Outcome (List ℕ) (List Entry)
-outcomeOf {s} (run.add r hash tx e) = addOn s (excludedAt s) hash tx
-outcomeOf {s} (run.commit r hash block e) = commitOn s (excludedAt s) hash block
-outcomeOf {s} (run.remove r hash e) = removeOn s (excludedAt s) hash
-outcomeOf {s} (run.truncate r tip e) = truncateOn s (excludedAt s) tip
-outcomeOf {s} (run.migrate r old new tx e) = migrateOn s (excludedAt s) old new tx
+abbrev pub outcomeOf : {s t : List ℕ} → Called s t → Ruling
+outcomeOf {s} (run.add r hash tx e) = addOn (excludedAt s) hash tx
+outcomeOf {s} (run.commit r hash block e) = commitOn (excludedAt s) hash block
+outcomeOf {s} (run.remove r hash e) = removeOn (excludedAt s) hash
+outcomeOf {s} (run.truncate r tip e) = truncateOn (excludedAt s) tip
+outcomeOf {s} (run.migrate r old new tx e) = migrateOn (excludedAt s) old new tx
 
-says : {s t : List ℕ} (c : Called s t) → told (withBytes excludedAt) (answerOf c) t ≡ lentMap s (outcomeOf c)
-unfolding answerOf
+-- the transaction that it was lent, if any, can be read
+abbrev reads : {s t : List ℕ} → Called s t → Bool
+reads (run.add r hash tx e) = readable (option Transaction) tx
+reads (run.commit r hash block e) = true
+reads (run.remove r hash e) = true
+reads (run.truncate r tip e) = true
+reads (run.migrate r old new tx e) = readable (option Transaction) tx
+
+abbrev ruled : Bool → List ℕ → Ruling → After (List Entry)
+ruled b s o = cond b (lentMap s o) (refused 1 s)
+
+says : {s t : List ℕ} (c : Called s t) → told (withBytes excludedAt) (answerOf c) t ≡ ruled (reads c) s (outcomeOf c)
+unfolding answerOf lentTx
 says (run.add r hash tx e) = e
 says (run.commit r hash block e) = e
 says (run.remove r hash e) = e
@@ -54,7 +65,7 @@ leftOr s (done p) = s
 leftOr s (refused n x) = x
 
 module _ {s t : List ℕ} (c : Called s t) where
-  bytes-left : t ≡ left (lentMap s (outcomeOf c))
+  bytes-left : t ≡ left (ruled (reads c) s (outcomeOf c))
   unfolding told withBytes
   bytes-left = by (answerOf c) ∙ ap left (says c)
     where
@@ -62,7 +73,7 @@ module _ {s t : List ℕ} (c : Called s t) where
       by Answer.Done = refl
       by (Answer.Refused why) = refl
 
-  entries-left : excludedAt t ≡ meant (lentMap s (outcomeOf c))
+  entries-left : excludedAt t ≡ meant (ruled (reads c) s (outcomeOf c))
   unfolding told withBytes
   entries-left = by (answerOf c) ∙ ap meant (says c)
     where
@@ -72,55 +83,61 @@ module _ {s t : List ℕ} (c : Called s t) where
 
   other-left : isMap s ≡ false → t ≡ s
   unfolding lentMap
-  other-left g = bytes-left ∙ rw g
+  other-left g = bytes-left ∙ rw g (by (reads c))
+    where
+      by : (b : Bool) → left (cond b (refused 3 s) (refused 1 s)) ≡ s
+      by true = refl
+      by false = refl
 
   refused-left : (why : Refusal) → answerOf c ≡ Answer.Refused why → t ≡ s
   unfolding told lentMap leaving
-  refused-left why g = ap (leftOr s) (sym (ap (λ (a : Answer). told (withBytes excludedAt) a t) g) ∙ says c) ∙ by (isMap s) (outcomeOf c)
+  refused-left why g = ap (leftOr s) (sym (ap (λ (a : Answer). told (withBytes excludedAt) a t) g) ∙ says c) ∙ by (reads c) (isMap s) (outcomeOf c)
     where
-      by : (b : Bool) (a : Outcome (List ℕ) (List Entry)) → leftOr s (cond b (leaving mapBytes s a) (refused 3 s)) ≡ s
-      by true (done l) = refl
-      by true (refused n x) = refl
-      by false a = refl
+      by : (d b : Bool) (a : Ruling) → leftOr s (cond d (cond b (leaving mapBytes s a) (refused 3 s)) (refused 1 s)) ≡ s
+      by true true (done l) = refl
+      by true true (refused n x) = refl
+      by true false a = refl
+      by false b a = refl
 
 -- ---- for any property of the entries: a rule that is done leaves it
 
-abbrev pub Fine : (List Entry → Type 0) → Outcome (List ℕ) (List Entry) → Type 0
+abbrev pub Fine : (List Entry → Type 0) → Ruling → Type 0
 Fine P (done l) = P l
 Fine P (refused n x) = Unit {0}
 
 pub left-fine : (P : List Entry → Type 0) {s t : List ℕ} (c : Called s t) → P (excludedAt s) → (isMap s ≡ true → Fine P (outcomeOf c)) → P (excludedAt t)
 unfolding lentMap leaving
-left-fine P {s} {t} c p f = subst P (sym (entries-left c)) (by (isMap s) refl (outcomeOf c) f)
+left-fine P {s} {t} c p f = subst P (sym (entries-left c)) (by (reads c) (isMap s) refl (outcomeOf c) f)
   where
-    by : (b : Bool) → isMap s ≡ b → (a : Outcome (List ℕ) (List Entry)) → (isMap s ≡ true → Fine P a) → P (meant (cond b (leaving mapBytes s a) (refused 3 s)))
-    by true g (done l) f = f g
-    by true g (refused n x) f = p
-    by false g a f = p
+    by : (d b : Bool) → isMap s ≡ b → (a : Ruling) → (isMap s ≡ true → Fine P a) → P (meant (cond d (cond b (leaving mapBytes s a) (refused 3 s)) (refused 1 s)))
+    by true true g (done l) f = f g
+    by true true g (refused n x) f = p
+    by true false g a f = p
+    by false b g a f = p
 
-module _ (P : List Entry → Type 0) (s : List ℕ) where
-  pub checked : (c : Bool) (n : ℕ) (a : Outcome (List ℕ) (List Entry)) → Fine P a → Fine P (cond c a (refused n s))
+module _ (P : List Entry → Type 0) where
+  pub checked : (c : Bool) (n : ℕ) (a : Ruling) → Fine P a → Fine P (cond c a (refused n tt))
   checked true n a g = g
   checked false n a g = tt
 
-  pub either : (c : Bool) (a b : Outcome (List ℕ) (List Entry)) → Fine P a → Fine P b → Fine P (cond c a b)
+  pub either : (c : Bool) (a b : Ruling) → Fine P a → Fine P b → Fine P (cond c a b)
   either true a b g h = g
   either false a b g h = h
 
-  fits : (l : List Entry) → (length l ≤ 64 → length (excluded l) ≤ 512 → P l) → Fine P (fitting s l)
+  fits : (l : List Entry) → (length l ≤ 64 → length (excluded l) ≤ 512 → P l) → Fine P (fitting l)
   unfolding fitting
   fits l p = by (leb (length l) 64) (leb (length (excluded l)) 512) refl refl
     where
-      by : (a b : Bool) → leb (length l) 64 ≡ a → leb (length (excluded l)) 512 ≡ b → Fine P (cond a (cond b (done l) (refused 15 s)) (refused 15 s))
+      by : (a b : Bool) → leb (length l) 64 ≡ a → leb (length (excluded l)) 512 ≡ b → Fine P (cond a (cond b (done l) (refused 15 tt)) (refused 15 tt))
       by true true e f = p (leb-true _ _ e) (leb-true _ _ f)
       by true false e f = tt
       by false b e f = tt
 
   pub enters : (l : List Entry) (hash : Byte32) (tx : List ℕ) → P l
       → (length (renew (hasHash hash) (pending hash tx) l) ≤ 64 → length (excluded (renew (hasHash hash) (pending hash tx) l)) ≤ 512 → P (renew (hasHash hash) (pending hash tx) l))
-      → Fine P (entering s l hash tx)
+      → Fine P (entering l hash tx)
   unfolding entering
-  enters l hash tx p f = either (eqb (length tx) 0) (done l) (fitting s (renew (hasHash hash) (pending hash tx) l)) p (fits (renew (hasHash hash) (pending hash tx) l) f)
+  enters l hash tx p f = either (eqb (length tx) 0) (done l) (fitting (renew (hasHash hash) (pending hash tx) l)) p (fits (renew (hasHash hash) (pending hash tx) l) f)
 
 -- ---- at most 64 transactions and 512 out points
 
@@ -158,33 +175,33 @@ marked-all hash block (e ∷ l) =
 small-step : {s t : List ℕ} (c : Called s t) → Small (excludedAt s) → Fine Small (outcomeOf c)
 unfolding commitOn removeOn without truncateOn truncated addOn migrateOn
 small-step {s} (run.add r hash tx e) m =
-    checked Small s (readable (option Transaction) tx) 1 _ (checked Small s (eqb (length hash) 32) 3 _ (enters Small s (excludedAt s) (byte32At hash 0) tx m (λ a b. (a, b))))
+    checked Small (eqb (length hash) 32) 3 _ (enters Small (excludedAt s) (byte32At hash 0) tx m (λ a b. (a, b)))
 small-step {s} (run.commit r hash block e) m =
     let (p, q) = marked-all (byte32At hash 0) block (excludedAt s) in
-    checked Small s (eqb (length hash) 32) 3 (done (map (committedAt (byte32At hash 0) block) (excludedAt s))) (omega (arith, p, m .0), omega (arith, ap length q, m .1))
+    checked Small (eqb (length hash) 32) 3 (done (map (committedAt (byte32At hash 0) block) (excludedAt s))) (omega (arith, p, m .0), omega (arith, ap length q, m .1))
 small-step {s} (run.remove r hash e) m =
-    checked Small s (eqb (length hash) 32) 3 (done (without (byte32At hash 0) (excludedAt s))) (sifted-small (λ (x : Entry). not (hasHash (byte32At hash 0) x)) (excludedAt s) m)
+    checked Small (eqb (length hash) 32) 3 (done (without (byte32At hash 0) (excludedAt s))) (sifted-small (λ (x : Entry). not (hasHash (byte32At hash 0) x)) (excludedAt s) m)
 small-step {s} (run.truncate r tip e) m = sifted-small (λ (x : Entry). isRecent tip (x .committed)) (excludedAt s) m
 small-step {s} (run.migrate r old new tx e) m =
     let o = byte32At old 0 in
     let l : List Entry = without o (excludedAt s) in
-    checked Small s (readable (option Transaction) tx) 1 _
-    (checked Small s (eqb (length old) 32) 3 _
-    (checked Small s (eqb (length new) 32) 3 _
-    (either Small s (entered o (excludedAt s)) (entering s l (byte32At new 0) tx) (done (excludedAt s))
-    (enters Small s l (byte32At new 0) tx (sifted-small (λ (x : Entry). not (hasHash o x)) (excludedAt s) m) (λ a b. (a, b))) m)))
+    checked Small (eqb (length old) 32) 3 _
+    (checked Small (eqb (length new) 32) 3 _
+    (either Small (entered o (excludedAt s)) (entering l (byte32At new 0) tx) (done (excludedAt s))
+    (enters Small l (byte32At new 0) tx (sifted-small (λ (x : Entry). not (hasHash o x)) (excludedAt s) m) (λ a b. (a, b))) m))
 
 map-small : (s : List ℕ) → isMap s ≡ true → Small (excludedAt s)
 map-small s g = (omega (arith, map-count s g, map-few s g), map-points s g)
 
 map-step : {s t : List ℕ} → Called s t → isMap t ≡ isMap s
 unfolding lentMap leaving
-map-step {s} {t} c = ap isMap (bytes-left c) ∙ by (isMap s) refl (outcomeOf c) (λ g. small-step c (map-small s g))
+map-step {s} {t} c = ap isMap (bytes-left c) ∙ by (reads c) (isMap s) refl (outcomeOf c) (λ g. small-step c (map-small s g))
   where
-    by : (b : Bool) → isMap s ≡ b → (a : Outcome (List ℕ) (List Entry)) → (isMap s ≡ true → Fine Small a) → isMap (left (cond b (leaving mapBytes s a) (refused 3 s))) ≡ isMap s
-    by true g (done l) f = let (p, q) = f g in put-is s l g p q ∙ sym g
-    by true g (refused n x) f = refl
-    by false g a f = refl
+    by : (d b : Bool) → isMap s ≡ b → (a : Ruling) → (isMap s ≡ true → Fine Small a) → isMap (left (cond d (cond b (leaving mapBytes s a) (refused 3 s)) (refused 1 s))) ≡ isMap s
+    by true true g (done l) f = let (p, q) = f g in put-is s l g p q ∙ sym g
+    by true true g (refused n x) f = refl
+    by true false g a f = refl
+    by false b g a f = refl
 
 pub stays-map : StaysMap
 stays-map s t run.none = refl
@@ -248,15 +265,14 @@ neither false b h = (refl, not-true b h)
 stands-step : (x : Entry) {s t : List ℕ} (c : Called s t) → outlives x c ≡ true → Stands x (excludedAt s) → Fine (Stands x) (outcomeOf c)
 unfolding outlives commitOn removeOn without truncateOn truncated addOn migrateOn
 stands-step x {s} (run.add r hash tx e) h i =
-    checked (Stands x) s (readable (option Transaction) tx) 1 _
-    (checked (Stands x) s (eqb (length hash) 32) 3 _
-    (enters (Stands x) s (excludedAt s) (byte32At hash 0) tx i (λ a b. stands-renew x (hasHash (byte32At hash 0)) (pending (byte32At hash 0) tx) (excludedAt s) (not-true _ h) i)))
+    checked (Stands x) (eqb (length hash) 32) 3 _
+    (enters (Stands x) (excludedAt s) (byte32At hash 0) tx i (λ a b. stands-renew x (hasHash (byte32At hash 0)) (pending (byte32At hash 0) tx) (excludedAt s) (not-true _ h) i))
 stands-step x {s} (run.commit r hash block e) h i =
     let g = committedAt (byte32At hash 0) block in
-    checked (Stands x) s (eqb (length hash) 32) 3 (done (map g (excludedAt s)))
+    checked (Stands x) (eqb (length hash) 32) 3 (done (map g (excludedAt s)))
     (subst (λ (y : Entry). Stands y (map g (excludedAt s))) (unmarked (byte32At hash 0) block x (not-true _ h)) (stands-marked x g (excludedAt s) i))
 stands-step x {s} (run.remove r hash e) h i =
-    checked (Stands x) s (eqb (length hash) 32) 3 (done (without (byte32At hash 0) (excludedAt s))) (stands-keep x (λ (y : Entry). not (hasHash (byte32At hash 0) y)) (excludedAt s) h i)
+    checked (Stands x) (eqb (length hash) 32) 3 (done (without (byte32At hash 0) (excludedAt s))) (stands-keep x (λ (y : Entry). not (hasHash (byte32At hash 0) y)) (excludedAt s) h i)
 stands-step x {s} (run.truncate r tip e) h i = stands-keep x (λ (y : Entry). isRecent tip (y .committed)) (excludedAt s) h i
 stands-step x {s} (run.migrate r old new tx e) h i =
     let o = byte32At old 0 in
@@ -264,11 +280,10 @@ stands-step x {s} (run.migrate r old new tx e) h i =
     let l : List Entry = without o (excludedAt s) in
     let (p, q) = neither (hasHash o x) (hasHash n x) h in
     let k : Stands x l = stands-keep x (λ (y : Entry). not (hasHash o y)) (excludedAt s) p i in
-    checked (Stands x) s (readable (option Transaction) tx) 1 _
-    (checked (Stands x) s (eqb (length old) 32) 3 _
-    (checked (Stands x) s (eqb (length new) 32) 3 _
-    (either (Stands x) s (entered o (excludedAt s)) (entering s l n tx) (done (excludedAt s))
-    (enters (Stands x) s l n tx k (λ a b. stands-renew x (hasHash n) (pending n tx) l q k)) i)))
+    checked (Stands x) (eqb (length old) 32) 3 _
+    (checked (Stands x) (eqb (length new) 32) 3 _
+    (either (Stands x) (entered o (excludedAt s)) (entering l n tx) (done (excludedAt s))
+    (enters (Stands x) l n tx k (λ a b. stands-renew x (hasHash n) (pending n tx) l q k)) i))
 
 pub stays-entered : StaysEntered
 stays-entered x s t i run.none = i
@@ -326,16 +341,17 @@ stays-excluded x s t i r b out after e p h =
 -- of a call that is done, the property of the entries that its rule gives
 done-fine : (P : List Entry → Type 0) {s t : List ℕ} (c : Called s t) → answerOf c ≡ Answer.Done → Fine P (outcomeOf c) → P (excludedAt t)
 unfolding told withBytes lentMap leaving
-done-fine P {s} {t} c a f = by (isMap s) (outcomeOf c) (sym (ap (λ (v : Answer). told (withBytes excludedAt) v t) a) ∙ says c) f
+done-fine P {s} {t} c a f = by (reads c) (isMap s) (outcomeOf c) (sym (ap (λ (v : Answer). told (withBytes excludedAt) v t) a) ∙ says c) f
   where
     isDone : After (List Entry) → Type 0
     isDone (done p) = P (p .0)
     isDone (refused n x) = Unit {0}
 
-    by : (b : Bool) (a : Outcome (List ℕ) (List Entry)) → _≡_ {A = After (List Entry)} (done (excludedAt t, t)) (cond b (leaving mapBytes s a) (refused 3 s)) → Fine P a → P (excludedAt t)
-    by true (done l) g f = subst isDone (sym g) f
-    by true (refused n x) g f = subst isDone (sym g) tt
-    by false a g f = subst isDone (sym g) tt
+    by : (d b : Bool) (a : Ruling) → _≡_ {A = After (List Entry)} (done (excludedAt t, t)) (cond d (cond b (leaving mapBytes s a) (refused 3 s)) (refused 1 s)) → Fine P a → P (excludedAt t)
+    by true true (done l) g f = subst isDone (sym g) f
+    by true true (refused n x) g f = subst isDone (sym g) tt
+    by true false a g f = subst isDone (sym g) tt
+    by false b a g f = subst isDone (sym g) tt
 
 pub add-enters : AddEnters
 unfolding answerOf addOn entering
@@ -343,12 +359,11 @@ add-enters s t hash tx z e =
     let P = Stands (pending (byte32At hash 0) tx) in
     let after = renew (hasHash (byte32At hash 0)) (pending (byte32At hash 0) tx) (excludedAt s) in
     done-fine P (run.add Answer.Done hash tx e) refl
-    (checked P s (readable (option Transaction) tx) 1 _
-    (checked P s (eqb (length hash) 32) 3 _
-    (rw (ne-eqb (length tx) 0 z) (fits P s after (λ a b. stands-new (hasHash (byte32At hash 0)) (pending (byte32At hash 0) tx) (excludedAt s))))))
+    (checked P (eqb (length hash) 32) 3 _
+    (rw (ne-eqb (length tx) 0 z) (fits P after (λ a b. stands-new (hasHash (byte32At hash 0)) (pending (byte32At hash 0) tx) (excludedAt s)))))
 
 pub commit-marks : CommitMarks
 unfolding answerOf commitOn
 commit-marks x s t hash block i e =
     let g = committedAt (byte32At hash 0) block in
-    done-fine (Stands (g x)) (run.commit Answer.Done hash block e) refl (checked (Stands (g x)) s (eqb (length hash) 32) 3 (done (map g (excludedAt s))) (stands-marked x g (excludedAt s) i))
+    done-fine (Stands (g x)) (run.commit Answer.Done hash block e) refl (checked (Stands (g x)) (eqb (length hash) 32) 3 (done (map g (excludedAt s))) (stands-marked x g (excludedAt s) i))

@@ -8,8 +8,6 @@ use native.Mathlib.Omega.{arith}
 use lib.Dec.{eqb}
 use lib.ListN.{length}
 use Rattle.units.specs.declared.BlockNumber.{BlockNumber}
-use Rattle.molecule.specs.Molecule.{option, readable}
-use Rattle.transaction.specs.Ckb.{Transaction}
 use Rattle.out_points.specs.declared.{Byte32.Byte32}
 use Rattle.out_points.specs.OutPoints.{eqHash, eqPoint, byte32At}
 use Rattle.out_points.specs.Tables.{keep, renew, done}
@@ -92,23 +90,21 @@ single-step : {s t : List ℕ} (c : Called s t) → Single (excludedAt s) → Fi
 unfolding commitOn removeOn without truncateOn truncated addOn migrateOn
 single-step {s} (run.add r hash tx e) m =
     let k = byte32At hash 0 in
-    checked Single s (readable (option Transaction) tx) 1 _
-    (checked Single s (eqb (length hash) 32) 3 _ (enters Single s (excludedAt s) k tx m (λ a b. renew-single k (pending k tx) (excludedAt s) (pending-is k tx) m)))
+    checked Single (eqb (length hash) 32) 3 _ (enters Single (excludedAt s) k tx m (λ a b. renew-single k (pending k tx) (excludedAt s) (pending-is k tx) m))
 single-step {s} (run.commit r hash block e) m =
     let k = byte32At hash 0 in
-    checked Single s (eqb (length hash) 32) 3 (done (map (committedAt k block) (excludedAt s))) (λ h. let a = marked-count h k block (excludedAt s) in let b = m h in omega arith)
+    checked Single (eqb (length hash) 32) 3 (done (map (committedAt k block) (excludedAt s))) (λ h. let a = marked-count h k block (excludedAt s) in let b = m h in omega arith)
 single-step {s} (run.remove r hash e) m =
-    checked Single s (eqb (length hash) 32) 3 (done (without (byte32At hash 0) (excludedAt s))) (keep-single (λ (x : Entry). not (hasHash (byte32At hash 0) x)) (excludedAt s) m)
+    checked Single (eqb (length hash) 32) 3 (done (without (byte32At hash 0) (excludedAt s))) (keep-single (λ (x : Entry). not (hasHash (byte32At hash 0) x)) (excludedAt s) m)
 single-step {s} (run.truncate r tip e) m = keep-single (λ (x : Entry). isRecent tip (x .committed)) (excludedAt s) m
 single-step {s} (run.migrate r old new tx e) m =
     let o = byte32At old 0 in
     let k = byte32At new 0 in
     let l : List Entry = without o (excludedAt s) in
     let n : Single l = keep-single (λ (x : Entry). not (hasHash o x)) (excludedAt s) m in
-    checked Single s (readable (option Transaction) tx) 1 _
-    (checked Single s (eqb (length old) 32) 3 _
-    (checked Single s (eqb (length new) 32) 3 _
-    (either Single s (entered o (excludedAt s)) (entering s l k tx) (done (excludedAt s)) (enters Single s l k tx n (λ a b. renew-single k (pending k tx) l (pending-is k tx) n)) m)))
+    checked Single (eqb (length old) 32) 3 _
+    (checked Single (eqb (length new) 32) 3 _
+    (either Single (entered o (excludedAt s)) (entering l k tx) (done (excludedAt s)) (enters Single l k tx n (λ a b. renew-single k (pending k tx) l (pending-is k tx) n)) m))
 
 pub stays-one-each : StaysOneEach
 stays-one-each s t m run.none = m

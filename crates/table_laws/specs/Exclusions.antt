@@ -14,15 +14,15 @@ use Rattle.out_points.specs.Tables.{told}
 use Rattle.table_bytes.specs.Lent.{withBytes}
 use Rattle.exclusion_entries.specs.Exclusions.{Entry, hasHash, committedAt, commitOn, removeOn, isRecent, truncateOn, excluded, applyOn, pending, addOn, migrateOn}
 use Rattle.exclusion_entries.specs.Entries.{excludedAt, isMap}
-use Rattle.exclusions.specs.LentMap.{lentMap, lentList}
+use Rattle.exclusions.specs.LentMap.{lentMap, lentTx, lentList}
 
 -- a call that is lent the bytes s, answers r and leaves the bytes t; `apply` changes none
 pub data Called (s t : List ℕ) : Type 0 where
-  add : (r : Answer) (hash tx : List ℕ) → told (withBytes excludedAt) r t ≡ lentMap s (addOn s (excludedAt s) hash tx) → Called s t
-  commit : (r : Answer) (hash : List ℕ) (block : BlockNumber) → told (withBytes excludedAt) r t ≡ lentMap s (commitOn s (excludedAt s) hash block) → Called s t
-  remove : (r : Answer) (hash : List ℕ) → told (withBytes excludedAt) r t ≡ lentMap s (removeOn s (excludedAt s) hash) → Called s t
-  truncate : (r : Answer) (tip : BlockNumber) → told (withBytes excludedAt) r t ≡ lentMap s (truncateOn s (excludedAt s) tip) → Called s t
-  migrate : (r : Answer) (old new tx : List ℕ) → told (withBytes excludedAt) r t ≡ lentMap s (migrateOn s (excludedAt s) old new tx) → Called s t
+  add : (r : Answer) (hash tx : List ℕ) → told (withBytes excludedAt) r t ≡ lentTx tx s (addOn (excludedAt s) hash tx) → Called s t
+  commit : (r : Answer) (hash : List ℕ) (block : BlockNumber) → told (withBytes excludedAt) r t ≡ lentMap s (commitOn (excludedAt s) hash block) → Called s t
+  remove : (r : Answer) (hash : List ℕ) → told (withBytes excludedAt) r t ≡ lentMap s (removeOn (excludedAt s) hash) → Called s t
+  truncate : (r : Answer) (tip : BlockNumber) → told (withBytes excludedAt) r t ≡ lentMap s (truncateOn (excludedAt s) tip) → Called s t
+  migrate : (r : Answer) (old new tx : List ℕ) → told (withBytes excludedAt) r t ≡ lentTx tx s (migrateOn (excludedAt s) old new tx) → Called s t
 
 unfoldable pub answerOf : {s t : List ℕ} → Called s t → Answer
 answerOf (add r hash tx e) = r
@@ -104,9 +104,9 @@ StaysExcluded = (x : Entry) (s t : List ℕ) → Stands x (excludedAt s) → Out
 
 -- where it comes from: a transaction that an `add` entered stands, pending; and one that stood when a `commit` was done stands, committed if the hash is its own
 abbrev pub AddEnters : Type 0
-AddEnters = (s t hash tx : List ℕ) → (length tx ≡ 0 → ⊥) → told (withBytes excludedAt) Answer.Done t ≡ lentMap s (addOn s (excludedAt s) hash tx)
+AddEnters = (s t hash tx : List ℕ) → (length tx ≡ 0 → ⊥) → told (withBytes excludedAt) Answer.Done t ≡ lentTx tx s (addOn (excludedAt s) hash tx)
     → Stands (pending (byte32At hash 0) tx) (excludedAt t)
 
 abbrev pub CommitMarks : Type 0
-CommitMarks = (x : Entry) (s t hash : List ℕ) (block : BlockNumber) → Stands x (excludedAt s) → told (withBytes excludedAt) Answer.Done t ≡ lentMap s (commitOn s (excludedAt s) hash block)
+CommitMarks = (x : Entry) (s t hash : List ℕ) (block : BlockNumber) → Stands x (excludedAt s) → told (withBytes excludedAt) Answer.Done t ≡ lentMap s (commitOn (excludedAt s) hash block)
     → Stands (committedAt (byte32At hash 0) block x) (excludedAt t)

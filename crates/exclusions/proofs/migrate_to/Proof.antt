@@ -1,4 +1,3 @@
-use Rattle.exclusions.proofs.EnterLaws.{read-yes}
 use Rattle.exclusion_entries.proofs.StayLaws.{told-good, points-few}
 use Rattle.exclusions.proofs.CallLaws.{migrate-done}
 use Rattle.exclusions.proofs.Ways.{ways}
@@ -14,16 +13,13 @@ migrate-to-spec =
     (λ c κs. search ways)  -- read-map-requires
     (λ c. search ways)  -- same-length
     (λ c. search ways)  -- returns
-    (λ c κs. search ways)  -- is-optional-transaction-requires
     (λ c. search ways)  -- same-length-2
     (λ c. search ways)  -- returns-2
     (λ c. search ways)  -- same-length-3
     (λ c. search ways)  -- returns-3
+    (λ c κs. search ways)  -- are-bytes-requires
     (λ c. search ways)  -- same-length-4
     (λ c. search ways)  -- returns-4
-    (λ c κs. search ways)  -- are-bytes-requires
+    (λ c κs. let a = c .before .before .before in let g = a .before .before .before .before in let r = g .before .before in let e = r .read-map .ensures in (a .are-bytes .ensures, (told-good _ _ e (g .if1 .left), (e, (points-few _ _ e, r .before .before .before .before .before .before .before .before .pre)))))  -- enter-requires
     (λ c. search ways)  -- same-length-5
-    (λ c. search ways)  -- returns-5
-    (λ c κs. let a = c .before .before .before in let o = a .before .before .before .before .before in let r = o .before .before .before in let e = r .read-map .ensures in (a .are-bytes .ensures, (told-good _ _ e (o .before .if1 .left), (e, (points-few _ _ e, (read-yes _ (o .is-optional-transaction .ensures) (a .before .before .before .before .if2 .left), r .before .before .before .before .before .before .before .before .pre))))))  -- enter-requires
-    (λ c. search ways)  -- same-length-6
-    (λ c. let p = c .before .before in let d = p .before .before .before .before .before .before in let x = d .before .before in let y = x .before .before in let r = y .before .before in let w = r .before .before in migrate-done _ _ _ _ (d .before .if3 .left) (d .if4 .left) (w .before .byte32-at .ensures) _ (r .read-map .ensures) (y .if1 .left) (x .before .is-optional-transaction .ensures) (x .if2 .left) (p .before .before .if5 .left) (w .before .before .before .before .before .before .pre) (w .byte32-at2 .ensures) (p .enter .ensures)))  -- returns-6
+    (λ c. let p = c .before .before in let d = p .before .before .before .before .before .before in let r = d .before .before .before .before in let w = r .before .before in migrate-done _ _ _ _ (d .before .if2 .left) (d .if3 .left) (w .before .byte32-at .ensures) _ (r .read-map .ensures) (d .before .before .if1 .left) (p .before .before .if4 .left) (w .before .before .before .before .before .before .pre .1) (w .byte32-at2 .ensures) (p .enter .ensures)))  -- returns-5

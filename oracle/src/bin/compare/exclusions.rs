@@ -107,11 +107,17 @@ fn as_hash(h: &[u8]) -> Option<Hash> {
 }
 
 impl Call {
-    /// 1 or 3, where something lent can't be read; else the map after it.
+    /// Whether the transaction that it is lent, if any, can be read.
+    fn reads(&self) -> bool {
+        match self {
+            Add { tx, .. } | Migrate { tx, .. } => is_tx(tx),
+            Commit { .. } | Remove { .. } | Truncate { .. } | Apply { .. } => true,
+        }
+    }
+    /// 3, where a hash can't be read; else the map after it.
     fn original(&self, map: &Map) -> Result<Map, u32> {
         let mut after = map.clone();
         match self {
-            Add { tx, .. } | Migrate { tx, .. } if !is_tx(tx) => return Err(1),
             Add { hash, tx } => after.add(&as_hash(hash).ok_or(3u32)?, tx),
             Commit { hash, block } => after.commit(&as_hash(hash).ok_or(3u32)?, *block),
             Remove { hash } => after.remove(&as_hash(hash).ok_or(3u32)?),
@@ -140,6 +146,9 @@ impl Call {
         }
     }
     fn expected(&self, map: &mut Map, table: &[u8]) -> (u32, Source) {
+        if !self.reads() {
+            return (1, Source::Reader);
+        }
         if entries(table).is_none() {
             return (3, Source::Reader);
         }
