@@ -5,7 +5,7 @@ use mathlib.Core.List.{List, [], _∷_, _++_, map}
 use mathlib.Core.Bool.{Bool, true, false, cond, not, false≢true}
 use mathlib.Core.Option.{some}
 use native.Mathlib.Omega.{arith}
-use borrow.Author.Tests.{leb-true, ne-eqb, not-true}
+use borrow.Author.Tests.{leb-true, ne-eqb, not-true, not-false}
 use lib.Dec.{leb, eqb}
 use lib.ListN.{length, length-append}
 use Rattle.units.specs.declared.BlockNumber.{BlockNumber}
@@ -24,7 +24,7 @@ use Rattle.exclusion_entries.specs.Entries.{mapBytes, FitEntry, excludedAt, isM
 use Rattle.exclusion_entries.proofs.MapLaws.{map-few, map-count, map-points, map-fits, put-is, zeros-are}
 use Rattle.exclusions.specs.LentMap.{lentMap, lentTx, left, lentList}
 use Rattle.table_laws.specs.Exclusions as run
-use Rattle.table_laws.specs.Exclusions.{Called, answerOf, StaysMap, StaysWithin, ZerosWithin, RefusedSame, OthersSame, Stands, here, there, outlives, StaysEntered, StaysExcluded, AddEnters, CommitMarks}
+use Rattle.table_laws.specs.Exclusions.{Called, answerOf, StaysMap, StaysWithin, ZerosWithin, RefusedSame, OthersSame, Stands, here, there, replaces, ends, isDone, outlives, StaysEntered, StaysExcluded, AddEnters, MigrateEnters, CommitMarks}
 
 -- ---- what a call's contract says of the bytes that it leaves, and of their entries
 
@@ -258,36 +258,44 @@ unmarked : (hash : Byte32) (block : BlockNumber) (x : Entry) → hasHash hash x 
 unfolding committedAt
 unmarked hash block x h = rw h
 
-neither : (a b : Bool) → cond a false (not b) ≡ true → (not a ≡ true) × (b ≡ false)
-neither true b h = absurd (false≢true h)
-neither false b h = (refl, not-true b h)
+stands-enters : (x : Entry) (l : List Entry) (hash tx : List ℕ) → replaces hash tx x ≡ false → Stands x l → Fine (Stands x) (entering l (byte32At hash 0) tx)
+unfolding replaces entering
+stands-enters x l hash tx e i = by (eqb (length tx) 0) e
+  where
+    by : (b : Bool) → cond b false (hasHash (byte32At hash 0) x) ≡ false → Fine (Stands x) (cond b (done l) (fitting (renew (hasHash (byte32At hash 0)) (pending (byte32At hash 0) tx) l)))
+    by true h = i
+    by false h = fits (Stands x) (renew (hasHash (byte32At hash 0)) (pending (byte32At hash 0) tx) l) (λ a b. stands-renew x (hasHash (byte32At hash 0)) (pending (byte32At hash 0) tx) l h i)
 
-stands-step : (x : Entry) {s t : List ℕ} (c : Called s t) → outlives x c ≡ true → Stands x (excludedAt s) → Fine (Stands x) (outcomeOf c)
-unfolding outlives commitOn removeOn without truncateOn truncated addOn migrateOn
-stands-step x {s} (run.add r hash tx e) h i =
-    checked (Stands x) (eqb (length hash) 32) 3 _
-    (enters (Stands x) (excludedAt s) (byte32At hash 0) tx i (λ a b. stands-renew x (hasHash (byte32At hash 0)) (pending (byte32At hash 0) tx) (excludedAt s) (not-true _ h) i))
+stands-step : (x : Entry) {s t : List ℕ} (c : Called s t) → ends x c ≡ false → Stands x (excludedAt s) → Fine (Stands x) (outcomeOf c)
+unfolding ends commitOn removeOn without truncateOn truncated addOn migrateOn
+stands-step x {s} (run.add r hash tx e) h i = checked (Stands x) (eqb (length hash) 32) 3 _ (stands-enters x (excludedAt s) hash tx h i)
 stands-step x {s} (run.commit r hash block e) h i =
     let g = committedAt (byte32At hash 0) block in
     checked (Stands x) (eqb (length hash) 32) 3 (done (map g (excludedAt s)))
-    (subst (λ (y : Entry). Stands y (map g (excludedAt s))) (unmarked (byte32At hash 0) block x (not-true _ h)) (stands-marked x g (excludedAt s) i))
+    (subst (λ (y : Entry). Stands y (map g (excludedAt s))) (unmarked (byte32At hash 0) block x h) (stands-marked x g (excludedAt s) i))
 stands-step x {s} (run.remove r hash e) h i =
-    checked (Stands x) (eqb (length hash) 32) 3 (done (without (byte32At hash 0) (excludedAt s))) (stands-keep x (λ (y : Entry). not (hasHash (byte32At hash 0) y)) (excludedAt s) h i)
-stands-step x {s} (run.truncate r tip e) h i = stands-keep x (λ (y : Entry). isRecent tip (y .committed)) (excludedAt s) h i
+    checked (Stands x) (eqb (length hash) 32) 3 (done (without (byte32At hash 0) (excludedAt s))) (stands-keep x (λ (y : Entry). not (hasHash (byte32At hash 0) y)) (excludedAt s) (rw h) i)
+stands-step x {s} (run.truncate r tip e) h i = stands-keep x (λ (y : Entry). isRecent tip (y .committed)) (excludedAt s) (not-false (isRecent tip (x .committed)) h) i
 stands-step x {s} (run.migrate r old new tx e) h i =
-    let o = byte32At old 0 in
-    let n = byte32At new 0 in
-    let l : List Entry = without o (excludedAt s) in
-    let (p, q) = neither (hasHash o x) (hasHash n x) h in
-    let k : Stands x l = stands-keep x (λ (y : Entry). not (hasHash o y)) (excludedAt s) p i in
-    checked (Stands x) (eqb (length old) 32) 3 _
-    (checked (Stands x) (eqb (length new) 32) 3 _
-    (either (Stands x) (entered o (excludedAt s)) (entering l n tx) (done (excludedAt s))
-    (enters (Stands x) l n tx k (λ a b. stands-renew x (hasHash n) (pending n tx) l q k)) i))
+    checked (Stands x) (eqb (length old) 32) 3 _ (checked (Stands x) (eqb (length new) 32) 3 _ (by (entered (byte32At old 0) (excludedAt s)) (hasHash (byte32At old 0) x) refl h))
+  where
+    by : (b d : Bool) → hasHash (byte32At old 0) x ≡ d → cond b (cond d true (replaces new tx x)) false ≡ false
+        → Fine (Stands x) (cond b (entering (keep (λ e. not (hasHash (byte32At old 0) e)) (excludedAt s)) (byte32At new 0) tx) (done (excludedAt s)))
+    by true true g k = absurd (false≢true (sym k))
+    by true false g k = stands-enters x (keep (λ e. not (hasHash (byte32At old 0) e)) (excludedAt s)) new tx k (stands-keep x (λ (y : Entry). not (hasHash (byte32At old 0) y)) (excludedAt s) (rw g) i)
+    by false d g k = i
+
+stands-call : (x : Entry) {s t : List ℕ} (c : Called s t) → outlives x c ≡ true → Stands x (excludedAt s) → Stands x (excludedAt t)
+unfolding outlives isDone
+stands-call x {s} {t} c h i = by (answerOf c) refl h
+  where
+    by : (a : Answer) → answerOf c ≡ a → cond (isDone a) (not (ends x c)) true ≡ true → Stands x (excludedAt t)
+    by Answer.Done e k = left-fine (Stands x) c i (λ g. stands-step x c (not-true (ends x c) k) i)
+    by (Answer.Refused why) e k = subst (λ (u : List ℕ). Stands x (excludedAt u)) (sym (refused-left c why e)) i
 
 pub stays-entered : StaysEntered
 stays-entered x s t i run.none = i
-stays-entered x s t i (run.then r c h) = let k = stays-entered x s _ i r in left-fine (Stands x) c k (λ g. stands-step x c h k)
+stays-entered x s t i (run.then r c h) = stands-call x c h (stays-entered x s _ i r)
 
 -- ---- and its out points are written
 
@@ -361,6 +369,17 @@ add-enters s t hash tx z e =
     done-fine P (run.add Answer.Done hash tx e) refl
     (checked P (eqb (length hash) 32) 3 _
     (rw (ne-eqb (length tx) 0 z) (fits P after (λ a b. stands-new (hasHash (byte32At hash 0)) (pending (byte32At hash 0) tx) (excludedAt s)))))
+
+pub migrate-enters : MigrateEnters
+unfolding answerOf migrateOn entering
+migrate-enters s t old new tx z k e =
+    let n = byte32At new 0 in
+    let P = Stands (pending n tx) in
+    let l : List Entry = without (byte32At old 0) (excludedAt s) in
+    done-fine P (run.migrate Answer.Done old new tx e) refl
+    (checked P (eqb (length old) 32) 3 _
+    (checked P (eqb (length new) 32) 3 _
+    (rw (k, ne-eqb (length tx) 0 z) (fits P (renew (hasHash n) (pending n tx) l) (λ a b. stands-new (hasHash n) (pending n tx) l)))))
 
 pub commit-marks : CommitMarks
 unfolding answerOf commitOn

@@ -6,7 +6,7 @@ use mathlib.Core.Bool.{Bool, true, false, cond, not}
 use mathlib.Core.Option.{some}
 use native.Mathlib.Omega.{arith}
 use lib.Dec.{eqb}
-use lib.ListN.{length}
+use lib.ListN.{length, replicate}
 use Rattle.units.specs.declared.BlockNumber.{BlockNumber}
 use Rattle.out_points.specs.declared.{Byte32.Byte32}
 use Rattle.out_points.specs.OutPoints.{eqHash, eqPoint, byte32At}
@@ -14,8 +14,9 @@ use Rattle.out_points.specs.Tables.{keep, renew, done}
 use Rattle.out_points.proofs.EqualLaws.{and-both, hash-same, point-refl}
 use Rattle.exclusion_entries.specs.Exclusions.{Entry, hasHash, committedAt, commitOn, without, removeOn, isRecent, truncated, truncateOn, pending, entering, addOn, entered, migrateOn}
 use Rattle.exclusion_entries.specs.Entries.{excludedAt}
+use Rattle.exclusion_entries.proofs.MapLaws.{map-zeros}
 use Rattle.table_laws.specs.Exclusions as run
-use Rattle.table_laws.specs.Exclusions.{Called, entriesOf, StaysOneEach}
+use Rattle.table_laws.specs.Exclusions.{Called, entriesOf, StaysOneEach, ZerosOneEach}
 use Rattle.table_laws.proofs.Exclusions.{outcomeOf, Fine, left-fine, checked, either, enters}
 
 abbrev Single : List Entry → Type 0
@@ -109,3 +110,10 @@ single-step {s} (run.migrate r old new tx e) m =
 pub stays-one-each : StaysOneEach
 stays-one-each s t m run.none = m
 stays-one-each s t m (run.next r c) = let k = stays-one-each s _ m r in left-fine Single c k (λ g. single-step c k)
+
+none-entered : Single (excludedAt (replicate 21508 0))
+unfolding entriesOf
+none-entered h = rw map-zeros (omega arith)
+
+pub zeros-one-each : ZerosOneEach
+zeros-one-each t r = stays-one-each _ t none-entered r

@@ -3,7 +3,7 @@ use mathlib.Core.Path.{_≡_}
 use Prim.Native.Nat.{ℕ, suc, _≤_}
 use mathlib.Core.Bool.{Bool, true, false, not, cond}
 use mathlib.Core.List.{List, [], _∷_}
-use lib.ListN.{length, replicate}
+use lib.{Dec.eqb, ListN.length, ListN.replicate}
 use Rattle.units.specs.declared.BlockNumber.{BlockNumber}
 use Rattle.arithmetic.specs.LittleEndian.{AllBytes}
 use Rattle.error.specs.declared.{Refusal.Refusal, Answer.Answer}
@@ -12,7 +12,7 @@ use Rattle.out_points.specs.declared.{Byte32.Byte32, OutPoint.OutPoint}
 use Rattle.out_points.specs.OutPoints.{byte32At, has, points}
 use Rattle.out_points.specs.Tables.{told}
 use Rattle.table_bytes.specs.Lent.{withBytes}
-use Rattle.exclusion_entries.specs.Exclusions.{Entry, hasHash, committedAt, commitOn, removeOn, isRecent, truncateOn, excluded, applyOn, pending, addOn, migrateOn}
+use Rattle.exclusion_entries.specs.Exclusions.{Entry, hasHash, committedAt, commitOn, removeOn, isRecent, truncateOn, excluded, applyOn, pending, addOn, entered, migrateOn}
 use Rattle.exclusion_entries.specs.Entries.{excludedAt, isMap}
 use Rattle.exclusions.specs.LentMap.{lentMap, lentTx, lentList}
 
@@ -65,6 +65,9 @@ OneEach s = (h : Byte32) → entriesOf h (excludedAt s) ≤ 1
 abbrev pub StaysOneEach : Type 0
 StaysOneEach = (s t : List ℕ) → OneEach s → Reached s t → OneEach t
 
+abbrev pub ZerosOneEach : Type 0
+ZerosOneEach = (t : List ℕ) → Reached (replicate 21508 0) t → OneEach t
+
 -- a refusal leaves the bytes, and bytes that are no map no call changes
 abbrev pub RefusedSame : Type 0
 RefusedSame = (s t : List ℕ) (c : Called s t) (why : Refusal) → answerOf c ≡ Answer.Refused why → t ≡ s
@@ -79,13 +82,24 @@ pub data Stands (x : Entry) : List Entry → Type 0 where
   here : (l : List Entry) → Stands x (x ∷ l)
   there : (y : Entry) (l : List Entry) → Stands x l → Stands x (y ∷ l)
 
--- the entry outlives the call. What ends it: a call on its own hash, which changes or replaces it or takes it out; and `truncate` at a tip by which it is not recent
+-- a transaction that is entered under the hash takes the place of x
+unfoldable pub replaces : List ℕ → List ℕ → Entry → Bool
+replaces hash tx x = cond (eqb (length tx) 0) false (hasHash (byte32At hash 0) x)
+
+-- what ends x: a done call on its own hash, which changes or replaces it or takes it out; and `truncate` at a tip by which it is not recent
+unfoldable pub ends : {s t : List ℕ} → Entry → Called s t → Bool
+ends x (add r hash tx e) = replaces hash tx x
+ends x (commit r hash block e) = hasHash (byte32At hash 0) x
+ends x (remove r hash e) = hasHash (byte32At hash 0) x
+ends x (truncate r tip e) = not (isRecent tip (x .committed))
+ends {s} x (migrate r old new tx e) = cond (entered (byte32At old 0) (excludedAt s)) (cond (hasHash (byte32At old 0) x) true (replaces new tx x)) false
+
+unfoldable pub isDone : Answer → Bool
+isDone Answer.Done = true
+isDone (Answer.Refused why) = false
+
 unfoldable pub outlives : {s t : List ℕ} → Entry → Called s t → Bool
-outlives x (add r hash tx e) = not (hasHash (byte32At hash 0) x)
-outlives x (commit r hash block e) = not (hasHash (byte32At hash 0) x)
-outlives x (remove r hash e) = not (hasHash (byte32At hash 0) x)
-outlives x (truncate r tip e) = isRecent tip (x .committed)
-outlives x (migrate r old new tx e) = cond (hasHash (byte32At old 0) x) false (not (hasHash (byte32At new 0) x))
+outlives x c = cond (isDone (answerOf c)) (not (ends x c)) true
 
 -- a list of calls none of which ends x
 pub data Outlived (x : Entry) (s : List ℕ) : List ℕ → Type 0 where
@@ -102,10 +116,15 @@ StaysExcluded = (x : Entry) (s t : List ℕ) → Stands x (excludedAt s) → Out
     → AllBytes t → (out after : List ℕ) → (answered Answer.Done, after) ≡ lentList t out (applyOn (excludedAt t) out)
     → (p : OutPoint) → has p (x .points) ≡ true → has p (points after) ≡ true
 
--- where it comes from: a transaction that an `add` entered stands, pending; and one that stood when a `commit` was done stands, committed if the hash is its own
+-- where it comes from: a transaction that an `add` entered stands, pending, and so does one to which a known hash was migrated; and one that stood when a `commit`
+-- was done stands, committed if the hash is its own
 abbrev pub AddEnters : Type 0
 AddEnters = (s t hash tx : List ℕ) → (length tx ≡ 0 → ⊥) → told (withBytes excludedAt) Answer.Done t ≡ lentTx tx s (addOn (excludedAt s) hash tx)
     → Stands (pending (byte32At hash 0) tx) (excludedAt t)
+
+abbrev pub MigrateEnters : Type 0
+MigrateEnters = (s t old new tx : List ℕ) → (length tx ≡ 0 → ⊥) → entered (byte32At old 0) (excludedAt s) ≡ true
+    → told (withBytes excludedAt) Answer.Done t ≡ lentTx tx s (migrateOn (excludedAt s) old new tx) → Stands (pending (byte32At new 0) tx) (excludedAt t)
 
 abbrev pub CommitMarks : Type 0
 CommitMarks = (x : Entry) (s t hash : List ℕ) (block : BlockNumber) → Stands x (excludedAt s) → told (withBytes excludedAt) Answer.Done t ≡ lentMap s (commitOn (excludedAt s) hash block)
