@@ -12,13 +12,13 @@ use Rattle.exclusion_entries.specs.Entries.{mapBytes, FitEntry}
 use Rattle.exclusions.specs.LentMap.{left}
 use Rattle.known_cases.specs.Rows.{AllRight}
 use Rattle.known_cases.proofs.Rows.{_and_, done}
-use Rattle.known_tables.specs.Exclusions.{add, commit, zeros, lent, hash, spends, room, listed, pendingOf, committedOf, transactions, pending7, committed7, two, excludedBy, noMap, unread, full, works, lists}
+use Rattle.known_tables.specs.Exclusions.{add, commit, zeros, lent, hash, spends, room, listed, pendingOf, committedOf, transactions, pending7, committed7, two, three, twice, excludedBy, noMap, unread, full, works, doubled, lists}
 use Rattle.known_tables.proofs.Computing.{computing}
 use Rattle.known_tables.proofs.LentLaws.{Holds, add-on, commit-on, remove-on, truncate-on, migrate-on, apply-on, left-holds, zeros-hold, lent-holds, pending-fits, committed-fits, transactions-fit}
 
 pub known-no-map : AllRight noMap
 unfolding computing
-known-no-map = refl and refl and refl and refl and refl and refl and refl and refl and refl and done
+known-no-map = refl and refl and refl and refl and refl and refl and refl and refl and refl and refl and done
 
 pub known-unread : AllRight unread
 unfolding computing
@@ -65,6 +65,7 @@ known-full =
     and add-on full-63 (hash 63) (spends 0) refl
     and add-on full-64 (hash 64) (spends 0) refl
     and add-on full-64 (hash 63) (spends 0) refl
+    and migrate-on full-64 (hash 0) (hash 64) (spends 0) refl
     and add-on wide-511 (hash 2) (spends 1) refl
     and add-on wide-512 (hash 2) (spends 1) refl
     and add-on wide-512 (hash 1) (spends 1) refl
@@ -76,6 +77,18 @@ two-hold : Holds (lent two) two
 unfolding computing
 two-hold = lent-holds two (leb-true _ _ refl) (leb-true _ _ refl) (committed-fits 7 1 2 (omega arith) (omega arith) (omega arith), (pending-fits 5 1 (omega arith) (omega arith), tt))
 
+three-hold : Holds (lent three) three
+unfolding computing
+three-hold =
+    lent-holds three (leb-true _ _ refl) (leb-true _ _ refl)
+    (committed-fits 7 1 2 (omega arith) (omega arith) (omega arith), (pending-fits 5 1 (omega arith) (omega arith), (pending-fits 6 0 (omega arith) (omega arith), tt)))
+
+twice-hold : Holds (lent twice) twice
+unfolding computing
+twice-hold =
+    lent-holds twice (leb-true _ _ refl) (leb-true _ _ refl)
+    (pending-fits 7 2 (omega arith) (omega arith), (pending-fits 5 1 (omega arith) (omega arith), (pending-fits 7 1 (omega arith) (omega arith), tt)))
+
 last-holds : Holds (lent (committedOf 7 (2 ^ 64 - 1) 2 ∷ [])) (committedOf 7 (2 ^ 64 - 1) 2 ∷ [])
 unfolding computing
 last-holds = lent-holds (committedOf 7 (2 ^ 64 - 1) 2 ∷ []) (leb-true _ _ refl) (leb-true _ _ refl) (committed-fits 7 (2 ^ 64 - 1) 2 (omega arith) (omega arith) (omega arith), tt)
@@ -86,16 +99,22 @@ known-works =
     add-on two-hold (hash 7) (spends 1) refl
     and add-on two-hold (hash 6) (spends 0) refl
     and commit-on two-hold (hash 5) 9
+    and commit-on two-hold (hash 7) 9
     and commit-on two-hold (hash 6) 9
     and remove-on two-hold (hash 7)
     and remove-on two-hold (hash 6)
     and truncate-on last-holds (2 ^ 64 - 1)
     and truncate-on two-hold 14
+    and migrate-on two-hold (hash 7) (hash 8) (spends 1) refl
     and migrate-on two-hold (hash 7) (hash 7) (spends 1) refl
-    and migrate-on two-hold (hash 7) (hash 5) (spends 2) refl
+    and migrate-on three-hold (hash 7) (hash 5) (spends 2) refl
     and migrate-on two-hold (hash 7) (hash 6) [] refl
     and migrate-on two-hold (hash 6) (hash 8) (spends 1) refl
     and done
+
+pub known-doubled : AllRight doubled
+unfolding computing
+known-doubled = add-on twice-hold (hash 7) (spends 0) refl and commit-on twice-hold (hash 7) 9 and remove-on twice-hold (hash 7) and migrate-on twice-hold (hash 7) (hash 8) (spends 1) refl and done
 
 pub known-lists : AllRight lists
 unfolding computing

@@ -89,7 +89,14 @@ committed7 = committedOf 7 100 2 ∷ []
 abbrev pub two : List Entry
 two = committedOf 7 1 2 ∷ pendingOf 5 1 ∷ []
 
--- bytes that are no map: of another length, with 65 entries, with 513 out points, with an entry of the kind 2, with a block at a pending one
+-- and a third; and two with one hash, in a map that no call made
+abbrev pub three : List Entry
+three = committedOf 7 1 2 ∷ pendingOf 5 1 ∷ pendingOf 6 0 ∷ []
+
+abbrev pub twice : List Entry
+twice = pendingOf 7 2 ∷ pendingOf 5 1 ∷ pendingOf 7 1 ∷ []
+
+-- bytes that are no map: of another length, with 65 entries, with 513 out points in one entry and in two, with an entry of the kind 2, with a block at a pending one
 abbrev pub shorter : List ℕ
 shorter = replicate 21507 0
 
@@ -98,6 +105,9 @@ over64 = toLe 4 65 ++ replicate 21504 0
 
 abbrev pub over512 : List ℕ
 over512 = toLe 4 1 ++ replicate 44 0 ++ toLe 4 513 ++ replicate 21456 0
+
+abbrev pub over512InTwo : List ℕ
+over512InTwo = toLe 4 2 ++ replicate 44 0 ++ toLe 4 1 ++ replicate 80 0 ++ toLe 4 512 ++ replicate 21372 0
 
 abbrev pub ofKind2 : List ℕ
 ofKind2 = toLe 4 1 ++ replicate 32 0 ++ toLe 4 2 ++ replicate 21468 0
@@ -128,6 +138,7 @@ noMap =
     (add shorter [] (spends 2) gives refused 3 shorter)
     ∷ (add over64 (hash 7) (spends 2) gives refused 3 over64)
     ∷ (add over512 (hash 7) (spends 2) gives refused 3 over512)
+    ∷ (add over512InTwo (hash 7) (spends 2) gives refused 3 over512InTwo)
     ∷ (add ofKind2 (hash 7) (spends 2) gives refused 3 ofKind2)
     ∷ (add pendingInBlock (hash 7) (spends 2) gives refused 3 pendingInBlock)
     ∷ (commit [] (hash 7) 100 gives refused 3 [])
@@ -157,6 +168,7 @@ full =
     ∷ (add (lent (transactions 63)) (hash 63) (spends 0) gives leaves (lent (transactions 63)) (transactions 64))
     ∷ (add (lent (transactions 64)) (hash 64) (spends 0) gives refused 15 (lent (transactions 64)))
     ∷ (add (lent (transactions 64)) (hash 63) (spends 0) gives leaves (lent (transactions 64)) (transactions 64))
+    ∷ (migrate (lent (transactions 64)) (hash 0) (hash 64) (spends 0) gives leaves (lent (transactions 64)) (span (λ i. pendingOf i 0) 1 64))
     ∷ (add (lent (pendingOf 1 511 ∷ [])) (hash 2) (spends 1) gives leaves (lent (pendingOf 1 511 ∷ [])) (pendingOf 1 511 ∷ pendingOf 2 1 ∷ []))
     ∷ (add (lent (pendingOf 1 512 ∷ [])) (hash 2) (spends 1) gives refused 15 (lent (pendingOf 1 512 ∷ [])))
     ∷ (add (lent (pendingOf 1 512 ∷ [])) (hash 1) (spends 1) gives leaves (lent (pendingOf 1 512 ∷ [])) (pendingOf 1 1 ∷ []))
@@ -164,14 +176,15 @@ full =
     ∷ (migrate (lent (pendingOf 1 512 ∷ pendingOf 3 0 ∷ [])) (hash 3) (hash 2) (spends 1) gives refused 15 (lent (pendingOf 1 512 ∷ pendingOf 3 0 ∷ [])))
     ∷ []
 
--- what each call does to two entries
+-- what each call does to two or three entries
 abbrev pub works : List (Row (After (List Entry)))
 works =
     -- entered again it is uncommitted, in its place; another goes last; the 68-byte transaction enters without out points
     (add (lent two) (hash 7) (spends 1) gives leaves (lent two) (pendingOf 7 1 ∷ pendingOf 5 1 ∷ []))
     ∷ (add (lent two) (hash 6) (spends 0) gives leaves (lent two) (committedOf 7 1 2 ∷ pendingOf 5 1 ∷ pendingOf 6 0 ∷ []))
-    -- an unknown hash changes nothing
+    -- pending or committed, it gets the block; an unknown hash changes nothing
     ∷ (commit (lent two) (hash 5) 9 gives leaves (lent two) (committedOf 7 1 2 ∷ committedOf 5 9 1 ∷ []))
+    ∷ (commit (lent two) (hash 7) 9 gives leaves (lent two) (committedOf 7 9 2 ∷ pendingOf 5 1 ∷ []))
     ∷ (commit (lent two) (hash 6) 9 gives leaves (lent two) two)
     ∷ (remove (lent two) (hash 7) gives leaves (lent two) (pendingOf 5 1 ∷ []))
     ∷ (remove (lent two) (hash 6) gives leaves (lent two) two)
@@ -179,10 +192,20 @@ works =
     ∷ (truncate (lent (committedOf 7 (2 ^ 64 - 1) 2 ∷ [])) (2 ^ 64 - 1) gives leaves (lent (committedOf 7 (2 ^ 64 - 1) 2 ∷ [])) (committedOf 7 (2 ^ 64 - 1) 2 ∷ []))
     ∷ (truncate (lent two) 14 gives leaves (lent two) (pendingOf 5 1 ∷ []))
     -- the new one goes last, also onto its own hash, or takes the place of an entered one; by no transaction the old one only goes
+    ∷ (migrate (lent two) (hash 7) (hash 8) (spends 1) gives leaves (lent two) (pendingOf 5 1 ∷ pendingOf 8 1 ∷ []))
     ∷ (migrate (lent two) (hash 7) (hash 7) (spends 1) gives leaves (lent two) (pendingOf 5 1 ∷ pendingOf 7 1 ∷ []))
-    ∷ (migrate (lent two) (hash 7) (hash 5) (spends 2) gives leaves (lent two) (pendingOf 5 2 ∷ []))
+    ∷ (migrate (lent three) (hash 7) (hash 5) (spends 2) gives leaves (lent three) (pendingOf 5 2 ∷ pendingOf 6 0 ∷ []))
     ∷ (migrate (lent two) (hash 7) (hash 6) [] gives leaves (lent two) (pendingOf 5 1 ∷ []))
     ∷ (migrate (lent two) (hash 6) (hash 8) (spends 1) gives leaves (lent two) two)
+    ∷ []
+
+-- where a hash stands twice, `add` means its first entry, and the others every one
+abbrev pub doubled : List (Row (After (List Entry)))
+doubled =
+    (add (lent twice) (hash 7) (spends 0) gives leaves (lent twice) (pendingOf 7 0 ∷ pendingOf 5 1 ∷ pendingOf 7 1 ∷ []))
+    ∷ (commit (lent twice) (hash 7) 9 gives leaves (lent twice) (committedOf 7 9 2 ∷ pendingOf 5 1 ∷ committedOf 7 9 1 ∷ []))
+    ∷ (remove (lent twice) (hash 7) gives leaves (lent twice) (pendingOf 5 1 ∷ []))
+    ∷ (migrate (lent twice) (hash 7) (hash 8) (spends 1) gives leaves (lent twice) (pendingOf 5 1 ∷ pendingOf 8 1 ∷ []))
     ∷ []
 
 -- `apply`: of no map, into too short a buffer, and into a longer one
