@@ -170,19 +170,22 @@ uint32_t basinpantry_take(uint8_t *held, size_t held_len, const uint8_t *picked,
 
 /* Excluded cells (LiveCellsExclusionMap): at most 64 entries with at most 512 out points in all. An entry is a transaction: its hash (32), its kind (4: 0 pending, 1
    committed), the block that it was committed in (8; 0 while pending), and the list of the out points that it spends. Bytes in no such form (more entries or out points,
-   another kind, a pending entry with a block) are 3 like a table of another length, and stay as they are. */
+   another kind, a pending entry with a block) are 3 like a table of another length, and stay as they are. A map in which a hash stands twice, which no call makes, is taken
+   as a map. A hash has 32 bytes, else 3, also where there is no transaction. */
 #define BASINPANTRY_EXCLUSIONS_BYTES 21508
 
-/* Enters the inputs of a transaction (no bytes: none) under its hash of 32 bytes, which the caller answers for. Refused: 1, 3, 15. */
+/* Enters the inputs of a transaction under its hash, which the caller answers for: in the place of its entry, uncommitted, or last. No bytes are no transaction, and enter
+   nothing. Refused: 1, 3, 15. */
 uint32_t basinpantry_exclusions_add(uint8_t *map, size_t map_len, const uint8_t *hash, size_t hash_len, const uint8_t *tx, size_t tx_len);
 
-/* The transaction of this hash was committed in this block. Refused: 3. */
+/* The transaction of this hash was committed in this block; an unknown hash changes nothing. Refused: 3. */
 uint32_t basinpantry_exclusions_commit(uint8_t *map, size_t map_len, const uint8_t *hash, size_t hash_len, uint64_t block);
 
-/* Removes the transaction of this hash. Refused: 3. */
+/* Removes the transaction of this hash; an unknown hash changes nothing. Refused: 3. */
 uint32_t basinpantry_exclusions_remove(uint8_t *map, size_t map_len, const uint8_t *hash, size_t hash_len);
 
-/* Moves an entry to the transaction that replaces it. Refused: 1, 3, 15. */
+/* Moves an entry to the transaction that replaces it: the old one goes, and the new one is entered. No bytes are no transaction, and the old one only goes; an
+   unknown old hash changes nothing. Refused: 1, 3, 15. */
 uint32_t basinpantry_exclusions_migrate_funding_tx(uint8_t *map, size_t map_len, const uint8_t *old_hash, size_t old_hash_len, const uint8_t *new_hash,
                                                    size_t new_hash_len, const uint8_t *tx, size_t tx_len);
 
