@@ -1,3 +1,5 @@
+use borrow.Author.Needs.{needs}
+use Rattle.accounts.proofs.TokenLaws.{item-other, item-amount}
 use Rattle.accounts.proofs.Ways.{ways}
 use Rattle.accounts.proofs.token.add_output.Statement.{statement}
 use Rattle.accounts.proofs.token.add_output.Tie as tie
@@ -9,7 +11,7 @@ add-output-spec =
     (λ c κs. search ways)  -- item-requires
     (λ c κs. search ways)  -- type-script-requires
     (λ c κs. search ways)  -- same-requires
-    (λ c. search ways)  -- returns
+    (λ c. search (needs, item-other))  -- returns
     (λ c κs. search ways)  -- entry-requires
     (λ c κs. search ways)  -- add-amount-requires
-    (λ c. search ways))  -- returns-2
+    (λ c. search (needs, item-amount)))  -- returns-2

@@ -1,3 +1,5 @@
+use borrow.Author.Needs.{needs}
+use Rattle.accounts.proofs.TokenLaws.{record-other, record-amount}
 use Rattle.accounts.proofs.Ways.{ways}
 use Rattle.accounts.proofs.token.add_record.Statement.{statement}
 use Rattle.accounts.proofs.token.add_record.Tie as tie
@@ -10,7 +12,7 @@ add-record-spec =
     (λ c κs. search ways)  -- record-output-requires
     (λ c κs. search ways)  -- type-script-requires
     (λ c κs. search ways)  -- same-script-requires
-    (λ c. search ways)  -- returns
+    (λ c. search (needs, record-other))  -- returns
     (λ c κs. search ways)  -- record-data-requires
     (λ c κs. search ways)  -- add-amount-requires
-    (λ c. search ways))  -- returns-2
+    (λ c. search (needs, record-amount)))  -- returns-2
