@@ -9,5 +9,5 @@ are-bytes-spec =
     tie.close
     (tie.spec
     (λ c. no-bytes (c .before .args .s .now) (c .if1 .taken))  -- returns
-    (λ c. search ways)  -- shared-slice-read-result
+    (λ c. search ways)  -- shared-slice-read--first
     (λ c. λ i. omega (arith, c .shared-slice-known .given i)))  -- returns-2
