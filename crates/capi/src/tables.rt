@@ -10,7 +10,7 @@ ghost use Rattle.exclusion_entries.specs.Exclusions.{commitOn, removeOn, trunca
 ghost use Rattle.table_bytes.specs.Lent.{lentTable, lentWith, lentWithTwo, lentRead, withBytes, toldNumber};
 ghost use Rattle.held_bytes.specs.HeldBytes.{heldOf, heldAt, heldBytes};
 ghost use Rattle.exclusion_entries.specs.Entries.{excludedAt};
-ghost use Rattle.exclusions.specs.LentMap.{lentMap, lentTx, lentList};
+ghost use Rattle.exclusion_entries.specs.LentMap.{lentMap, lentTx, lentList};
 
 // ---- holds
 
@@ -115,7 +115,7 @@ pub extern "C" fn basinpantry_exclusions_commit(map: &mut [u8], hash: &[u8], blo
     ensures { λ r. ⌜ toldNumber (withBytes excludedAt) r (now (map .exit)) ≡ lentMap (now (map .entry)) (commitOn (excludedAt (now (map .entry))) (now (hash .entry)) (record { 0 = block })) ⌝ }
 {
     let number = BlockNumber(block);
-    let a = exclusions::commit(map, hash, number);
+    let a = exclusion_marks::commit(map, hash, number);
     a.number() as u32
 }
 
@@ -157,6 +157,6 @@ pub extern "C" fn basinpantry_exclusions_truncate(map: &mut [u8], tip: u64) -> u
 pub extern "C" fn basinpantry_exclusions_apply(map: &[u8], out: &mut [u8]) -> u32
     ensures { λ r. ⌜ (r, now (out .exit)) ≡ lentList (now (map .entry)) (now (out .entry)) (applyOn (excludedAt (now (map .entry))) (now (out .entry))) ⌝ }
 {
-    let a = exclusions::apply(map, out);
+    let a = exclusion_marks::apply(map, out);
     a.number() as u32
 }

@@ -8,11 +8,11 @@ use native.Mathlib.Omega.{arith}
 use borrow.Author.Tests.{le-leb, leb-true, eqb-true}
 use lib.Dec.{eqb, leb}
 use lib.ListN.{length, take, drop, length-append, length-drop, take-append-drop}
-use lib.Seq.{take-add, drop-drop}
+use lib.Seq.{take-add, take-all, drop-drop}
 use Rattle.arithmetic.specs.LittleEndian.{toLe, AllBytes, u32At, u64At}
 use Rattle.arithmetic.proofs.LittleEndianLaws.{length-toLe, num-some}
 use Rattle.units.specs.declared.{BlockNumber.BlockNumber}
-use Rattle.molecule.specs.Layout.{word, fixCount}
+use Rattle.molecule.specs.Layout.{part, word, fixCount}
 use Rattle.molecule.specs.Partial.{All}
 use Rattle.out_points.specs.OutPoints.{byte32At, points, hashBytes, bytesOf, pointList}
 use Rattle.out_points.proofs.PointLaws.{length-hash}
@@ -23,6 +23,11 @@ use Rattle.exclusion_entries.specs.Exclusions.{Entry, excluded}
 use Rattle.exclusion_entries.specs.Entries.{kindOf, blockOf, stateBytes, entryBytes, entriesBytes, FitEntry, stateOf, entryOf, sizeOf, entriesIn, isEntry, areEntries}
 
 -- ---- one entry
+
+-- the bytes from an entry on
+pub from-here : (s : List ℕ) (at : ℕ) {x : List ℕ} → x ≡ part s at (length s) → x ≡ drop at s
+unfolding part
+from-here s at e = e ∙ take-all (length s - at) (drop at s) (omega (arith, length-drop at s))
 
 -- the count of the out points is that of their list
 count-is : (x : List ℕ) → 48 ≤ length x → fixCount (drop 44 x) ≡ u32At x 44

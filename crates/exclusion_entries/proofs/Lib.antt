@@ -1,4 +1,5 @@
 pub mod EntryLaws
+pub mod LentLaws
 pub mod MapLaws
 pub mod ReadLaws
 pub mod SpliceLaws

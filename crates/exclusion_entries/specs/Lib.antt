@@ -1,3 +1,4 @@
 pub mod Entries
 pub mod Exclusions
+pub mod LentMap
 pub mod Survey

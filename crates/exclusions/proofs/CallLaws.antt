@@ -29,7 +29,8 @@ use Rattle.exclusion_entries.proofs.EntryLaws.{entries-size}
 use Rattle.exclusion_entries.proofs.MapLaws.{map-long, map-few, map-count, map-points, map-same, map-fits, map-size, splice-back}
 use Rattle.exclusion_entries.proofs.SpliceLaws.{splice-under}
 use Rattle.exclusion_entries.proofs.StayLaws.{stay-size, stay-all, told-lost, told-points, told-bad, told-good}
-use Rattle.exclusions.specs.LentMap.{lentMap, lentTx, lentList}
+use Rattle.exclusion_entries.specs.LentMap.{lentMap, lentTx}
+use Rattle.exclusion_entries.proofs.LentLaws.{lent-on, stay-keep, keep-all}
 
 -- ---- a transaction that can't be read, and one that can
 
@@ -41,17 +42,6 @@ module _ (s tx : List ℕ) (o : Ruling) {r : Bool} (er : r ≡ readable (option 
   pub tx-read : {a : After (List Entry)} → not r ≡ false → a ≡ lentMap s o → a ≡ lentTx tx s o
   unfolding lentTx
   tx-read h e = e ∙ rw (← er, not-false r h)
-
--- ---- bytes that are no table
-
-module _ (s : List ℕ) (o : Ruling) where
-  pub lent-bad : (rule : Rule) {v : Survey} → v ≡ surveyOf rule s → not (v .good) ≡ true → told (withBytes excludedAt) (Answer.Refused Refusal.LentBytesUnreadable) s ≡ lentMap s o
-  unfolding lentMap told number
-  lent-bad rule e h = rw (told-bad rule s e h)
-
-  lent-on : {a : After (List Entry)} → isMap s ≡ true → a ≡ leaving mapBytes s o → a ≡ lentMap s o
-  unfolding lentMap
-  lent-on g e = e ∙ rw g
 
 -- ---- a table that stays as it was
 
@@ -76,12 +66,6 @@ kept-left rule s {o} g b e =
     let means : excludedAt o ≡ K = splice-back s K few (stay-all (keeps rule) (takes rule) FitEntry false L (map-fits s b)) e in
     ap₂ (λ (l : List Entry) (x : List ℕ). done (l, x)) means (e ∙ sym (put-yes s 0 (mapBytes K) room))
 
--- by a rule that takes none, the entries that stay are those that are kept
-stay-keep : (f p : Entry → Bool) → ((e : Entry) → p e ≡ false) → (l : List Entry) → stay f p false l ≡ keep f l
-unfolding stay keep
-stay-keep f p n [] = refl
-stay-keep f p n (e ∷ l) = rw (n e, stay-keep f p n l)
-
 stay-removed : (h : Byte32) (l : List Entry) → stay (keeps (Rule.Remove h)) (takes (Rule.Remove h)) false l ≡ without h l
 unfolding keeps takes without
 stay-removed h l = stay-keep (keeps (Rule.Remove h)) (takes (Rule.Remove h)) (λ e. refl) l
@@ -91,11 +75,6 @@ unfolding keeps takes truncated
 stay-truncated tip l = stay-keep (keeps (Rule.Truncate tip)) (takes (Rule.Truncate tip)) (λ e. refl) l
 
 -- ---- add
-
-keep-all : (f : Entry → Bool) → ((e : Entry) → f e ≡ true) → (l : List Entry) → keep f l ≡ l
-unfolding keep
-keep-all f n [] = refl
-keep-all f n (e ∷ l) = rw (n e) (ap (λ (r : List Entry). e ∷ r) (keep-all f n l))
 
 entering-some : (l : List Entry) (hash : Byte32) (tx : List ℕ) → (length tx ≡ 0 → ⊥) → fitting (renew (hasHash hash) (pending hash tx) l) ≡ entering l hash tx
 unfolding entering
@@ -129,20 +108,9 @@ add-done s hash tx h ev g n z eh e =
     (ap (λ (l : List Entry). fitting (renew (hasHash h) (pending h tx) l)) (keep-all (λ e. true) (λ e. refl) (excludedAt s)) ∙ entering-some (excludedAt s) h tx z ∙ ap (λ (b : Byte32). entering (excludedAt s) b tx) eh
     ∙ enters s hash tx (Rule.Enter h) ev g n))
 
--- ---- commit, remove, truncate
+-- ---- remove, truncate
 
 module _ (s hash : List ℕ) (rule : Rule) {v : Survey} (ev : v ≡ surveyOf rule s) (g : not (v .good) ≡ false) where
-  pub commit-bad : (block : BlockNumber) → (length hash ≡ 32 → ⊥) → told (withBytes excludedAt) (Answer.Refused Refusal.LentBytesUnreadable) s ≡ lentMap s (commitOn (excludedAt s) hash block)
-  unfolding told leaving commitOn number
-  commit-bad block n = lent-on s (commitOn (excludedAt s) hash block) (told-good rule s ev g) (rw (ne-eqb (length hash) 32 n))
-
-  pub commit-done : (block : BlockNumber) {h : Byte32} {o : List ℕ} → length hash ≡ 32 → h ≡ byte32At hash 0 → excludedAt o ≡ map (committedAt h block) (excludedAt s) → o ≡ putAt s 0 (mapBytes (map (committedAt h block) (excludedAt s)))
-      → told (withBytes excludedAt) Answer.Done o ≡ lentMap s (commitOn (excludedAt s) hash block)
-  unfolding told leaving withBytes commitOn
-  commit-done block n eh m e =
-      lent-on s (commitOn (excludedAt s) hash block) (told-good rule s ev g)
-      (rw (eq-eqb (length hash) 32 n, ← eh) (ap₂ (λ (l : List Entry) (x : List ℕ). done (l, x)) m e))
-
   pub remove-bad : (length hash ≡ 32 → ⊥) → told (withBytes excludedAt) (Answer.Refused Refusal.LentBytesUnreadable) s ≡ lentMap s (removeOn (excludedAt s) hash)
   unfolding told leaving removeOn number
   remove-bad n = lent-on s (removeOn (excludedAt s) hash) (told-good rule s ev g) (rw (ne-eqb (length hash) 32 n))
@@ -161,50 +129,6 @@ unfolding truncateOn
 truncate-done s tip ev g b e =
     let i = told-good (Rule.Truncate tip) s ev g in
     lent-on s (truncateOn (excludedAt s) tip) i (kept-left (Rule.Truncate tip) s i b e ∙ ap (λ (l : List Entry). leaving {T = Unit {0}} mapBytes s (done l)) (stay-truncated tip (excludedAt s)))
-
--- ---- apply
-
-module _ (s out : List ℕ) {v : Survey} (ev : v ≡ surveyOf Rule.All s) where
-  pub apply-bad : (o : ℕ × List ℕ) → not (v .good) ≡ true → (answered (Answer.Refused Refusal.LentBytesUnreadable), out) ≡ lentList s out o
-  unfolding lentList answered number
-  apply-bad o h = rw (told-bad Rule.All s ev h)
-
-  module _ (g : not (v .good) ≡ false) where
-    is : isMap s ≡ true
-    is = told-good Rule.All s ev g
-
-    all : stay (keeps Rule.All) (takes Rule.All) false (excludedAt s) ≡ excludedAt s
-    unfolding keeps takes
-    all = stay-keep (keeps Rule.All) (takes Rule.All) (λ e. refl) (excludedAt s) ∙ keep-all (keeps Rule.All) (λ e. refl) (excludedAt s)
-
-    counted : v .points ≡ length (excluded (excludedAt s))
-    counted = told-points Rule.All s is ev ∙ ap (λ (l : List Entry). length (excluded l)) all
-
-    list-length : length (pointList (excluded (excludedAt s))) ≡ 4 + 36 * v .points
-    list-length = length-list (excluded (excludedAt s)) ∙ ap (λ (k : ℕ). 4 + 36 * k) (sym counted)
-
-    pub apply-short : {k : ℕ} → k ≡ 4 + 36 * v .points → length out < k → (answered (Answer.Refused Refusal.BufferTooShort), out) ≡ lentList s out (applyOn (excludedAt s) out)
-    unfolding lentList applyOn answered number hasRoom
-    apply-short e h = rw (is, lt-leb (length (pointList (excluded (excludedAt s)))) (length out) (omega (arith, list-length)))
-
-    pub apply-room : {k : ℕ} → k ≡ 4 + 36 * v .points → k ≤ length out → 4 + 36 * length (excluded (excludedAt s)) ≤ length out
-    apply-room e h = omega (arith, counted)
-
-    pub apply-done : {k : ℕ} {o₁ o₂ : List ℕ} → k ≡ 4 + 36 * v .points → k ≤ length out → o₁ ≡ splice out 4 (bytesOf (excluded (excludedAt s))) → o₂ ≡ putAt o₁ 0 (toLe 4 (v .points))
-        → (answered Answer.Done, o₂) ≡ lentList s out (applyOn (excludedAt s) out)
-    unfolding lentList applyOn answered hasRoom written pointList
-    apply-done {k} {o₁} {o₂} e h e₁ e₂ =
-        let ps = excluded (excludedAt s) in
-        let C = toLe 4 (v .points) in
-        let lC : length C ≡ 4 = length-toLe 4 (v .points) in
-        let z : 0 + length C ≡ 4 = omega arith in
-        let lb = length-bytes ps in
-        let c = counted in
-        let l : length o₁ ≡ length out = ap length e₁ ∙ splice-length out 4 (bytesOf ps) (omega arith) in
-        let same : o₂ ≡ splice out 0 (C ++ bytesOf ps) =
-        e₂ ∙ put-yes o₁ 0 C (omega arith) ∙ ap (λ (x : List ℕ). splice x 0 C) (e₁ ∙ ap (λ (j : ℕ). splice out j (bytesOf ps)) (sym z)) ∙ splice-under out 0 C (bytesOf ps) (omega arith) in
-        rw (is, le-leb (length (pointList ps)) (length out) (omega (arith, list-length)))
-        (ap (λ (x : List ℕ). (0, x)) (same ∙ ap (λ (j : ℕ). splice out 0 (toLe 4 j ++ bytesOf ps)) c ∙ splice-zero out (pointList ps)))
 
 -- ---- migrate
 

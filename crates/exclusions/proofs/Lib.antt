@@ -1,8 +1,6 @@
-pub mod ApplyLaws
 pub mod CallLaws
 pub mod ChangesWays
 pub mod EnterLaws
-pub mod MarkLaws
 pub mod MoveLaws
 pub mod MovesWays
 pub mod PutLaws

@@ -16,7 +16,7 @@ use Rattle.exclusion_entries.specs.Exclusions.{Entry}
 use Rattle.exclusion_entries.specs.declared.{Rule.Rule, Survey.Survey}
 use Rattle.exclusion_entries.specs.Entries.{entryBytes, entriesBytes, entryOf, sizeOf, entriesIn, excludedAt, areEntries, isMap}
 use Rattle.exclusion_entries.specs.Survey.{keeps, takes, stay, front, surveyOf}
-use Rattle.exclusion_entries.proofs.EntryLaws.{entry-again, first-is, first-room, rest-are, entries-size, points-most, entries-long, bytes-join}
+use Rattle.exclusion_entries.proofs.EntryLaws.{from-here, entry-again, first-is, first-room, rest-are, entries-size, points-most, entries-long, bytes-join}
 use Rattle.exclusion_entries.proofs.MapLaws.{map-long, map-few, map-are, map-again, Cut, cut}
 use Rattle.exclusion_entries.proofs.SpliceLaws.{splice-none, drop-splice, splice-same, splice-then}
 use Rattle.exclusion_entries.proofs.StayLaws.{stay-front, front-is, stay-size, told-from, told-index}
@@ -33,11 +33,6 @@ module _ (rule : Rule) (x : List ℕ) where
   pub gives-first : (taken : Bool) {b : Bool} → taken ≡ false → b ≡ takes rule (entryOf x) → b ≡ gives rule taken x
   unfolding gives
   gives-first taken e f = f ∙ rw e
-
--- the bytes from an entry on
-pub from-here : (s : List ℕ) (at : ℕ) {x : List ℕ} → x ≡ part s at (length s) → x ≡ drop at s
-unfolding part
-from-here s at e = e ∙ take-all (length s - at) (drop at s) (omega (arith, length-drop at s))
 
 module _ (rule : Rule) (c : Sift) (s : List ℕ) {x : List ℕ} {k g : Bool} {n : ℕ} (ex : x ≡ part s (c .at) (length s)) (ek : k ≡ keeps rule (entryOf x)) (eg : g ≡ gives rule (c .taken) x) (en : n ≡ u32At x 44) where
   at-is : x ≡ drop (c .at) s

@@ -2,16 +2,14 @@
 use Prim.Native.Nat.{ℕ, _+_}
 use mathlib.Core.Bool.{Bool, true, false, cond}
 use mathlib.Core.List.{List, _++_, map}
-use mathlib.Core.Option.{none, some}
+use mathlib.Core.Option.{none}
 use lib.ListN.{take, drop}
 use Rattle.arithmetic.specs.LittleEndian.{toLe}
-use Rattle.units.specs.declared.{BlockNumber.BlockNumber}
 use Rattle.molecule.specs.Layout.{fixItems}
 use Rattle.molecule.specs.Write.{splice}
 use Rattle.transaction.specs.Tx.{previousOutputOf}
 use Rattle.out_points.specs.declared.{Byte32.Byte32, OutPoint.OutPoint}
 use Rattle.out_points.specs.OutPoints.{outPointAt, hashBytes}
-use Rattle.exclusion_entries.specs.Exclusions.{hasHash}
 use Rattle.exclusion_entries.specs.declared.{Rule.Rule}
 use Rattle.exclusion_entries.specs.Entries.{stateBytes, entryOf, sizeOf}
 use Rattle.exclusion_entries.specs.Survey.{keeps, takes}
@@ -47,8 +45,3 @@ spentAt i = outPointAt (previousOutputOf i) 0
 
 unfoldable pub spentBy : List ℕ → List OutPoint
 spentBy inputs = map spentAt (fixItems 44 inputs)
-
--- ---- the entry at `at` gets its block if it is of the hash
-
-unfoldable pub commitOneBytes : Byte32 → BlockNumber → ℕ → List ℕ → List ℕ
-commitOneBytes hash block at s = cond (hasHash hash (entryOf (drop at s))) (splice s (at + 32) (stateBytes (some block))) s

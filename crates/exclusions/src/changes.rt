@@ -5,10 +5,9 @@ use exclusion_entries::Survey;
 use molecule::write;
 use out_points::Byte32;
 use transaction::fields;
-use units::BlockNumber;
 ghost use mathlib.Core.Path.{_≡_};
 ghost use mathlib.Core.Bool.{true, false};
-ghost use mathlib.Core.List.{_++_, map};
+ghost use mathlib.Core.List.{_++_};
 ghost use Prim.Native.Nat.{_+_, _-_, _*_, _≤_, _<_};
 ghost use lib.ListN.{length, take, drop};
 ghost use Rattle.arithmetic.specs.LittleEndian.{toLe, AllBytes};
@@ -17,10 +16,10 @@ ghost use Rattle.molecule.specs.Write.{splice, putAt, Put};
 ghost use Rattle.transaction.specs.Tx.{rawField};
 ghost use Rattle.out_points.specs.OutPoints.{bytesOf};
 ghost use Rattle.out_points.specs.Tables.{keep, renew};
-ghost use Rattle.exclusion_entries.specs.Exclusions.{committedAt, excluded, pending};
+ghost use Rattle.exclusion_entries.specs.Exclusions.{pending};
 ghost use Rattle.exclusion_entries.specs.Entries.{entryBytes, entriesBytes, mapBytes, sizeOf, excludedAt, isMap};
 ghost use Rattle.exclusion_entries.specs.Survey.{keeps, takes, stay, surveyOf};
-ghost use Rattle.exclusions.specs.Steps.{gives, siftOne, siftOneBytes, headBytes, spentBy, commitOneBytes};
+ghost use Rattle.exclusions.specs.Steps.{gives, siftOne, siftOneBytes, headBytes, spentBy};
 
 // Where a pass is that moves the entries together that stay: the next entry, the place for it, and whether one has given its place.
 struct Sift {
@@ -173,14 +172,6 @@ pub(crate) fn replace(s: &mut [u8], rule: Rule, v: Survey, hash: Byte32, tx: &[u
     put_new(s, v, hash, tx, n);
 }
 
-// Puts a count at the start.
-pub(crate) fn put_count(s: &mut [u8], n: usize)
-    requires { ⌜ n ≤ 512 ⌝ }
-    ensures { λ _. ⌜ now (s .exit) ≡ putAt (now (s .entry)) 0 (toLe 4 n) ⌝ }
-{
-    write::put_u32(s, 0, n as u32);
-}
-
 // Only the entries that stay.
 pub(crate) fn drop_others(s: &mut [u8], rule: Rule, v: Survey)
     requires { ⌜ AllBytes (now s) ⌝ }
@@ -190,61 +181,5 @@ pub(crate) fn drop_others(s: &mut [u8], rule: Rule, v: Survey)
     ensures { λ _. ⌜ now (s .exit) ≡ splice (now (s .entry)) 0 (mapBytes (stay (keeps rule) (takes rule) false (excludedAt (now (s .entry))))) ⌝ }
 {
     gather(s, rule, v);
-    put_count(s, v.stays);
-}
-
-// ---- the other calls
-
-// Gives the entry at `at` its block if it is of the hash, and answers the place after it.
-fn commit_one(s: &mut [u8], at: usize, hash: Byte32, block: BlockNumber) -> usize
-    requires { ⌜ at + sizeOf (drop at (now s)) ≤ length (now s) ⌝ }
-    ensures { λ r. ⌜ r ≡ at + sizeOf (drop at (now (s .entry))) ⌝ }
-    ensures { λ _. ⌜ now (s .exit) ≡ commitOneBytes hash block at (now (s .entry)) ⌝ }
-{
-    let x = molecule::part(s, at, s.len());
-    let found = exclusion_entries::has_hash(x, hash);
-    let next = at + (48 + 36 * exclusion_entries::point_count(x) as usize);
-    if !found {
-        return next;
-    }
-    let to = write::put_u32(s, at + 32, 1);
-    write::put_u64(s, to, block.0);
-    next
-}
-
-// Gives each entry of the hash its block.
-pub(crate) fn mark(s: &mut [u8], hash: Byte32, block: BlockNumber)
-    requires { ⌜ AllBytes (now s) ⌝ }
-    requires { ⌜ isMap (now s) ≡ true ⌝ }
-    ensures { λ _. ⌜ now (s .exit) ≡ putAt (now (s .entry)) 0 (mapBytes (map (committedAt hash block) (excludedAt (now (s .entry))))) ⌝ }
-    ensures { λ _. ⌜ excludedAt (now (s .exit)) ≡ map (committedAt hash block) (excludedAt (now (s .entry))) ⌝ }
-{
-    let n = molecule::fix_count(s) as usize;
-    let mut at: usize = 4;
-    let mut i: usize = 0;
-    while i < n {
-        at = commit_one(s, at, hash, block);
-        i += 1;
-    }
-}
-
-// Puts the out points of all entries from 4 on.
-pub(crate) fn put_excluded(s: &[u8], out: &mut [u8])
-    requires { ⌜ AllBytes (now s) ⌝ }
-    requires { ⌜ isMap (now s) ≡ true ⌝ }
-    requires { ⌜ 4 + 36 * length (excluded (excludedAt (now s))) ≤ length (now out) ⌝ }
-    ensures { λ _. ⌜ now (out .exit) ≡ splice (now (out .entry)) 4 (bytesOf (excluded (excludedAt (now (s .entry))))) ⌝ }
-{
-    let n = molecule::fix_count(s) as usize;
-    let mut to: usize = 4;
-    let mut at: usize = 4;
-    let mut i: usize = 0;
-    while i < n {
-        let x = molecule::part(s, at, s.len());
-        let size = 36 * exclusion_entries::point_count(x) as usize;
-        let run = molecule::part(x, 48, 48 + size);
-        to = write::put(out, to, run);
-        at += 48 + size;
-        i += 1;
-    }
+    write::put_u32(s, 0, v.stays as u32);
 }

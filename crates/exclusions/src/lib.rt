@@ -10,18 +10,17 @@ use transaction_writer::are_bytes;
 use units::BlockNumber;
 ghost use mathlib.Core.Path.{_≡_};
 ghost use mathlib.Core.Bool.{true};
-ghost use Prim.Native.Nat.{_+_, _*_, _≤_};
+ghost use Prim.Native.Nat.{_≤_};
 ghost use lib.ListN.{length};
-ghost use Rattle.error.specs.Refusal.{answered};
 ghost use Rattle.arithmetic.specs.LittleEndian.{AllBytes};
 ghost use Rattle.molecule.specs.Molecule.{readable, option};
 ghost use Rattle.transaction.specs.Ckb.{Transaction};
 ghost use Rattle.out_points.specs.Tables.{told, keep, renew};
-ghost use Rattle.exclusion_entries.specs.Exclusions.{commitOn, removeOn, truncateOn, applyOn, pending, fitting, addOn, migrateOn};
+ghost use Rattle.exclusion_entries.specs.Exclusions.{removeOn, truncateOn, pending, fitting, addOn, migrateOn};
 ghost use Rattle.table_bytes.specs.Lent.{leaving, withBytes};
 ghost use Rattle.exclusion_entries.specs.Entries.{mapBytes, excludedAt, isMap};
 ghost use Rattle.exclusion_entries.specs.Survey.{keeps, takes, surveyOf};
-ghost use Rattle.exclusions.specs.LentMap.{lentMap, lentTx, lentList};
+ghost use Rattle.exclusion_entries.specs.LentMap.{lentMap, lentTx};
 
 mod changes;
 mod moves;
@@ -81,23 +80,6 @@ pub fn add(map: &mut [u8], hash: &[u8], tx: &[u8]) -> Answer
         return Answer::Refused(Refusal::OurTransactionUnreadable);
     }
     add_readable(map, hash, tx)
-}
-
-// The transaction with this hash is committed in this block.
-pub fn commit(map: &mut [u8], hash: &[u8], block: BlockNumber) -> Answer
-    ensures { λ r. ⌜ told (withBytes excludedAt) r (now (map .exit)) ≡ lentMap (now (map .entry)) (commitOn (excludedAt (now (map .entry))) (now (hash .entry)) block) ⌝ }
-{
-    let v = exclusion_entries::read_map(map, Rule::All);
-    if !v.good {
-        return Answer::Refused(Refusal::LentBytesUnreadable);
-    }
-    if hash.len() != 32 {
-        return Answer::Refused(Refusal::LentBytesUnreadable);
-    }
-    are_bytes(map);
-    let h = out_points::byte32_at(hash, 0);
-    changes::mark(map, h, block);
-    Answer::Done
 }
 
 // The table without the transaction of this hash.
@@ -191,30 +173,4 @@ pub fn migrate_funding_tx(map: &mut [u8], old: &[u8], new: &[u8], tx: &[u8]) -> 
         return migrate_to_none(map, old, new, tx);
     }
     migrate_to(map, old, new, tx)
-}
-
-// How long a list of n out points is.
-fn list_size(n: usize) -> usize
-    requires { ⌜ n ≤ 512 ⌝ }
-    ensures { λ r. ⌜ r ≡ 4 + 36 * n ⌝ }
-{
-    4 + 36 * n
-}
-
-// Writes the out points of all transactions, in their order, as a list.
-pub fn apply(map: &[u8], out: &mut [u8]) -> Answer
-    ensures { λ r. ⌜ (answered r, now (out .exit)) ≡ lentList (now (map .entry)) (now (out .entry)) (applyOn (excludedAt (now (map .entry))) (now (out .entry))) ⌝ }
-{
-    let v = exclusion_entries::read_map(map, Rule::All);
-    if !v.good {
-        return Answer::Refused(Refusal::LentBytesUnreadable);
-    }
-    let n = v.points;
-    if out.len() < list_size(n) {
-        return Answer::Refused(Refusal::BufferTooShort);
-    }
-    are_bytes(map);
-    changes::put_excluded(map, out);
-    changes::put_count(out, n);
-    Answer::Done
 }

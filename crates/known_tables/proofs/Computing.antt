@@ -7,7 +7,7 @@ use Rattle.out_points.specs.Tables.{keep, renew, hasRoom, written}
 use Rattle.table_bytes.specs.Lent.{leaving}
 use Rattle.exclusion_entries.specs.Exclusions.{hasHash, committedAt, commitOn, without, removeOn, isRecent, truncated, truncateOn, excluded, applyOn, pending, fitting, entering, addOn, entered, migrateOn}
 use Rattle.exclusion_entries.specs.Entries.{kindOf, blockOf, stateBytes, entryBytes, entriesBytes, mapBytes, stateOf, entryOf, entriesIn, excludedAt, isEntry, areEntries, isMap}
-use Rattle.exclusions.specs.LentMap.{lentMap, lentTx, lentList}
+use Rattle.exclusion_entries.specs.LentMap.{lentMap, lentTx, lentList}
 use Rattle.known_cases.proofs.Computing.{computing-updates}
 
 unfoldable pub computing : Unit {0}

@@ -9,7 +9,7 @@ use Rattle.out_points.specs.Tables as table
 use Rattle.table_bytes.specs.Lent.{leaving}
 use Rattle.exclusion_entries.specs.Exclusions.{truncateOn}
 use Rattle.exclusion_entries.specs.Entries.{mapBytes, FitEntry}
-use Rattle.exclusions.specs.LentMap.{left}
+use Rattle.exclusion_entries.specs.LentMap.{left}
 use Rattle.known_cases.specs.Rows.{AllRight}
 use Rattle.known_cases.proofs.Rows.{_and_, done}
 use Rattle.known_tables.specs.Exclusions.{add, commit, zeros, lent, hash, spends, room, listed, pendingOf, committedOf, transactions, pending7, committed7, two, three, twice, excludedBy, noMap, unread, full, works, doubled, lists}

@@ -14,7 +14,7 @@ use Rattle.out_points.specs.Tables.{done, refused}
 use Rattle.table_bytes.specs.Lent.{After}
 use Rattle.exclusion_entries.specs.Exclusions.{Entry, commitOn, removeOn, truncateOn, applyOn, addOn, migrateOn}
 use Rattle.exclusion_entries.specs.Entries.{mapBytes, excludedAt}
-use Rattle.exclusions.specs.LentMap.{lentMap, lentTx, left, lentList}
+use Rattle.exclusion_entries.specs.LentMap.{lentMap, lentTx, left, lentList}
 use Rattle.known_cases.specs.Rows.{Row, _gives_}
 use Rattle.known_cases.specs.Cases.{inputs, spending}
 

@@ -34,7 +34,7 @@ fn apply(map: &[u8], call: &[u8], a: &mut [u8]) -> Answer {
         return Answer::Done;
     }
     let out = &mut a[0..n];
-    exclusions::apply(map, out)
+    exclusion_marks::apply(map, out)
 }
 
 // The calls with a transaction.
@@ -52,7 +52,7 @@ fn run_plain(map: &mut [u8], call: &[u8]) -> Answer {
     let k = recorded_calls::kind(call);
     if k == 2 {
         let at = block(call);
-        return exclusions::commit(map, recorded_calls::field(call, 1), at);
+        return exclusion_marks::commit(map, recorded_calls::field(call, 1), at);
     }
     if k == 3 {
         return exclusions::remove(map, recorded_calls::field(call, 1));

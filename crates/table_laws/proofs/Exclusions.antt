@@ -22,7 +22,7 @@ use Rattle.table_bytes.specs.Lent.{After, leaving, withBytes}
 use Rattle.exclusion_entries.specs.Exclusions.{Entry, Ruling, hasHash, committedAt, commitOn, without, removeOn, isRecent, truncated, truncateOn, excluded, applyOn, pending, fitting, entering, addOn, entered, migrateOn}
 use Rattle.exclusion_entries.specs.Entries.{mapBytes, FitEntry, excludedAt, isMap}
 use Rattle.exclusion_entries.proofs.MapLaws.{map-few, map-count, map-points, map-fits, put-is, zeros-are}
-use Rattle.exclusions.specs.LentMap.{lentMap, lentTx, left, lentList}
+use Rattle.exclusion_entries.specs.LentMap.{lentMap, lentTx, left, lentList}
 use Rattle.table_laws.specs.Exclusions as run
 use Rattle.table_laws.specs.Exclusions.{Called, answerOf, StaysMap, StaysWithin, ZerosWithin, RefusedSame, OthersSame, Stands, here, there, replaces, ends, isDone, outlives, StaysEntered, StaysExcluded, AddEnters, MigrateEnters, CommitMarks}
 

@@ -14,7 +14,7 @@ use Rattle.out_points.specs.Tables.{told}
 use Rattle.table_bytes.specs.Lent.{withBytes}
 use Rattle.exclusion_entries.specs.Exclusions.{Entry, hasHash, committedAt, commitOn, removeOn, isRecent, truncateOn, excluded, applyOn, pending, addOn, entered, migrateOn}
 use Rattle.exclusion_entries.specs.Entries.{excludedAt, isMap}
-use Rattle.exclusions.specs.LentMap.{lentMap, lentTx, lentList}
+use Rattle.exclusion_entries.specs.LentMap.{lentMap, lentTx, lentList}
 
 -- a call that is lent the bytes s, answers r and leaves the bytes t; `apply` changes none
 pub data Called (s t : List ℕ) : Type 0 where

@@ -8,7 +8,7 @@ use Rattle.out_points.specs.Tables.{told}
 use Rattle.table_bytes.specs.Lent.{withBytes}
 use Rattle.exclusion_entries.specs.Exclusions.{commitOn, removeOn, truncateOn, addOn, migrateOn}
 use Rattle.exclusion_entries.specs.Entries.{excludedAt}
-use Rattle.exclusions.specs.LentMap.{lentMap, lentTx}
+use Rattle.exclusion_entries.specs.LentMap.{lentMap, lentTx}
 use Rattle.table_laws.specs.Exclusions.{Called, add, commit, remove, truncate, migrate}
 
 module _ {s t : List ℕ} (r : Answer) where

@@ -6,7 +6,7 @@ ghost use Rattle.out_points.specs.Tables.{told};
 ghost use Rattle.table_bytes.specs.Lent.{withBytes};
 ghost use Rattle.exclusion_entries.specs.Exclusions.{commitOn, removeOn, truncateOn, addOn, migrateOn};
 ghost use Rattle.exclusion_entries.specs.Entries.{excludedAt};
-ghost use Rattle.exclusions.specs.LentMap.{lentMap, lentTx};
+ghost use Rattle.exclusion_entries.specs.LentMap.{lentMap, lentTx};
 ghost use Rattle.table_laws.specs.Exclusions.{Called};
 
 pub fn add(map: &mut [u8], hash: &[u8], tx: &[u8]) -> Answer
@@ -20,7 +20,7 @@ pub fn commit(map: &mut [u8], hash: &[u8], block: BlockNumber) -> Answer
     ensures { λ r. ⌜ told (withBytes excludedAt) r (now (map .exit)) ≡ lentMap (now (map .entry)) (commitOn (excludedAt (now (map .entry))) (now (hash .entry)) block) ⌝ }
     ensures { λ _. ⌜ Called (now (map .entry)) (now (map .exit)) ⌝ }
 {
-    exclusions::commit(map, hash, block)
+    exclusion_marks::commit(map, hash, block)
 }
 
 pub fn remove(map: &mut [u8], hash: &[u8]) -> Answer

@@ -7,6 +7,7 @@ drop-others-spec =
     tie.close
     (tie.spec
     (λ c κs. search ways)  -- gather-requires
-    (λ c κs. search ways)  -- put-count-requires
+    (λ c. search ways)  -- cast-put-u32
+    (λ c κs. search ways)  -- put-u32-requires
     (λ c. search ways)  -- same-length
     (λ c. search ways))  -- returns

@@ -1,6 +1,6 @@
-use Rattle.exclusions.proofs.Ways.{ways}
-use Rattle.exclusions.proofs.commit.Statement.{statement}
-use Rattle.exclusions.proofs.commit.Tie as tie
+use Rattle.exclusion_marks.proofs.Ways.{ways}
+use Rattle.exclusion_marks.proofs.commit.Statement.{statement}
+use Rattle.exclusion_marks.proofs.commit.Tie as tie
 
 pub commit-spec : {M : Type 1} → statement M
 commit-spec =

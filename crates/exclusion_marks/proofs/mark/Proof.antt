@@ -1,8 +1,8 @@
 use Prim.Native.Nat.{_-_}
-use Rattle.exclusions.proofs.MarkLaws.{Marking}
-use Rattle.exclusions.proofs.ChangesWays.{ways}
-use Rattle.exclusions.proofs.changes.mark.Statement.{statement}
-use Rattle.exclusions.proofs.changes.mark.Tie as tie
+use Rattle.exclusion_marks.proofs.MarkLaws.{Marking}
+use Rattle.exclusion_marks.proofs.Ways.{ways}
+use Rattle.exclusion_marks.proofs.mark.Statement.{statement}
+use Rattle.exclusion_marks.proofs.mark.Tie as tie
 
 abbrev Inv-loop : tie.InvT-loop
 Inv-loop s₀ hash block n at₀ i₀ s at i = Marking hash block s₀ n s at i

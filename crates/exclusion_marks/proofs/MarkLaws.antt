@@ -23,11 +23,10 @@ use Rattle.molecule.proofs.ItemsLaws.{bytes-drop}
 use Rattle.out_points.proofs.AgainLaws.{word-again}
 use Rattle.exclusion_entries.specs.Exclusions.{Entry, hasHash, committedAt}
 use Rattle.exclusion_entries.specs.Entries.{kindOf, blockOf, stateBytes, entryBytes, entriesBytes, mapBytes, FitEntry, entryOf, sizeOf, entriesIn, excludedAt, areEntries, isMap}
-use Rattle.exclusion_entries.proofs.EntryLaws.{entry-again, points-count, length-entry, first-is, first-room, rest-are, entries-long, entries-size, points-most}
+use Rattle.exclusion_entries.proofs.EntryLaws.{from-here, entry-again, points-count, length-entry, first-is, first-room, rest-are, entries-long, entries-size, points-most}
 use Rattle.exclusion_entries.proofs.MapLaws.{map-long, map-few, map-are, map-count, map-points, map-fits, splice-back}
 use Rattle.exclusion_entries.proofs.SpliceLaws.{splice-none, drop-splice, splice-same, splice-then}
-use Rattle.exclusions.specs.Steps.{commitOneBytes}
-use Rattle.exclusions.proofs.SiftLaws.{from-here}
+use Rattle.exclusion_marks.specs.Steps.{commitOneBytes}
 
 -- ---- one entry
 

@@ -16,10 +16,9 @@ use Rattle.out_points.proofs.ListLaws.{length-bytes}
 use Rattle.molecule.proofs.ItemsLaws.{bytes-drop}
 use Rattle.exclusion_entries.specs.Exclusions.{excluded}
 use Rattle.exclusion_entries.specs.Entries.{entryOf, sizeOf, entriesIn, excludedAt, areEntries, isMap}
-use Rattle.exclusion_entries.proofs.EntryLaws.{points-again, first-room, rest-are}
+use Rattle.exclusion_entries.proofs.EntryLaws.{from-here, points-again, first-room, rest-are}
 use Rattle.exclusion_entries.proofs.MapLaws.{map-long, map-few, map-are}
 use Rattle.exclusion_entries.proofs.SpliceLaws.{splice-none, splice-then}
-use Rattle.exclusions.proofs.SiftLaws.{from-here}
 
 bytes-append : (l r : List OutPoint) → bytesOf (l ++ r) ≡ bytesOf l ++ bytesOf r
 unfolding bytesOf

@@ -1,13 +1,13 @@
 -- The calls on a lent exclusion map: "our transaction unreadable is 1, then a script or lent list 3", where the map is the first of the lent lists. Of bytes that
--- are a map each call has its rule (crates/exclusion_entries/specs/Exclusions.antt) over the entries that they hold.
+-- are a map each call has its rule (Exclusions.antt) over the entries that they hold.
 use Prim.Native.Nat.{ℕ}
 use mathlib.Core.List.{List}
 use Rattle.molecule.specs.Molecule.{readable, option}
 use Rattle.transaction.specs.Ckb.{Transaction}
 use Rattle.out_points.specs.Tables.{done, refused, check}
 use Rattle.table_bytes.specs.Lent.{After, leaving}
 use Rattle.exclusion_entries.specs.Exclusions.{Entry, Ruling}
 use Rattle.exclusion_entries.specs.Entries.{mapBytes, isMap}
 
 -- what a call leaves of the bytes s
 unfoldable pub lentMap : List ℕ → Ruling → After (List Entry)

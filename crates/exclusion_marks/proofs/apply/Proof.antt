@@ -1,6 +1,6 @@
-use Rattle.exclusions.proofs.Ways.{ways}
-use Rattle.exclusions.proofs.apply.Statement.{statement}
-use Rattle.exclusions.proofs.apply.Tie as tie
+use Rattle.exclusion_marks.proofs.Ways.{ways}
+use Rattle.exclusion_marks.proofs.apply.Statement.{statement}
+use Rattle.exclusion_marks.proofs.apply.Tie as tie
 
 pub apply-spec : {M : Type 1} → statement M
 apply-spec =

@@ -1,8 +1,8 @@
 use Prim.Native.Nat.{_-_}
-use Rattle.exclusions.proofs.ApplyLaws.{Listing}
-use Rattle.exclusions.proofs.ChangesWays.{ways}
-use Rattle.exclusions.proofs.changes.put_excluded.Statement.{statement}
-use Rattle.exclusions.proofs.changes.put_excluded.Tie as tie
+use Rattle.exclusion_marks.proofs.ApplyLaws.{Listing}
+use Rattle.exclusion_marks.proofs.Ways.{ways}
+use Rattle.exclusion_marks.proofs.put_excluded.Statement.{statement}
+use Rattle.exclusion_marks.proofs.put_excluded.Tie as tie
 
 abbrev Inv-loop : tie.InvT-loop
 Inv-loop s out₀ n to₀ at₀ i₀ out to at i = Listing s n out₀ out to at i

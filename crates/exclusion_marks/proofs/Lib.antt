@@ -1,0 +1,4 @@
+pub mod ApplyLaws
+pub mod CallLaws
+pub mod MarkLaws
+pub mod Ways
