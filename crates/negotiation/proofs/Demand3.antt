@@ -17,7 +17,7 @@ use Rattle.rules.specs.Cells.{readOurs}
 use Rattle.molecule.specs.Partial.{All}
 use Rattle.rules.specs.Surplus.{Measure, capacities, expected}
 use Rattle.rules.specs.Judge.{Call, Figures, txOf}
-use Rattle.rules.specs.Run.{Entry, Exact, updateForPeer, handedBack, carried, sum, verdicts, inForce, next, forces}
+use Rattle.rules.specs.Run.{Entry, Exact, updateForPeer, carried, sum, verdicts, inForce, next, forces}
 use Rattle.rules.proofs.Tests.{never, fine-inj, check-fine}
 use Rattle.rules.proofs.Accept as accept
 use Rattle.rules.proofs.Law.{exact, kept-inputs, kept-records, stay-readable}
@@ -27,10 +27,10 @@ use Rattle.negotiation.specs.declared.Replayed.{Replayed}
 use Rattle.negotiation.specs.Updates.{Updates, callsOf, callAt, transactionAt}
 use Rattle.words.specs.Words.{numberOf, valuesOf, fourOf, surplusWords}
 use Rattle.negotiation.specs.Words.{words, allWords}
-use Rattle.negotiation.specs.Replay.{Summary, acceptedOf, summaryOf, replayOf, leaves, answered}
+use Rattle.negotiation.specs.Replay.{Summary, acceptedOf, indexAfter, summaryOf, replayOf, leaves, answered}
 use Rattle.negotiation.specs.Law.{answerIn, answersIn, Called, Lawful}
 use Rattle.negotiation.proofs.WordLaws.{all-length}
-use Rattle.negotiation.proofs.RunLaws.{length-verdicts}
+use Rattle.negotiation.proofs.RunLaws.{length-verdicts, index-names}
 use Rattle.negotiation.proofs.Numbers.{Numbered, verdicts-numbered}
 
 -- ---- the answers are read back from their words
@@ -87,12 +87,14 @@ module _ (lock udt start updates before : List ℕ) (n accepted at : ℕ) (after
 
   lawful : (vs : List (Outcome Figures)) → T (readable Updates updates) → verdicts E start calls ≡ vs
       → fine (record { updates = n; accepted = accepted; at = at }) ≡ fine (summaryOf vs) → after ≡ allWords vs ++ drop (length (allWords vs)) before
-      → transactionAt start updates at ≡ inForce E start calls → Lawful lock udt start updates before n accepted at after
+      → Lawful lock udt start updates before n accepted at after
   unfolding acceptedOf
-  lawful vs t ev es ea eb =
+  lawful vs t ev es ea =
       let s : record { updates = n; accepted = accepted; at = at } ≡ summaryOf vs = fine-inj es in
       let c : n ≡ length vs = ap (λ (x : Summary). x .updates) s in
       let k : accepted ≡ acceptedOf vs = ap (λ (x : Summary). x .accepted) s in
+      let eb : transactionAt start updates at ≡ inForce E start calls =
+      ap (transactionAt start updates) (ap (λ (x : Summary). x .at) s ∙ ap (indexAfter 0 0) (sym ev)) ∙ index-names lock udt start updates in
       let h : All Numbered vs = rw ev at (verdicts-numbered lock udt calls start) in
       let l : length (allWords vs) ≡ 5 * n = all-length vs ∙ ap (λ (j : ℕ). 5 * j) (sym c) in
       let back : (pick : Figures → ℕ) → carried pick (answersIn n after) ≡ carried pick vs = λ pick. rw (c, ea) (back-carried pick vs _ h) in
@@ -115,23 +117,23 @@ module _ (lock udt start updates before : List ℕ) (n accepted at : ℕ) (after
         beyond = rw (ea, l) (drop-at (allWords vs) (drop (5 * n) before) (5 * n) l);
       }
 
-  pub demand-3 : Called lock udt start updates before (Replayed.Done n accepted at) after → Lawful lock udt start updates before n accepted at after
+  -- of what a call leaves, by what the list comes to
+  by : (x : Outcome (List (Outcome Figures))) → replayOf lock udt start updates (length before) ≡ x
+      → (fine (record { updates = n; accepted = accepted; at = at }), after) ≡ leaves x before → Lawful lock udt start updates before n accepted at after
   unfolding leaves
-  demand-3 k = by (replayOf lock udt start updates (length before)) refl (k .answer) (k .bytes)
-    where
-      by : (x : Outcome (List (Outcome Figures))) → replayOf lock udt start updates (length before) ≡ x
-          → (answered (Replayed.Done n accepted at), after) ≡ leaves x before → transactionAt start updates at ≡ handedBack x start (inForce E start calls)
-          → Lawful lock udt start updates before n accepted at after
-      by (fine vs) e a b =
-          let (t, v) = done-of lock udt start updates (length before) vs e in
-          lawful vs t v (ap (λ (p : Outcome Summary × List ℕ). p .0) a) (ap (λ (p : Outcome Summary × List ℕ). p .1) a) b
-      by (refused m l) e a b = absurd (never m l _ (sym (ap (λ (p : Outcome Summary × List ℕ). p .0) a)))
+  by (fine vs) e a =
+      let (t, v) = done-of lock udt start updates (length before) vs e in
+      lawful vs t v (ap (λ (p : Outcome Summary × List ℕ). p .0) a) (ap (λ (p : Outcome Summary × List ℕ). p .1) a)
+  by (refused m l) e a = absurd (never m l _ (sym (ap (λ (p : Outcome Summary × List ℕ). p .0) a)))
 
--- a refused call leaves the words as they were, and its answer names the start
+  pub demand-3 : Called lock udt start updates before (Replayed.Done n accepted at) after → Lawful lock udt start updates before n accepted at after
+  demand-3 = by (replayOf lock udt start updates (length before)) refl
+
+-- a refused call leaves the words as they were
 pub refusals : (lock udt start updates before : List ℕ) (e : Refusal) (after : List ℕ) → Called lock udt start updates before (Replayed.Refused e) after → after ≡ before
 unfolding leaves
-refusals lock udt start updates before e after k = by (replayOf lock udt start updates (length before)) (k .answer)
+refusals lock udt start updates before e after k = of (replayOf lock udt start updates (length before)) k
   where
-    by : (x : Outcome (List (Outcome Figures))) → (answered (Replayed.Refused e), after) ≡ leaves x before → after ≡ before
-    by (fine vs) a = absurd (never _ _ _ (ap (λ (p : Outcome Summary × List ℕ). p .0) a))
-    by (refused m l) a = ap (λ (p : Outcome Summary × List ℕ). p .1) a
+    of : (x : Outcome (List (Outcome Figures))) → (answered (Replayed.Refused e), after) ≡ leaves x before → after ≡ before
+    of (fine vs) a = absurd (never _ _ _ (ap (λ (p : Outcome Summary × List ℕ). p .0) a))
+    of (refused m l) a = ap (λ (p : Outcome Summary × List ℕ). p .1) a

@@ -1,6 +1,6 @@
 -- Laws of the functions that judge: one update, and one after another.
 use mathlib.Core.Path.{_≡_, refl, sym, ap, _∙_}
-use Prim.Native.Nat.{ℕ, suc, _+_, _-_, _*_, _≤_, _<_}
+use Prim.Native.Nat.{ℕ, zero, suc, _+_, _-_, _*_, _≤_, _<_}
 use mathlib.Core.List.{List, [], _∷_, _++_}
 use native.Mathlib.Numerals.{add-one}
 use native.Mathlib.Omega.{arith}
@@ -19,7 +19,7 @@ use Rattle.funding_tx.proofs.Demand3.{hands}
 use Rattle.negotiation.specs.declared.Replayed.{Replayed}
 use Rattle.negotiation.specs.Updates.{bytesOf, rateOf, callAt, callsOf, transactionAt}
 use Rattle.negotiation.specs.Words.{words, allWords}
-use Rattle.negotiation.specs.Replay.{acceptedOf, indexAfter, leaves, answered, named}
+use Rattle.negotiation.specs.Replay.{acceptedOf, indexAfter, leaves, answered}
 use Rattle.negotiation.proofs.WordLaws.{all-length}
 
 -- what is judged is the update with this index, against the transaction with that one
@@ -58,11 +58,19 @@ module _ (lock udt start s : List ℕ) where
       rw (span-on (callAt s) i n l)
       (ap (λ (b : List ℕ). verdictAt at i ∷ verdicts E b (span (callAt s) (i + 1) (n - (i + 1)))) (sym (at-next at i (verdictAt at i))))
 
-  force-on : (at i n : ℕ) → i < n → inForce E (transactionAt start s at) (span (callAt s) i (n - i))
-      ≡ inForce E (transactionAt start s (handedBack (verdictAt at i) at (i + 1))) (span (callAt s) (i + 1) (n - (i + 1)))
-  force-on at i n l =
-      rw (span-on (callAt s) i n l)
-      (ap (λ (b : List ℕ). inForce E b (span (callAt s) (i + 1) (n - (i + 1)))) (sym (at-next at i (verdictAt at i))))
+  -- the index after the verdicts of updates names the transaction that is in force then
+  names : (k at i : ℕ) → transactionAt start s (indexAfter at i (verdicts E (transactionAt start s at) (span (callAt s) i k))) ≡ inForce E (transactionAt start s at) (span (callAt s) i k)
+  unfolding indexAfter span
+  names zero at i = refl
+  names (suc k) at i =
+      let v = verdictAt at i in
+      ap (λ (j : ℕ). transactionAt start s (indexAfter (handedBack v at (i + 1)) (i + 1) (verdicts E (handedBack v (transactionAt start s at) (bytesOf s i 0)) (span (callAt s) j k)))) (sym (add-one i))
+      ∙ (rw (at-next at i v) at (names k (handedBack v at (i + 1)) (i + 1)))
+      ∙ ap (λ (j : ℕ). inForce E (handedBack v (transactionAt start s at) (bytesOf s i 0)) (span (callAt s) j k)) (add-one i)
+
+  pub index-names : transactionAt start s (indexAfter 0 0 all) ≡ inForce E start (callsOf s)
+  unfolding transactionAt
+  index-names = names (itemCount s) 0 0
 
 -- ---- the loop: the updates before i are judged, and those from i on decide what is left in the end
 
@@ -75,7 +83,6 @@ pub record Running (lock udt start s out₀ : List ℕ) (n i at accepted : ℕ) 
   pub buffer : splice out (5 * i) (allWords (rest lock udt start s at i n)) ≡ allWords (all lock udt start s) ++ drop (length (allWords (all lock udt start s))) out₀
   pub index : indexAfter at i (rest lock udt start s at i n) ≡ indexAfter 0 0 (all lock udt start s)
   pub total : accepted + acceptedOf (rest lock udt start s at i n) ≡ acceptedOf (all lock udt start s)
-  pub bytes : inForce (updateForPeer lock udt) (transactionAt start s at) (span (callAt s) i (n - i)) ≡ inForce (updateForPeer lock udt) start (callsOf s)
 
 module _ (lock udt start s out : List ℕ) (n : ℕ) where
   all-is : n ≡ itemCount s → rest lock udt start s 0 0 n ≡ all lock udt start s
@@ -93,7 +100,6 @@ module _ (lock udt start s out : List ℕ) (n : ℕ) where
     buffer = rw (all-is e) (splice-zero out (allWords (all lock udt start s)));
     index = ap (indexAfter 0 0) (all-is e);
     total = rw (all-is e) (omega arith);
-    bytes = rw (← e) (ap (inForce (updateForPeer lock udt) start) (sym (span-whole (callAt s) n)));
   }
 
 -- one more or none: the count goes with the verdict
@@ -129,7 +135,6 @@ module _ {lock udt start s out₀ : List ℕ} {n i at accepted : ℕ} {out : Lis
         buffer = then p q .bytes ∙ rw (rest-on lock udt start s at i n l) at (g .buffer);
         index = rw (rest-on lock udt start s at i n l) at (g .index);
         total = count-on v r accepted ∙ rw (rest-on lock udt start s at i n l) at (g .total);
-        bytes = sym (force-on lock udt start s at i n l) ∙ g .bytes;
       }
 
   pub run-more : (u : Update) {out' : List ℕ} {at' accepted' : ℕ} → i < n → told u ≡ judge lock udt (transactionAt start s at) (callAt s i) → out' ≡ splice out (5 * i) (words (told u))
@@ -152,6 +157,3 @@ module _ {lock udt start s out₀ : List ℕ} {n i at accepted : ℕ} {out : Lis
       let c : n ≡ length (all lock udt start s) = g .count ∙ sym (length-verdicts (updateForPeer lock udt) start (callsOf s) ∙ span-length (callAt s) 0 (itemCount s)) in
       let k : accepted ≡ acceptedOf (all lock udt start s) = omega arith in
       λ j. (fine (record { updates = c j; accepted = k j; at = x j }), o j)
-
-  pub run-bytes : n ≤ i → named (Replayed.Done n accepted at) start s ≡ inForce (updateForPeer lock udt) start (callsOf s)
-  run-bytes l = rw (span-end (callAt s) i n l) at (g .bytes)

@@ -1,4 +1,5 @@
--- Demand 3 as a statement about one function: what a caller finds in the words that `replay` leaves. It is proved in proofs/Demand3.antt.
+-- Demand 3 as a statement about one function: what a caller finds in the words that `replay` leaves. It is proved in proofs/Demand3.antt; the C call
+-- `basinpantry_replay` has it in its own contract.
 use mathlib.Core.Path.{_≡_}
 use Prim.Native.Nat.{ℕ, zero, suc, _+_, _*_, _^_}
 use mathlib.Core.Bool.{cond}
@@ -12,12 +13,12 @@ use Rattle.rules.specs.Outcome.{Outcome, fine, refused}
 use Rattle.rules.specs.Cells.{readOurs}
 use Rattle.rules.specs.Surplus.{capacities, expected}
 use Rattle.rules.specs.Judge.{Figures, txOf}
-use Rattle.rules.specs.Run.{Exact, updateForPeer, handedBack, verdicts, inForce, kept, keptRecords, inputsOf, recordsOf}
+use Rattle.rules.specs.Run.{Exact, updateForPeer, verdicts, inForce, kept, keptRecords, inputsOf, recordsOf}
 use Rattle.negotiation.specs.declared.Replayed.{Replayed}
 use Rattle.negotiation.specs.Updates.{Updates, callsOf, transactionAt}
 use Rattle.words.specs.Words.{fourOf}
 use Rattle.negotiation.specs.Words.{allWords}
-use Rattle.negotiation.specs.Replay.{acceptedOf, replayOf, leaves, answered, named}
+use Rattle.negotiation.specs.Replay.{acceptedOf, replayOf, leaves, answered}
 
 -- the answer that five words tell: where the first is 0 an acceptance, with its two surpluses in halves
 abbrev pub answerIn : List ℕ → Outcome Figures
@@ -32,11 +33,9 @@ answersIn zero ws = []
 answersIn (suc n) ws = answerIn ws ∷ answersIn n (drop 5 ws)
 
 module _ (lock udt start updates before : List ℕ) where
-  -- A call of `replay`: the two lines are what its contract (src/lib.rt) says of its arguments and result, word for word; `before` and `after` is what the
-  -- lent words are before the call and after it.
-  pub record Called (r : Replayed) (after : List ℕ) : Type 0 where
-    pub answer : (answered r, after) ≡ leaves (replayOf lock udt start updates (length before)) before
-    pub bytes : named r start updates ≡ handedBack (replayOf lock udt start updates (length before)) start (inForce (updateForPeer lock udt) start (callsOf updates))
+  -- A call of `replay`: what its contract (src/lib.rt) says of its arguments and result, word for word; `before` and `after` is what the lent words are before the call and after it.
+  abbrev pub Called : Replayed → List ℕ → Type 0
+  Called r after = (answered r, after) ≡ leaves (replayOf lock udt start updates (length before)) before
 
   -- what holds of a call that is done, with these three numbers
   pub record Lawful (n accepted at : ℕ) (after : List ℕ) : Type 0 where

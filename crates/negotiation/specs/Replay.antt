@@ -11,7 +11,7 @@ use Rattle.rules.specs.Judge.{Figures}
 use Rattle.rules.specs.Told.{refusal}
 use Rattle.rules.specs.Run.{handedBack, carried, sum, verdicts, updateForPeer}
 use Rattle.negotiation.specs.declared.Replayed.{Replayed}
-use Rattle.negotiation.specs.Updates.{Updates, callsOf, transactionAt}
+use Rattle.negotiation.specs.Updates.{Updates, callsOf}
 use Rattle.negotiation.specs.Words.{allWords}
 
 -- how many updates, how many of them accepted, and the index of the transaction that is then in force
@@ -49,8 +49,3 @@ leaves (refused n l) out = (refused n l, out)
 abbrev pub answered : Replayed → Outcome Summary
 answered (Replayed.Done updates accepted at) = fine (record { updates = updates; accepted = accepted; at = at })
 answered (Replayed.Refused e) = refusal e
-
--- the transaction that an answer names; after a refusal the one at the start
-abbrev pub named : Replayed → List ℕ → List ℕ → List ℕ
-named (Replayed.Done updates accepted at) start list = transactionAt start list at
-named (Replayed.Refused e) start list = start

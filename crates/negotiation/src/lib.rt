@@ -11,11 +11,11 @@ ghost use Rattle.molecule.specs.Write.{splice};
 ghost use Rattle.rules.specs.Judge.{judge};
 ghost use Rattle.rules.specs.Outcome.{fine};
 ghost use Rattle.rules.specs.Told.{told, inForceOf};
-ghost use Rattle.rules.specs.Run.{handedBack, verdicts, inForce, updateForPeer};
+ghost use Rattle.rules.specs.Run.{verdicts, updateForPeer};
 ghost use Rattle.negotiation.specs.Updates as form;
 ghost use Rattle.negotiation.specs.Updates.{Updates, bytesOf, bytesStart, rateOf, callAt, callsOf, transactionAt, placeAt};
 ghost use Rattle.negotiation.specs.Words.{words};
-ghost use Rattle.negotiation.specs.Replay.{replayOf, leaves, answered, named};
+ghost use Rattle.negotiation.specs.Replay.{replayOf, leaves, answered};
 
 // What a list of updates came to: how many they were, how many were accepted, and which transaction is then in force: 0 for the one at the start, k + 1 for
 // that of update k.
@@ -168,7 +168,6 @@ fn judge_all<'a>(
 ) -> Replayed
     requires { ⌜ (n ≡ itemCount (now updates)) × (5 * n ≤ length (now answers)) ⌝ }
     ensures { λ r. ⌜ (answered r, now (answers .exit)) ≡ leaves (fine (verdicts (updateForPeer (now (lock .entry)) (now (udt .entry))) (now (start .entry)) (callsOf (now (updates .entry))))) (now (answers .entry)) ⌝ }
-    ensures { λ r. ⌜ named r (now (start .entry)) (now (updates .entry)) ≡ inForce (updateForPeer (now (lock .entry)) (now (udt .entry))) (now (start .entry)) (callsOf (now (updates .entry))) ⌝ }
 {
     let mut at = 0;
     let mut accepted = 0;
@@ -197,8 +196,7 @@ pub fn replay<'a>(
     updates: &'a [u8],
     answers: &mut [u64],
 ) -> Replayed
-    ensures answer { λ r. ⌜ (answered r, now (answers .exit)) ≡ leaves (replayOf (now (lock .entry)) (now (udt .entry)) (now (start .entry)) (now (updates .entry)) (length (now (answers .entry)))) (now (answers .entry)) ⌝ }
-    ensures bytes { λ r. ⌜ named r (now (start .entry)) (now (updates .entry)) ≡ handedBack (replayOf (now (lock .entry)) (now (udt .entry)) (now (start .entry)) (now (updates .entry)) (length (now (answers .entry)))) (now (start .entry)) (inForce (updateForPeer (now (lock .entry)) (now (udt .entry))) (now (start .entry)) (callsOf (now (updates .entry)))) ⌝ }
+    ensures { λ r. ⌜ (answered r, now (answers .exit)) ≡ leaves (replayOf (now (lock .entry)) (now (udt .entry)) (now (start .entry)) (now (updates .entry)) (length (now (answers .entry)))) (now (answers .entry)) ⌝ }
 {
     if !is_updates(updates) {
         return Replayed::Refused(Refusal::LentBytesUnreadable);
