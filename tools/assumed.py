@@ -4,7 +4,7 @@
     tools/assumed.py
 
 Every folder of crates/ is listed in crates.txt; no function that another crate can call has a `requires`, and each of the library's has an `ensures` (programs
-that run tests, by their use of `io` or `check`, have none); no proof has a hole, an axiom or a postulate. Prints what it counted, or each place where that is not so, and then ends with 1. It is no verdict: that is `rt ci`.
+that run tests and what they share, known by their use of `io` or `check`, have none); no source declares a C function; no proof has a hole (`?`, `?name`, `{! .. !}`), an axiom or a postulate. Prints what it counted, or each place where that is not so, and then ends with 1. It is no verdict: that is `rt ci`.
 """
 import glob, os, re, sys
 
@@ -13,9 +13,15 @@ TESTS = {'io', 'check'}
 
 
 def functions(text):
-    """(header, name) of each public function: its lines up to the body."""
-    for m in re.finditer(r'^ *pub (?:extern "C" )?fn (\w+).*?^ *\{$|^ *pub (?:extern "C" )?fn (\w+)[^\n]*\{$', text, re.M | re.S):
-        yield m.group(), m.group(1) or m.group(2)
+    """(header, name) of each public function: from its line to the `{` that begins its body, which ends a line and stands behind a balanced header."""
+    for m in re.finditer(r'^ *pub (?:extern "C" )?fn (\w+)', text, re.M):
+        end = m.end()
+        while True:
+            end = text.index('{\n', end) + 1
+            header = text[m.start():end - 1]
+            if header.count('{') == header.count('}') and header.count('(') == header.count(')'):
+                break
+        yield header, m.group(1)
 
 
 def main():
@@ -25,18 +31,20 @@ def main():
     folders = set(os.listdir(os.path.join(HERE, 'crates')))
     wrong += [f'crates/{c}: not in crates.txt' for c in sorted(folders - listed)] + [f'crates.txt: no folder {c}' for c in sorted(listed - folders)]
     for path in sorted(glob.glob(os.path.join(HERE, 'crates/*/src/**/*.rt'), recursive=True)):
-        short = os.path.relpath(path, HERE)
-        for header, name in functions(open(path).read()):
+        short, text = os.path.relpath(path, HERE), open(path).read()
+        if re.search(r'^ *extern "C" *\{', text, re.M):
+            wrong.append(f'{short}: it declares C functions of its own')
+        for header, name in functions(text):
             count += 1
-            if re.search(r'^ *requires\b', header, re.M):
+            if re.search(r'\brequires\b', header):
                 wrong.append(f'{short}: {name} has a `requires`')
-            if not re.search(r'^ *ensures\b', header, re.M) and short.split('/')[1] not in programs:
+            if not re.search(r'\bensures\b', header) and short.split('/')[1] not in programs:
                 wrong.append(f'{short}: {name} has no `ensures`')
     laws = glob.glob(os.path.join(HERE, 'crates/*/proofs/**/*.antt'), recursive=True) + glob.glob(os.path.join(HERE, 'crates/*/specs/**/*.antt'), recursive=True)
     for path in sorted(laws):
         for number, line in enumerate(open(path), 1):
             code = line.split('--')[0]
-            if re.search(r'\b(axiom|postulate|primitive|trustMe)\b|(?<![\w-])\?(?![\w-])', code):
+            if re.search(r'\b(axiom|postulate|primitive|trustMe)\b|(?<![\w-])\?|\{!', code):
                 wrong.append(f'{os.path.relpath(path, HERE)}:{number}: {line.strip()}')
     print('\n'.join(wrong) or f'{len(listed)} crates; {count} public functions, none with a `requires`, each of the library with a contract; no hole and no axiom in {len(laws)} files')
     sys.exit(1 if wrong else 0)

@@ -73,8 +73,8 @@ uint32_t basinpantry_version(const uint8_t *tx, size_t tx_len);
 uint32_t basinpantry_item_count(const uint8_t *tx, size_t tx_len, uint32_t list);
 
 /* Writes item i of a list of a transaction to the start of out: a cell dep (37 bytes), header dep (32), input (44), output (a table), or the bytes of a
-   data entry or a witness. values[0]: how many bytes, and 0 where there is no such item, as for an empty entry (item_count tells which). Each call reads the whole
-   transaction first. Refused: 13. */
+   data entry or a witness. values[0]: how many bytes. Each call reads the whole transaction first. Refused: 1, where tx is no transaction; 3, where there is no such list or no item i;
+   13. */
 uint32_t basinpantry_item(const uint8_t *tx, size_t tx_len, uint32_t list, size_t i, uint8_t *out, size_t out_len, uint64_t *values, size_t values_len);
 
 /* Writes a transaction from its version and six lists. values[0]: how many bytes; 133,116 are always enough. Refused: 3, 13. */

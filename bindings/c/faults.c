@@ -536,7 +536,7 @@ static void call(size_t which) {
         size_t room = value_room();
         uint32_t list = (uint32_t)below(8), n = basinpantry_item_count(S(t), list) + basinpantry_version(S(t));
         r = basinpantry_item(S(t), list, one_in(8) ? (size_t)next() : below(n < 8 ? n + 2 : 8), S(out), values, room);
-        answered(r, BITS(13), room);
+        answered(r, BITS(1, 3, 13), room);
         if (r == 0 && values[0] > out.len) fail("more bytes than the buffer has");
         written[1] = (size_t)values[0];
         break;

@@ -199,7 +199,7 @@ pub fn item_count(tx: &[u8], list: List) -> usize {
     usize::try_from(ffi::item_count(tx, list as u32)).unwrap_or(usize::MAX)
 }
 
-/// Item `i` of a list of a transaction, by the proved reader. Each call reads the whole transaction; [`Transaction::from_bytes`] reads it once for all items.
+/// Item `i` of a list of a transaction, by the proved reader, where there is one. Each call reads the whole transaction; [`Transaction::from_bytes`] reads it once for all items.
 ///
 /// ```
 /// use basinpantry::{List, Transaction, item};
@@ -209,10 +209,7 @@ pub fn item_count(tx: &[u8], list: List) -> usize {
 /// assert_eq!(item(&tx, List::Witnesses, 2), None);
 /// ```
 pub fn item(tx: &[u8], list: List, i: usize) -> Option<Vec<u8>> {
-    if i >= item_count(tx, list) {
-        return None;
-    }
-    // an item is no longer than the transaction
+    // an item is no longer than the transaction; one that there is not is refused
     let mut out = vec![0; tx.len()];
     let [size, ..] = ffi::item(tx, list as u32, i, &mut out).ok()?;
     out.truncate(usize::try_from(size).ok()?);

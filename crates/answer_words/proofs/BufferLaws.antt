@@ -1,11 +1,11 @@
 -- Bytes at the start of a lent buffer, and the verdict line: one law for each way out.
 use mathlib.Core.Path.{_≡_, refl, sym, ap, ap₂, _∙_}
 use Prim.Native.Nat.{ℕ, _+_, _-_, _≤_, _<_}
-use mathlib.Core.Bool.{Bool, true, false, cond, and-false}
+use mathlib.Core.Bool.{Bool, true, false, not, cond, and-false}
 use mathlib.Core.List.{List, [], _∷_, _++_}
 use native.Mathlib.Nat.{zero-add}
 use native.Mathlib.Omega.{arith}
-use borrow.Author.Tests.{le-leb, lt-leb}
+use borrow.Author.Tests.{le-leb, lt-leb, le-ltb, lt-ltb, not-true, not-false}
 use lib.ListN.{length, take, drop}
 use lib.Seq.{take-at, take-all, length-take-le}
 use Rattle.error.specs.declared.Refusal.{Refusal}
@@ -15,6 +15,7 @@ use Rattle.molecule.specs.Molecule.{readable}
 use Rattle.molecule.specs.Write.{splice, putAt, putEnd}
 use Rattle.molecule.proofs.WriteLaws.{put-yes, end-yes, splice-zero}
 use Rattle.transaction.specs.Ckb.{Transaction}
+use Rattle.transaction_lists.specs.Lists.{listIn, itemIn}
 use Rattle.rules.specs.Outcome.{Outcome, fine, refused, check, checkWith, _>>=_, _>>_}
 use Rattle.transaction_writer.specs.declared.Written.{Written}
 use Rattle.transaction_writer.specs.Written as tx
@@ -22,7 +23,7 @@ use Rattle.base_writer.specs.Answer.{inRoom, leaves, written, told}
 use Rattle.words.specs.Words.{inWords, writing}
 use Rattle.words.proofs.WordLaws.{wrote}
 use Rattle.answer_words.specs.Answers.{countWords}
-use Rattle.answer_words.specs.Buffers.{bytesIf, lineFirst}
+use Rattle.answer_words.specs.Buffers.{bytesIf, itemFound, lineFirst}
 
 -- ---- bytes
 
@@ -69,9 +70,21 @@ module _ (right : Bool) (bytes out words : List ℕ) (h : 4 ≤ length words) {w
   unfolding number values
   tx-rewritten e f = wrote countWords _ out words h (rw (e, f) (checked right Refusal.OurTransactionUnreadable bytes out refl)) k
 
-pub item-written : (s x out words : List ℕ) {o : Outcome ℕ} {after : List ℕ} {r : ℕ × List ℕ} → 4 ≤ length words → s ≡ x → (o, after) ≡ written (fine s) out
-    → r ≡ inWords countWords o words → (r, after) ≡ writing countWords (written (fine x) out) out words
-item-written s x out words h g e k = wrote countWords _ out words h (e ∙ rw g) k
+-- ---- an item
+
+module _ (tx : List ℕ) (list i : ℕ) (out : List ℕ) {r : Bool} (er : r ≡ readable Transaction tx) where
+  pub item-unread : not r ≡ true → (told (Written.Refused Refusal.OurTransactionUnreadable), out) ≡ written (itemFound tx list i) out
+  unfolding itemFound inRoom leaves check checkWith _>>=_ _>>_ number values
+  item-unread h = rw (← er, not-true r h)
+
+  module _ (h : not r ≡ false) {n : ℕ} (en : n ≡ length (listIn tx list)) where
+    pub item-none : n ≤ i → (told (Written.Refused Refusal.LentBytesUnreadable), out) ≡ written (itemFound tx list i) out
+    unfolding itemFound inRoom leaves check checkWith _>>=_ _>>_ number values
+    item-none k = rw (← er, not-false r h, ← en, le-ltb i n k)
+
+    pub item-put : {s after : List ℕ} {o : Outcome ℕ} → i < n → s ≡ itemIn tx list i → (o, after) ≡ written (fine s) out → (o, after) ≡ written (itemFound tx list i) out
+    unfolding itemFound inRoom leaves check checkWith _>>=_ _>>_
+    item-put k es e = e ∙ rw (es, ← er, not-false r h, ← en, lt-ltb i n k)
 
 -- ---- the verdict line
 

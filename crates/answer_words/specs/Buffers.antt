@@ -3,7 +3,10 @@ use Prim.Native.Nat.{ℕ}
 use mathlib.Core.Bool.{Bool, cond}
 use mathlib.Core.List.{List, _++_}
 use lib.ListN.{length, drop}
-use lib.Dec.{leb}
+use lib.Dec.{leb, ltb}
+use Rattle.molecule.specs.Molecule.{readable}
+use Rattle.transaction.specs.Ckb.{Transaction}
+use Rattle.transaction_lists.specs.Lists.{listIn, itemIn}
 use Rattle.rules.specs.Outcome.{Outcome, fine, check, _>>_}
 
 -- bytes, refused with n unless the test passes
@@ -11,6 +14,15 @@ unfoldable pub bytesIf : ℕ → Bool → List ℕ → Outcome (List ℕ)
 bytesIf n right bytes = do
   check n right
   fine bytes
+
+-- an item of a list of a transaction, by number and place
+unfoldable pub itemFound : List ℕ → ℕ → ℕ → Outcome (List ℕ)
+itemFound tx list i = do
+  -- no transaction
+  check 1 (readable Transaction tx)
+  -- no such list, or no item at this place
+  check 3 (ltb i (length (listIn tx list)))
+  fine (itemIn tx list i)
 
 -- a line at the start of a buffer that has room for every line, and its length; without that room 0
 unfoldable pub lineFirst : List ℕ → List ℕ → ℕ × List ℕ

@@ -7,7 +7,7 @@ ghost use mathlib.Core.Path.{_≡_};
 ghost use lib.ListN.{take};
 ghost use Rattle.rules.specs.Outcome.{fine};
 ghost use Rattle.base_writer.specs.Answer.{told, written};
-ghost use Rattle.answer_words.specs.Buffers.{lineFirst};
+ghost use Rattle.answer_words.specs.Buffers.{itemFound, lineFirst};
 
 // Puts bytes at the start of out.
 pub fn put_first(s: &[u8], out: &mut [u8]) -> Written
@@ -20,6 +20,21 @@ pub fn put_first(s: &[u8], out: &mut [u8]) -> Written
         return Written::Refused(Refusal::BufferTooShort);
     }
     Written::Wrote(write::put(out, 0, s))
+}
+
+// Puts an item of a list of a transaction at the start of out. Refused, and out as it was: bytes that are no transaction (1), a list or an item that there is not (3), an
+// item over out (13).
+pub fn put_item(tx: &[u8], list: u32, i: usize, out: &mut [u8]) -> Written
+    ensures { λ r. ⌜ (told r, now (out .exit)) ≡ written (itemFound (now (tx .entry)) list i) (now (out .entry)) ⌝ }
+{
+    if !transaction::is_transaction(tx) {
+        return Written::Refused(Refusal::OurTransactionUnreadable);
+    }
+    let n = transaction_lists::item_count(tx, list) as usize;
+    if n <= i {
+        return Written::Refused(Refusal::LentBytesUnreadable);
+    }
+    put_first(transaction_lists::item(tx, list, i), out)
 }
 
 // Puts the first n bytes of a verdict at the start of a buffer that has room for every line, and answers how many they are; without that room 0.

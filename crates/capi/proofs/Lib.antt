@@ -1,4 +1,5 @@
 pub mod CallLaws
+pub mod ReplayLaws
 pub mod TableLaws
 pub mod TableWays
 pub mod Ways

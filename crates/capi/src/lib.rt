@@ -10,7 +10,6 @@ ghost use lib.ListN.{length};
 ghost use Rattle.arithmetic.specs.Amount.{value, halves};
 ghost use Rattle.molecule.specs.Molecule.{readable};
 ghost use Rattle.transaction.specs.Ckb.{OutPoints, Script, Transaction, Records};
-ghost use Rattle.rules.specs.Outcome.{fine};
 ghost use Rattle.rules.specs.Judge.{judge};
 ghost use Rattle.transaction_writer.specs.Written.{inForm, txBytes};
 ghost use Rattle.case_file.specs.CaseFile.{caseLine};
@@ -19,9 +18,9 @@ ghost use Rattle.udt_cells.specs.Change.{udtInputsOutputs};
 ghost use Rattle.base_writer.specs.Answer.{written};
 ghost use Rattle.funding_builder.specs.Base.{buildBase};
 ghost use Rattle.words.specs.Words.{inWords, writing, surplusWords};
-ghost use Rattle.transaction_lists.specs.Lists.{versionOf, listIn, itemIn};
+ghost use Rattle.transaction_lists.specs.Lists.{versionOf, listIn};
 ghost use Rattle.answer_words.specs.Answers.{countWords, cellWords, pickWords, request};
-ghost use Rattle.answer_words.specs.Buffers.{bytesIf, lineFirst};
+ghost use Rattle.answer_words.specs.Buffers.{bytesIf, itemFound, lineFirst};
 
 // Whether s is a transaction.
 #[no_mangle]
@@ -80,13 +79,12 @@ pub extern "C" fn basinpantry_item(
     out: &mut [u8],
     values: &mut [u64],
 ) -> u32
-    ensures { λ r. ⌜ ((r, now (values .exit)), now (out .exit)) ≡ writing countWords (written (fine (itemIn (now (tx .entry)) list i)) (now (out .entry))) (now (out .entry)) (now (values .entry)) ⌝ }
+    ensures { λ r. ⌜ ((r, now (values .exit)), now (out .exit)) ≡ writing countWords (written (itemFound (now (tx .entry)) list i) (now (out .entry))) (now (out .entry)) (now (values .entry)) ⌝ }
 {
     if values.len() < words::WORDS {
         return words::TOO_FEW;
     }
-    let item = transaction_lists::item(tx, list, i);
-    let written = buffers::put_first(item, out);
+    let written = buffers::put_item(tx, list, i, out);
     answer_words::tell_written(written, values)
 }
 

@@ -1,7 +1,8 @@
 // A list of updates judged one after another, from C.
 ghost use mathlib.Core.Path.{_≡_};
-ghost use lib.ListN.{length};
+ghost use lib.ListN.{length, getD};
 ghost use Rattle.negotiation.specs.Replay.{replayOf, leaves};
+ghost use Rattle.negotiation.specs.Law.{Lawful};
 ghost use Rattle.words.specs.Words.{writing};
 ghost use Rattle.answer_words.specs.Answers.{replayWords};
 
@@ -16,6 +17,7 @@ pub extern "C" fn basinpantry_replay<'a>(
     values: &mut [u64],
 ) -> u32
     ensures { λ r. ⌜ ((r, now (values .exit)), now (answers .exit)) ≡ writing replayWords (leaves (replayOf (now (lock .entry)) (now (udt .entry)) (now (start .entry)) (now (updates .entry)) (length (now (answers .entry)))) (now (answers .entry))) (now (answers .entry)) (now (values .entry)) ⌝ }
+    ensures { λ r. ⌜ (r ≡ 0 → Lawful (now (lock .entry)) (now (udt .entry)) (now (start .entry)) (now (updates .entry)) (now (answers .entry)) (getD (now (values .exit)) 0 0) (getD (now (values .exit)) 1 0) (getD (now (values .exit)) 2 0) (now (answers .exit))) ⌝ }
 {
     if values.len() < words::WORDS {
         return words::TOO_FEW;

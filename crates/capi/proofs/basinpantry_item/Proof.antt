@@ -7,8 +7,7 @@ basinpantry-item-spec =
     tie.close
     (tie.spec
     (λ c. search ways)  -- returns
-    (λ c κs. search ways)  -- item-requires
-    (λ c κs. search ways)  -- put-first-requires
+    (λ c κs. search ways)  -- put-item-requires
     (λ c κs. search ways)  -- tell-written-requires
     (λ c. search ways)  -- same-length
     (λ c. search ways)  -- same-length-2

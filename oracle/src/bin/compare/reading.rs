@@ -61,11 +61,13 @@ impl Reading {
             out.push(outcome(0, "item_count", count as usize == items.len()));
             // each of a few, and one beyond
             for i in (0..items.len().min(3)).chain([items.len(), usize::MAX]) {
-                let item = items.get(i).unwrap_or(&none);
-                let fits = item.len() <= input.room;
-                let answer = if fits { (0, item.len() as u64) } else { (13, 0) };
+                let (item, answer) = match items.get(i) {
+                    None => (&none, (if readable(&TRANSACTION, s) { 3 } else { 1 }, 0)),
+                    Some(item) if item.len() > input.room => (&none, (13, 0)),
+                    Some(item) => (item, (0, item.len() as u64)),
+                };
                 let call = |buffer: &mut [u8], words: &mut [u64]| library::item(s, k as u32, i, buffer, words);
-                out.push(written("item", input.room, if fits { item } else { &none }, answer, call));
+                out.push(written("item", input.room, item, answer, call));
             }
         }
         out
