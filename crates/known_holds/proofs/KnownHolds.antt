@@ -2,7 +2,7 @@
 use mathlib.Core.Path.{refl}
 use Rattle.known_cases.specs.Rows.{AllRight}
 use Rattle.known_cases.proofs.Rows.{_and_, done}
-use Rattle.known_holds.specs.Holds.{returning, locking, taking, naming, lent}
+use Rattle.known_holds.specs.Holds.{returning, locking, taking, naming}
 use Rattle.known_holds.proofs.Computing.{computing}
 
 pub known-returning : AllRight returning
@@ -22,7 +22,3 @@ known-taking = refl and refl and refl and refl and refl and refl and refl and re
 pub known-naming : AllRight naming
 unfolding computing
 known-naming = refl and refl and refl and refl and refl and done
-
-pub known-lent : AllRight lent
-unfolding computing
-known-lent = refl and refl and refl and refl and done
