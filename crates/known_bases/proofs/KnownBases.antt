@@ -8,5 +8,5 @@ use Rattle.known_bases.proofs.Computing.{computing}
 pub known-bases : AllRight rows
 unfolding computing
 known-bases =
-    refl and refl and refl and refl and refl and refl and refl and refl and refl and refl
-    and refl and refl and refl and refl and refl and refl and refl and refl and refl and refl and done
+    refl and refl and refl and refl and refl and refl and refl and refl and refl and refl and refl and refl and refl and refl
+    and refl and refl and refl and refl and refl and refl and refl and refl and refl and refl and refl and refl and refl and refl and done
