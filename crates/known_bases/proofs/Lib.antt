@@ -1,3 +1,4 @@
 pub mod Computing
 pub mod KnownBases
 pub mod KnownParts
+pub mod WidthLaws

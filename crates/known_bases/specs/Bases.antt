@@ -7,7 +7,7 @@ use lib.ListN.{replicate}
 use Rattle.arithmetic.specs.LittleEndian.{toLe}
 use Rattle.arithmetic.specs.Amount.{amountOf}
 use Rattle.molecule.specs.Molecule.{Value, encode}
-use Rattle.transaction.specs.Ckb.{CellInput, CellDep, CellDeps, TokenCell, TokenCells}
+use Rattle.transaction.specs.Ckb.{Script, CellDep, CellDeps, TokenCell, TokenCells}
 use Rattle.rules.specs.Outcome.{Outcome, fine, refused}
 use Rattle.funding_cell.specs.declared.{FundingRequest.FundingRequest}
 use Rattle.base_writer.specs.Answer.{written}
@@ -18,18 +18,22 @@ use Rattle.known_cases.specs.Cases.{plainScript, expectedLock, ourLock, tokenTy
 -- ---- what is lent
 
 -- so much local, reserve 7; remote 11, reserve 13
-abbrev request : ℕ → FundingRequest
+abbrev pub request : ℕ → FundingRequest
 request local = record { «local_amount» = amountOf local; «local_reserved_ckb_amount» = 7; «remote_amount» = amountOf 11; «remote_reserved_ckb_amount» = 13 }
 
 abbrev depList : List (Value CellDep) → List ℕ
 depList l = encode CellDeps l
 
 -- from none, under a lock, with a type and our lock; and untyped, under the expected lock
-abbrev scripts : List ℕ → List ℕ → List ℕ → Lent
+abbrev pub scripts : List ℕ → List ℕ → List ℕ → Lent
 scripts lock type source = record { ours = []; lock = lock; udt = type; source = source; cells = encode TokenCells []; udtDeps = []; lockDep = []; extraDeps = depList [] }
 
 abbrev fromNone : Lent
 fromNone = scripts expectedLock [] ourLock
+
+-- a lock whose args have so many bytes
+abbrev pub wideLock : ℕ → List ℕ
+wideLock n = encode Script (replicate 32 0, (0, (replicate n 0, tt)))
 
 -- a token cell of index n, and cells of 30, 50 and 40 tokens
 abbrev pub tokenCell : ℕ → List ℕ → Value TokenCell
@@ -75,7 +79,7 @@ noList = 9 ∷ []
 -- ---- answers
 
 -- 0 and how many bytes are written, or the refusal's number
-abbrev numbers : Outcome ℕ → List ℕ
+abbrev pub numbers : Outcome ℕ → List ℕ
 numbers (fine n) = 0 ∷ n ∷ []
 numbers (refused n l) = n ∷ l
 
@@ -83,10 +87,10 @@ numbers (refused n l) = n ∷ l
 abbrev pub room : ℕ → List ℕ
 room n = replicate n 7
 
-abbrev answer : Lent → ℕ → ℕ → List ℕ
+abbrev pub answer : Lent → ℕ → ℕ → List ℕ
 answer l local n = numbers (written (buildBase l (request local)) (room n) .0)
 
-abbrev buffer : Lent → ℕ → ℕ → List ℕ
+abbrev pub buffer : Lent → ℕ → ℕ → List ℕ
 buffer l local n = written (buildBase l (request local)) (room n) .1
 
 -- "The 85-byte placeholder (sizes 85, 16, 85, 85, then 65 and 65 zero bytes) is fixed"
@@ -159,7 +163,10 @@ rows =
     ∷ (answer (typed threeCells (depList []) []) 70 902 gives 11 ∷ [])
     ∷ (answer (typed threeCells (depList []) (encode CellDep (dep 1))) 70 902 gives 0 ∷ 902 ∷ [])
     ∷ (answer (typed threeCells [] []) 0 902 gives 0 ∷ 526 ∷ [])
-    -- 13: over the lent buffer, which stays as it was
+    -- 13: over the lent buffer, which stays as it was; or over 133,116 bytes (250 and the lock's args), whatever the buffer
     ∷ (answer fromNone 5 249 gives 13 ∷ [])
     ∷ (buffer fromNone 5 249 gives room 249)
+    ∷ (answer (scripts (wideLock 132866) [] ourLock) 5 133116 gives 0 ∷ 133116 ∷ [])
+    ∷ (answer (scripts (wideLock 132867) [] ourLock) 5 133117 gives 13 ∷ [])
+    ∷ (buffer (scripts (wideLock 132867) [] ourLock) 5 133117 gives room 133117)
     ∷ []

@@ -2,15 +2,13 @@
 -- are not refused is among the known outcomes (crates/known_outcomes). proofs/KnownParts.antt proves all rows at once.
 use Prim.Native.Nat.{ℕ, _-_, _^_}
 use mathlib.Core.List.{List, [], _∷_, _++_}
-use mathlib.Core.Bool.{Bool}
-use lib.ListN.{length, replicate}
+use lib.ListN.{replicate}
 use Rattle.arithmetic.specs.Amount.{amountOf}
 use Rattle.error.specs.declared.{Refusal.Refusal}
 use Rattle.error.specs.Refusal.{number}
 use Rattle.molecule.specs.Molecule.{Value, encode, readable}
 use Rattle.transaction.specs.Ckb.{TokenCell, TokenCells, Transaction}
 use Rattle.rules.specs.Outcome.{Outcome, fine, refused}
-use Rattle.rules.specs.Judge.{Figures}
 use Rattle.funding_cell.specs.declared.{FundingRequest.FundingRequest}
 use Rattle.funding_cell.specs.FundingCell.{buildFundingCell}
 use Rattle.udt_cells.specs.Change.{Built, udtInputsOutputs}
