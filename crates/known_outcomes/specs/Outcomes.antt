@@ -22,7 +22,7 @@ use Rattle.funding_cell.specs.FundingCell.{buildFundingCell}
 use Rattle.udt_cells.specs.Change.{Built, udtInputsOutputs}
 use Rattle.case_file.specs.CaseFile.{caseLine}
 use Rattle.known_outcomes.specs.CaseFiles.{ascii, file, fileAt, firstFile}
-use Rattle.known_tables.specs.Exclusions.{listed, excludedBy}
+use Rattle.known_exclusions.specs.Exclusions.{listed, excludedBy}
 use Rattle.known_cases.specs.Rows.{Row, _gives_}
 use Rattle.known_cases.specs.Cases.{plainScript, expectedLock, ourLock, tokenType, inputs, output, plain, token, amount, spending, crowd, cell, notLive, atRate, offer, untyped, numbers, answer}
 
