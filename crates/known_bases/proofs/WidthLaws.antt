@@ -26,8 +26,8 @@ use Rattle.transaction_writer.proofs.PutLaws.{tx-length}
 use Rattle.udt_cells.specs.Pick.{Pick}
 use Rattle.base_writer.specs.Answer.{inRoom, leaves, written}
 use Rattle.funding_builder.specs.Base.{Packed, packed, baseTx, buildBase}
-use Rattle.known_cases.specs.Cases.{ourLock}
-use Rattle.known_bases.specs.Bases.{request, scripts, wideLock, numbers, room, answer, buffer}
+use Rattle.known_cases.specs.Cases.{ourLock, room}
+use Rattle.known_bases.specs.Bases.{request, scripts, wideLock, numbers, answer, buffer}
 use Rattle.known_bases.proofs.Computing.{computing}
 
 -- ---- the lock

@@ -13,7 +13,7 @@ use Rattle.funding_cell.specs.declared.{FundingRequest.FundingRequest}
 use Rattle.base_writer.specs.Answer.{written}
 use Rattle.funding_builder.specs.Base.{Lent, buildBase}
 use Rattle.known_cases.specs.Rows.{Row, _gives_}
-use Rattle.known_cases.specs.Cases.{plainScript, expectedLock, ourLock, tokenType, input, inputs, dep, header, output, plain, token, amount, transaction, spending}
+use Rattle.known_cases.specs.Cases.{plainScript, expectedLock, ourLock, tokenType, input, inputs, dep, header, output, plain, token, amount, room, transaction, spending}
 
 -- ---- what is lent
 
@@ -82,10 +82,6 @@ noList = 9 ∷ []
 abbrev pub numbers : Outcome ℕ → List ℕ
 numbers (fine n) = 0 ∷ n ∷ []
 numbers (refused n l) = n ∷ l
-
--- a buffer of so many bytes, each 7
-abbrev pub room : ℕ → List ℕ
-room n = replicate n 7
 
 abbrev pub answer : Lent → ℕ → ℕ → List ℕ
 answer l local n = numbers (written (buildBase l (request local)) (room n) .0)

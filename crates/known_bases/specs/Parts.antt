@@ -15,8 +15,8 @@ use Rattle.udt_cells.specs.Change.{Built, udtInputsOutputs}
 use Rattle.transaction_writer.specs.declared.{Written.Written}
 use Rattle.transaction_writer.specs.Written.{txBytes, inForm, writes, leaves}
 use Rattle.known_cases.specs.Rows.{Row, _gives_}
-use Rattle.known_cases.specs.Cases.{ourLock, tokenType, amount, usual, numbers}
-use Rattle.known_bases.specs.Bases.{tokenCell, threeCells, noList, room}
+use Rattle.known_cases.specs.Cases.{ourLock, tokenType, amount, room, usual, numbers}
+use Rattle.known_bases.specs.Bases.{tokenCell, threeCells, noList}
 
 -- ---- the funding cell
 

@@ -2,8 +2,9 @@
 use mathlib.Core.Path.{refl}
 use Rattle.hold_records.specs.declared.{Taker.Taker}
 use Rattle.known_cases.specs.Rows.{AllRight}
+use Rattle.known_cases.specs.Cases.{room}
 use Rattle.known_cases.proofs.Rows.{_and_, done}
-use Rattle.known_holds.specs.Holds.{cell, A, B, of1, of2, none, room}
+use Rattle.known_holds.specs.Holds.{cell, A, B, of1, of2, none}
 use Rattle.known_holds.specs.LentHolds.{funded, watched, released, locked, naming, taken}
 use Rattle.known_holds.proofs.Computing.{computing}
 use Rattle.known_holds.proofs.ZerosLaws.{hold-zeros, watch-zeros, release-zeros, lock-zeros, named-zeros, takes-zeros}

@@ -16,7 +16,8 @@ use Rattle.table_bytes.specs.declared.{Place.Place}
 use Rattle.table_bytes.specs.Places.{placeAt, placeOf}
 use Rattle.table_bytes.specs.Lent.{lentTable, lentWith, lentWithTwo, lentRead}
 use Rattle.held_bytes.specs.HeldBytes.{ownerOf, holdOf, heldOf, heldBytes}
-use Rattle.known_holds.specs.Holds.{cell, ms, funding}
+use Rattle.known_cases.specs.Cases.{ms}
+use Rattle.known_holds.specs.Holds.{cell, funding}
 use Rattle.known_holds.specs.LentHolds.{hold, watch, release, lock, named, takes, zeros, ofZeros}
 use Rattle.known_holds.proofs.Computing.{computing}
 

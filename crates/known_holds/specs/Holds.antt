@@ -3,13 +3,13 @@
 use Prim.Native.Nat.{ℕ, _-_, _^_}
 use mathlib.Core.List.{List, [], _∷_, _++_}
 use lib.ListN.{length, replicate}
-use Rattle.units.specs.declared.{Millis.Millis}
 use Rattle.out_points.specs.declared.{OutPoint.OutPoint}
 use Rattle.out_points.specs.OutPoints.{pointList}
 use Rattle.out_points.specs.Tables.{Outcome, done, refused}
 use Rattle.hold_records.specs.declared.{Owner.Owner, Hold.Hold, Held.Held, Taker.Taker}
 use Rattle.hold_records.specs.Holds.{heldBy, holdFunding, holdForWatchtower, releaseForWatchtower, lockHeld, unavailable, takeCells}
 use Rattle.known_cases.specs.Rows.{Row, _gives_}
+use Rattle.known_cases.specs.Cases.{ms, room}
 
 -- ---- what the rows are built from
 
@@ -26,9 +26,6 @@ B = cell 2
 abbrev pub C : OutPoint
 C = cell 3
 
-abbrev pub ms : ℕ → Millis
-ms n = record { 0 = n }
-
 abbrev pub funding : ℕ → OutPoint → Hold
 funding holder p = heldBy (Owner.Funding holder) p
 
@@ -42,7 +39,7 @@ table l = record { records = l; count = length l }
 abbrev others : ℕ → List Hold
 others n = replicate n (funding 5 (cell 0))
 
--- lists of cells; bytes that are none, a count with no items; and a buffer of so many bytes, each 7
+-- lists of cells; and bytes that are none, a count with no items
 abbrev pub of1 : OutPoint → List ℕ
 of1 p = pointList (p ∷ [])
 
@@ -54,9 +51,6 @@ none = pointList []
 
 abbrev pub noList : List ℕ
 noList = 1 ∷ 0 ∷ 0 ∷ 0 ∷ []
-
-abbrev pub room : ℕ → List ℕ
-room n = replicate n 7
 
 -- ---- calls that return the table
 

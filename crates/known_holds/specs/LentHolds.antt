@@ -12,7 +12,8 @@ use Rattle.hold_records.specs.Holds.{holdFunding, holdForWatchtower, releaseFor
 use Rattle.table_bytes.specs.Lent.{After, lentTable, lentWith, lentWithTwo, lentRead}
 use Rattle.held_bytes.specs.HeldBytes.{heldOf, heldBytes}
 use Rattle.known_cases.specs.Rows.{Row, _gives_}
-use Rattle.known_holds.specs.Holds.{cell, A, B, C, ms, funding, tower, of1, of2, none, noList, room}
+use Rattle.known_cases.specs.Cases.{ms, room}
+use Rattle.known_holds.specs.Holds.{cell, A, B, C, funding, tower, of1, of2, none, noList}
 
 -- ---- the calls on bytes s
 
