@@ -9,7 +9,7 @@ pub known-returning : AllRight returning
 unfolding computing
 known-returning =
     refl and refl and refl and refl and refl and refl and refl and refl and refl
-    and refl and refl and refl and refl and refl and refl and refl and refl and done
+    and refl and refl and refl and refl and refl and refl and refl and refl and refl and done
 
 pub known-locking : AllRight locking
 unfolding computing
@@ -17,7 +17,9 @@ known-locking = refl and refl and refl and done
 
 pub known-taking : AllRight taking
 unfolding computing
-known-taking = refl and refl and refl and refl and refl and refl and refl and refl and refl and refl and refl and refl and done
+known-taking =
+    refl and refl and refl and refl and refl and refl and refl and refl
+    and refl and refl and refl and refl and refl and refl and refl and refl and done
 
 pub known-naming : AllRight naming
 unfolding computing

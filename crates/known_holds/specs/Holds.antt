@@ -71,6 +71,7 @@ returning =
     ∷ (holdFunding (table (others 256)) 1 noList gives refused 3 (table (others 256)))
     -- "`hold_for_watchtower` sets the end to now + 1,800,000 (capped at 2^64 - 1), one record per cell"; "New records go last; a renewed watchtower record .. keeps its place"
     ∷ (holdForWatchtower (table (tower 5 A ∷ funding 7 B ∷ [])) (pointList (C ∷ A ∷ B ∷ C ∷ [])) (ms 1000) gives done (tower 1801000 A ∷ funding 7 B ∷ tower 1801000 C ∷ tower 1801000 B ∷ []))
+    ∷ (holdForWatchtower (table []) (of1 A) (ms 1000) gives done (tower 1801000 A ∷ []))
     ∷ (holdForWatchtower (table []) (of1 A) (ms (2 ^ 64 - 1800001)) gives done (tower (2 ^ 64 - 1) A ∷ []))
     ∷ (holdForWatchtower (table []) (of1 A) (ms (2 ^ 64 - 1)) gives done (tower (2 ^ 64 - 1) A ∷ []))
     -- 14, and a cell named twice is one record; ended records count
@@ -106,6 +107,11 @@ taking =
     (takeCells twoHeld (pointList (C ∷ A ∷ B ∷ A ∷ [])) (of1 C) (Taker.Funding 1) (ms 1000) (room 40) (room 112)
     gives (done (funding 7 B ∷ funding 1 A ∷ []), of1 A, pointList (C ∷ B ∷ A ∷ [])))
     ∷ (takeCells twoHeld (of2 A C) none (Taker.Funding 1) (ms 999) (room 41) (room 41) gives (done (tower 1000 A ∷ funding 7 B ∷ funding 1 C ∷ []), of1 C ++ room 1, of1 A ++ room 1))
+    -- held by the watchtower at 1,000: busy at 1,800,999, free at 1,801,000
+    ∷ (takeCells (table (tower 1801000 A ∷ [])) (of1 A) none (Taker.Funding 7) (ms 1800999) (room 4) (room 40) gives (done (tower 1801000 A ∷ []), none, of1 A))
+    ∷ (takeCells (table (tower 1801000 A ∷ [])) (of1 A) none (Taker.Funding 7) (ms 1801000) (room 40) (room 4) gives (done (funding 7 A ∷ []), of1 A, none))
+    -- free A, B; pick A, A, B: taken A, B; refused A
+    ∷ (takeCells (table []) (pointList (A ∷ A ∷ B ∷ [])) none Taker.Watchtower (ms 1000) (room 76) (room 40) gives (done (tower 61000 A ∷ tower 61000 B ∷ []), of2 A B, of1 A))
     -- "for the watchtower until now + 60,000 (capped)"
     ∷ (takeCells (table []) (of1 A) none Taker.Watchtower (ms 1000) (room 40) (room 4) gives (done (tower 61000 A ∷ []), of1 A, none))
     ∷ (takeCells (table []) (of1 A) none Taker.Watchtower (ms (2 ^ 64 - 60000)) (room 40) (room 4) gives (done (tower (2 ^ 64 - 1) A ∷ []), of1 A, none))
@@ -118,6 +124,8 @@ taking =
     -- 13 comes before 14: no room for the taken ones, or for the refused ones
     ∷ (takeCells (table (others 256)) (of1 A) none (Taker.Funding 1) (ms 1000) (room 39) (room 40) gives (refused 13 (table (others 256)), room 39, room 40))
     ∷ (takeCells (table (others 256)) (of1 (cell 0)) none (Taker.Funding 1) (ms 1000) (room 40) (room 39) gives (refused 13 (table (others 256)), room 40, room 39))
+    -- and then an ended record stays
+    ∷ (takeCells (table (tower 1000 B ∷ [])) (of1 A) none Taker.Watchtower (ms 1000) (room 4) (room 4) gives (refused 13 (table (tower 1000 B ∷ [])), room 4, room 4))
     -- 3 before all, of either list
     ∷ (takeCells twoHeld noList none (Taker.Funding 1) (ms 1000) (room 3) (room 3) gives (refused 3 twoHeld, room 3, room 3))
     ∷ (takeCells twoHeld (of1 A) noList (Taker.Funding 1) (ms 1000) (room 3) (room 3) gives (refused 3 twoHeld, room 3, room 3))
