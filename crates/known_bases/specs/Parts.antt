@@ -68,9 +68,9 @@ emptyTx = txBytes 0 none4 none4 none4 noItems noItems noItems
 
 abbrev pub parts : List (Row (List ℕ))
 parts =
-    -- the funding cell: 1, our transaction is unreadable; 3, the type; 7, a sum of 2^64, and of 2^128 tokens
-    (funded noList noList (funding 5 7) gives 1 ∷ [])
-    ∷ (funded [] noList (funding 5 7) gives 3 ∷ [])
+    -- the funding cell: 1, our transaction is unreadable, before the type; 3, the type, before the figures; 7, a sum of 2^64, and of 2^128 tokens
+    (funded noList noList (funding (2 ^ 64) 0) gives 1 ∷ [])
+    ∷ (funded [] noList (funding (2 ^ 64) 0) gives 3 ∷ [])
     ∷ (funded [] [] (funding (2 ^ 64 - 1) 1) gives 7 ∷ [])
     ∷ (funded [] [] (funding (2 ^ 64 - 8) 7) gives 0 ∷ (2 ^ 64 - 1) ∷ 0 ∷ [])
     ∷ (funded usual tokenType (record { «local_amount» = amountOf (2 ^ 128 - 1); «local_reserved_ckb_amount» = 7; «remote_amount» = amountOf 1; «remote_reserved_ckb_amount» = 13 }) gives 7 ∷ [])
