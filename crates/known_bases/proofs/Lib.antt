@@ -1,3 +1,5 @@
 pub mod Computing
 pub mod KnownBases
 pub mod KnownParts
+pub mod KnownPicks
+pub mod WidthLaws

@@ -7,26 +7,33 @@ use lib.ListN.{replicate}
 use Rattle.arithmetic.specs.LittleEndian.{toLe}
 use Rattle.arithmetic.specs.Amount.{amountOf}
 use Rattle.molecule.specs.Molecule.{Value, encode}
-use Rattle.transaction.specs.Ckb.{CellInput, CellDep, CellDeps, TokenCell, TokenCells}
+use Rattle.transaction.specs.Ckb.{Script, CellDep, CellDeps, TokenCell, TokenCells}
 use Rattle.rules.specs.Outcome.{Outcome, fine, refused}
 use Rattle.funding_cell.specs.declared.{FundingRequest.FundingRequest}
 use Rattle.base_writer.specs.Answer.{written}
 use Rattle.funding_builder.specs.Base.{Lent, buildBase}
 use Rattle.known_cases.specs.Rows.{Row, _gives_}
-use Rattle.known_cases.specs.Cases.{plainScript, expectedLock, ourLock, tokenType, input, inputs, dep, output, plain, token, amount, transaction, spending}
+use Rattle.known_cases.specs.Cases.{plainScript, expectedLock, ourLock, tokenType, input, inputs, dep, header, output, plain, token, amount, room, transaction, spending}
 
 -- ---- what is lent
 
 -- so much local, reserve 7; remote 11, reserve 13
-abbrev request : ℕ → FundingRequest
+abbrev pub request : ℕ → FundingRequest
 request local = record { «local_amount» = amountOf local; «local_reserved_ckb_amount» = 7; «remote_amount» = amountOf 11; «remote_reserved_ckb_amount» = 13 }
 
 abbrev depList : List (Value CellDep) → List ℕ
 depList l = encode CellDeps l
 
--- from none, untyped
+-- from none, under a lock, with a type and our lock; and untyped, under the expected lock
+abbrev pub scripts : List ℕ → List ℕ → List ℕ → Lent
+scripts lock type source = record { ours = []; lock = lock; udt = type; source = source; cells = encode TokenCells []; udtDeps = []; lockDep = []; extraDeps = depList [] }
+
 abbrev fromNone : Lent
-fromNone = record { ours = []; lock = expectedLock; udt = []; source = ourLock; cells = encode TokenCells []; udtDeps = []; lockDep = []; extraDeps = depList [] }
+fromNone = scripts expectedLock [] ourLock
+
+-- a lock whose args have so many bytes
+abbrev pub wideLock : ℕ → List ℕ
+wideLock n = encode Script (replicate 32 0, (0, (replicate n 0, tt)))
 
 -- a token cell of index n, and cells of 30, 50 and 40 tokens
 abbrev pub tokenCell : ℕ → List ℕ → Value TokenCell
@@ -35,17 +42,35 @@ tokenCell n d = ((replicate 32 0, (toLe 4 n, tt)), (d, tt))
 abbrev pub threeCells : List (Value TokenCell)
 threeCells = tokenCell 1 (amount 30) ∷ tokenCell 2 (amount 50) ∷ tokenCell 3 (amount 40) ∷ []
 
+-- from none, of the token, with these cells, the token's dep 0 and the lock's dep 1
+abbrev tokenFromNone : List (Value TokenCell) → Lent
+tokenFromNone cells =
+    record { ours = []; lock = expectedLock; udt = tokenType; source = ourLock; cells = encode TokenCells cells; udtDeps = depList (dep 0 ∷ []); lockDep = encode CellDep (dep 1); extraDeps = depList [] }
+
 -- from a transaction of ours with one input, 5 tokens at output 0, and a second output whose data is missing: of the token, with these cells and deps, and the extra deps 2 and 0
 abbrev present : List ℕ
 present = spending (inputs 1) (token 100 ∷ plain 61 ∷ []) (amount 5 ∷ [])
 
+abbrev typedFrom : List ℕ → List (Value TokenCell) → List ℕ → List ℕ → Lent
+typedFrom ours cells udtDeps lockDep =
+    record { ours = ours; lock = expectedLock; udt = tokenType; source = ourLock; cells = encode TokenCells cells; udtDeps = udtDeps; lockDep = lockDep; extraDeps = depList (dep 2 ∷ dep 0 ∷ []) }
+
 abbrev typed : List (Value TokenCell) → List ℕ → List ℕ → Lent
-typed cells udtDeps lockDep =
-    record { ours = present; lock = expectedLock; udt = tokenType; source = ourLock; cells = encode TokenCells cells; udtDeps = udtDeps; lockDep = lockDep; extraDeps = depList (dep 2 ∷ dep 0 ∷ []) }
+typed cells udtDeps lockDep = typedFrom present cells udtDeps lockDep
 
 -- the token's dep is 0, the lock's is 1
 abbrev supplied : List (Value TokenCell) → Lent
 supplied cells = typed cells (depList (dep 0 ∷ [])) (encode CellDep (dep 1))
+
+-- from a transaction of ours with a version, deps, a header dep, three inputs, two outputs after 0, the last without data, and a witness; two cells, and the same deps
+abbrev grown : List ℕ
+grown = transaction 1 (dep 0 ∷ dep 3 ∷ []) (header 9 ∷ []) (inputs 3) (token 100 ∷ plain 61 ∷ plain 62 ∷ []) (amount 5 ∷ (1 ∷ 2 ∷ 3 ∷ []) ∷ []) ((8 ∷ []) ∷ [])
+
+abbrev twoCells : List (Value TokenCell)
+twoCells = tokenCell 11 (amount 30) ∷ tokenCell 12 (amount 50) ∷ []
+
+abbrev onGrown : Lent
+onGrown = typedFrom grown twoCells (depList (dep 0 ∷ [])) (encode CellDep (dep 1))
 
 -- a lent list that is none
 abbrev pub noList : List ℕ
@@ -54,18 +79,14 @@ noList = 9 ∷ []
 -- ---- answers
 
 -- 0 and how many bytes are written, or the refusal's number
-abbrev numbers : Outcome ℕ → List ℕ
+abbrev pub numbers : Outcome ℕ → List ℕ
 numbers (fine n) = 0 ∷ n ∷ []
 numbers (refused n l) = n ∷ l
 
--- a buffer of so many bytes, each 7
-abbrev pub room : ℕ → List ℕ
-room n = replicate n 7
-
-abbrev answer : Lent → ℕ → ℕ → List ℕ
+abbrev pub answer : Lent → ℕ → ℕ → List ℕ
 answer l local n = numbers (written (buildBase l (request local)) (room n) .0)
 
-abbrev buffer : Lent → ℕ → ℕ → List ℕ
+abbrev pub buffer : Lent → ℕ → ℕ → List ℕ
 buffer l local n = written (buildBase l (request local)) (room n) .1
 
 -- "The 85-byte placeholder (sizes 85, 16, 85, 85, then 65 and 65 zero bytes) is fixed"
@@ -84,6 +105,26 @@ tokenBase =
     (amount 81 ∷ [] ∷ amount 10 ∷ [])
     (placeholder ∷ placeholder ∷ [])
 
+-- nothing is picked behind our input: one placeholder; the funding cell has 11 tokens
+abbrev unpickedBase : List ℕ
+unpickedBase = transaction 0 (dep 2 ∷ dep 0 ∷ []) [] (inputs 1) (token 20 ∷ plain 61 ∷ []) (amount 11 ∷ [] ∷ []) (placeholder ∷ [])
+
+-- from none the first picked input has witness 0; the remote figures are unread. With change 10, and with none
+abbrev firstBase : List ℕ
+firstBase =
+    transaction 0 (dep 0 ∷ dep 1 ∷ []) [] (input 1 ∷ input 2 ∷ []) (token 7 ∷ output 1 (some (plainScript 2)) 9000000000 ∷ []) (amount 70 ∷ amount 10 ∷ []) (placeholder ∷ [])
+
+abbrev exactBase : List ℕ
+exactBase = transaction 0 (dep 0 ∷ dep 1 ∷ []) [] (input 1 ∷ input 2 ∷ []) (token 7 ∷ []) (amount 80 ∷ []) (placeholder ∷ [])
+
+-- behind three inputs: empty witnesses for the second and the third; each dep once, where it first stands; version and header dep stay, the witness does not
+abbrev grownBase : List ℕ
+grownBase =
+    transaction 1 (dep 0 ∷ dep 3 ∷ dep 1 ∷ dep 2 ∷ []) (header 9 ∷ []) (input 0 ∷ input 1 ∷ input 2 ∷ input 11 ∷ input 12 ∷ [])
+    (token 20 ∷ plain 61 ∷ plain 62 ∷ output 1 (some (plainScript 2)) 9000000000 ∷ [])
+    (amount 81 ∷ (1 ∷ 2 ∷ 3 ∷ []) ∷ [] ∷ amount 10 ∷ [])
+    (placeholder ∷ [] ∷ [] ∷ placeholder ∷ [])
+
 abbrev pub rows : List (Row (List ℕ))
 rows =
     -- written: from none; and tokens picked behind present inputs. Bytes beyond keep their value
@@ -91,10 +132,18 @@ rows =
     ∷ (buffer fromNone 5 300 gives plainBase ++ room 50)
     ∷ (answer (supplied threeCells) 70 902 gives 0 ∷ 902 ∷ [])
     ∷ (buffer (supplied threeCells) 70 902 gives tokenBase)
+    ∷ (buffer (typed threeCells [] []) 0 526 gives unpickedBase)
+    ∷ (answer (tokenFromNone threeCells) 70 640 gives 0 ∷ 639 ∷ [])
+    ∷ (buffer (tokenFromNone threeCells) 70 640 gives firstBase ++ room 1)
+    ∷ (buffer (tokenFromNone threeCells) 80 482 gives exactBase ++ room 1)
+    ∷ (answer onGrown 70 1170 gives 0 ∷ 1167 ∷ [])
+    ∷ (buffer onGrown 70 1170 gives grownBase ++ room 3)
     -- 1: our transaction is unreadable
     ∷ (answer (record { ours = noList; lock = noList; udt = []; source = ourLock; cells = []; udtDeps = []; lockDep = []; extraDeps = [] }) 5 300 gives 1 ∷ [])
-    -- 3: a script, or a lent list
-    ∷ (answer (record { ours = []; lock = noList; udt = []; source = ourLock; cells = encode TokenCells []; udtDeps = []; lockDep = []; extraDeps = depList [] }) 5 300 gives 3 ∷ [])
+    -- 3: a script, the funding lock, the type or our lock; or a lent list
+    ∷ (answer (scripts noList [] ourLock) 5 300 gives 3 ∷ [])
+    ∷ (answer (scripts expectedLock noList ourLock) 5 300 gives 3 ∷ [])
+    ∷ (answer (scripts expectedLock [] noList) 5 300 gives 3 ∷ [])
     ∷ (answer (record { ours = []; lock = expectedLock; udt = []; source = ourLock; cells = noList; udtDeps = []; lockDep = []; extraDeps = depList [] }) 5 300 gives 3 ∷ [])
     ∷ (answer (typed threeCells noList (encode CellDep (dep 1))) 70 902 gives 3 ∷ [])
     ∷ (answer (typed threeCells (depList []) noList) 70 902 gives 3 ∷ [])
@@ -110,7 +159,10 @@ rows =
     ∷ (answer (typed threeCells (depList []) []) 70 902 gives 11 ∷ [])
     ∷ (answer (typed threeCells (depList []) (encode CellDep (dep 1))) 70 902 gives 0 ∷ 902 ∷ [])
     ∷ (answer (typed threeCells [] []) 0 902 gives 0 ∷ 526 ∷ [])
-    -- 13: over the lent buffer, which stays as it was
+    -- 13: over the lent buffer, which stays as it was; or over 133,116 bytes (250 and the lock's args), whatever the buffer
     ∷ (answer fromNone 5 249 gives 13 ∷ [])
     ∷ (buffer fromNone 5 249 gives room 249)
+    ∷ (answer (scripts (wideLock 132866) [] ourLock) 5 133116 gives 0 ∷ 133116 ∷ [])
+    ∷ (answer (scripts (wideLock 132867) [] ourLock) 5 133117 gives 13 ∷ [])
+    ∷ (buffer (scripts (wideLock 132867) [] ourLock) 5 133117 gives room 133117)
     ∷ []

@@ -2,23 +2,21 @@
 -- are not refused is among the known outcomes (crates/known_outcomes). proofs/KnownParts.antt proves all rows at once.
 use Prim.Native.Nat.{ℕ, _-_, _^_}
 use mathlib.Core.List.{List, [], _∷_, _++_}
-use mathlib.Core.Bool.{Bool}
-use lib.ListN.{length, replicate}
+use lib.ListN.{replicate}
 use Rattle.arithmetic.specs.Amount.{amountOf}
 use Rattle.error.specs.declared.{Refusal.Refusal}
 use Rattle.error.specs.Refusal.{number}
 use Rattle.molecule.specs.Molecule.{Value, encode, readable}
 use Rattle.transaction.specs.Ckb.{TokenCell, TokenCells, Transaction}
 use Rattle.rules.specs.Outcome.{Outcome, fine, refused}
-use Rattle.rules.specs.Judge.{Figures}
 use Rattle.funding_cell.specs.declared.{FundingRequest.FundingRequest}
 use Rattle.funding_cell.specs.FundingCell.{buildFundingCell}
 use Rattle.udt_cells.specs.Change.{Built, udtInputsOutputs}
 use Rattle.transaction_writer.specs.declared.{Written.Written}
 use Rattle.transaction_writer.specs.Written.{txBytes, inForm, writes, leaves}
 use Rattle.known_cases.specs.Rows.{Row, _gives_}
-use Rattle.known_cases.specs.Cases.{ourLock, tokenType, amount, usual, numbers}
-use Rattle.known_bases.specs.Bases.{tokenCell, threeCells, noList, room}
+use Rattle.known_cases.specs.Cases.{ourLock, tokenType, amount, room, usual, numbers}
+use Rattle.known_bases.specs.Bases.{tokenCell, threeCells, noList}
 
 -- ---- the funding cell
 
@@ -70,9 +68,9 @@ emptyTx = txBytes 0 none4 none4 none4 noItems noItems noItems
 
 abbrev pub parts : List (Row (List ℕ))
 parts =
-    -- the funding cell: 1, our transaction is unreadable; 3, the type; 7, a sum of 2^64, and of 2^128 tokens
-    (funded noList noList (funding 5 7) gives 1 ∷ [])
-    ∷ (funded [] noList (funding 5 7) gives 3 ∷ [])
+    -- the funding cell: 1, our transaction is unreadable, before the type; 3, the type, before the figures; 7, a sum of 2^64, and of 2^128 tokens
+    (funded noList noList (funding (2 ^ 64) 0) gives 1 ∷ [])
+    ∷ (funded [] noList (funding (2 ^ 64) 0) gives 3 ∷ [])
     ∷ (funded [] [] (funding (2 ^ 64 - 1) 1) gives 7 ∷ [])
     ∷ (funded [] [] (funding (2 ^ 64 - 8) 7) gives 0 ∷ (2 ^ 64 - 1) ∷ 0 ∷ [])
     ∷ (funded usual tokenType (record { «local_amount» = amountOf (2 ^ 128 - 1); «local_reserved_ckb_amount» = 7; «remote_amount» = amountOf 1; «remote_reserved_ckb_amount» = 13 }) gives 7 ∷ [])

@@ -4,6 +4,7 @@ use mathlib.Core.List.{List, [], _∷_}
 use mathlib.Core.Option.{none, some}
 use lib.ListN.{replicate}
 use Rattle.arithmetic.specs.LittleEndian.{toLe}
+use Rattle.units.specs.declared.{Millis.Millis}
 use Rattle.molecule.specs.Molecule.{option, Value, encode}
 use Rattle.molecule.specs.Layout.{span}
 use Rattle.transaction.specs.Ckb.{Byte32, Script, CellDep, CellInput, CellOutput, Transaction, Record, Records}
@@ -55,6 +56,13 @@ token shannons = output 0 (some (plainScript 2)) shannons
 
 abbrev pub amount : ℕ → List ℕ
 amount n = toLe 16 n
+
+abbrev pub ms : ℕ → Millis
+ms n = record { 0 = n }
+
+-- a buffer of so many bytes, each 7
+abbrev pub room : ℕ → List ℕ
+room n = replicate n 7
 
 -- ---- transactions: version, cell deps, header deps, inputs, outputs and their data
 

@@ -1,2 +1,4 @@
 pub mod Computing
 pub mod KnownHolds
+pub mod KnownLentHolds
+pub mod ZerosLaws

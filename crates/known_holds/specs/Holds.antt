@@ -1,42 +1,35 @@
--- The calls on the table of holds worked through, by value and on lent bytes: an example of each answer and of each sentence of 01-scope.md ("Holds and exclusions") about them, with the whole table
+-- The calls on the table of holds by value worked through: an example of each answer and of each sentence of 01-scope.md ("Holds and exclusions") about them, with the whole table
 -- and the whole buffers after the call. proofs/KnownHolds.antt proves all rows.
 use Prim.Native.Nat.{ℕ, _-_, _^_}
 use mathlib.Core.List.{List, [], _∷_, _++_}
 use lib.ListN.{length, replicate}
-use Rattle.arithmetic.specs.LittleEndian.{toLe}
-use Rattle.units.specs.declared.{Millis.Millis}
-use Rattle.molecule.specs.Write.{putAt}
 use Rattle.out_points.specs.declared.{OutPoint.OutPoint}
-use Rattle.out_points.specs.OutPoints.{pointBytes, pointList}
+use Rattle.out_points.specs.OutPoints.{pointList}
 use Rattle.out_points.specs.Tables.{Outcome, done, refused}
 use Rattle.hold_records.specs.declared.{Owner.Owner, Hold.Hold, Held.Held, Taker.Taker}
 use Rattle.hold_records.specs.Holds.{heldBy, holdFunding, holdForWatchtower, releaseForWatchtower, lockHeld, unavailable, takeCells}
-use Rattle.table_bytes.specs.Lent.{After, lentTable}
-use Rattle.held_bytes.specs.HeldBytes.{heldOf, heldBytes}
 use Rattle.known_cases.specs.Rows.{Row, _gives_}
+use Rattle.known_cases.specs.Cases.{ms, room}
 
 -- ---- what the rows are built from
 
 -- cells of the transaction whose hash is zeros, by their index
-abbrev cell : ℕ → OutPoint
+abbrev pub cell : ℕ → OutPoint
 cell n = record { hash = record { a = 0; b = 0; c = 0; d = 0 }; index = n }
 
-abbrev A : OutPoint
+abbrev pub A : OutPoint
 A = cell 1
 
-abbrev B : OutPoint
+abbrev pub B : OutPoint
 B = cell 2
 
-abbrev C : OutPoint
+abbrev pub C : OutPoint
 C = cell 3
 
-abbrev ms : ℕ → Millis
-ms n = record { 0 = n }
-
-abbrev funding : ℕ → OutPoint → Hold
+abbrev pub funding : ℕ → OutPoint → Hold
 funding holder p = heldBy (Owner.Funding holder) p
 
-abbrev tower : ℕ → OutPoint → Hold
+abbrev pub tower : ℕ → OutPoint → Hold
 tower end p = heldBy (Owner.Watchtower (ms end)) p
 
 abbrev table : List Hold → Held
@@ -46,21 +39,18 @@ table l = record { records = l; count = length l }
 abbrev others : ℕ → List Hold
 others n = replicate n (funding 5 (cell 0))
 
--- lists of cells; bytes that are none, a count with no items; and a buffer of so many bytes, each 7
-abbrev of1 : OutPoint → List ℕ
+-- lists of cells; and bytes that are none, a count with no items
+abbrev pub of1 : OutPoint → List ℕ
 of1 p = pointList (p ∷ [])
 
-abbrev of2 : OutPoint → OutPoint → List ℕ
+abbrev pub of2 : OutPoint → OutPoint → List ℕ
 of2 p q = pointList (p ∷ q ∷ [])
 
-abbrev none : List ℕ
+abbrev pub none : List ℕ
 none = pointList []
 
-abbrev noList : List ℕ
+abbrev pub noList : List ℕ
 noList = 1 ∷ 0 ∷ 0 ∷ 0 ∷ []
-
-abbrev room : ℕ → List ℕ
-room n = replicate n 7
 
 -- ---- calls that return the table
 
@@ -81,6 +71,7 @@ returning =
     ∷ (holdFunding (table (others 256)) 1 noList gives refused 3 (table (others 256)))
     -- "`hold_for_watchtower` sets the end to now + 1,800,000 (capped at 2^64 - 1), one record per cell"; "New records go last; a renewed watchtower record .. keeps its place"
     ∷ (holdForWatchtower (table (tower 5 A ∷ funding 7 B ∷ [])) (pointList (C ∷ A ∷ B ∷ C ∷ [])) (ms 1000) gives done (tower 1801000 A ∷ funding 7 B ∷ tower 1801000 C ∷ tower 1801000 B ∷ []))
+    ∷ (holdForWatchtower (table []) (of1 A) (ms 1000) gives done (tower 1801000 A ∷ []))
     ∷ (holdForWatchtower (table []) (of1 A) (ms (2 ^ 64 - 1800001)) gives done (tower (2 ^ 64 - 1) A ∷ []))
     ∷ (holdForWatchtower (table []) (of1 A) (ms (2 ^ 64 - 1)) gives done (tower (2 ^ 64 - 1) A ∷ []))
     -- 14, and a cell named twice is one record; ended records count
@@ -116,6 +107,11 @@ taking =
     (takeCells twoHeld (pointList (C ∷ A ∷ B ∷ A ∷ [])) (of1 C) (Taker.Funding 1) (ms 1000) (room 40) (room 112)
     gives (done (funding 7 B ∷ funding 1 A ∷ []), of1 A, pointList (C ∷ B ∷ A ∷ [])))
     ∷ (takeCells twoHeld (of2 A C) none (Taker.Funding 1) (ms 999) (room 41) (room 41) gives (done (tower 1000 A ∷ funding 7 B ∷ funding 1 C ∷ []), of1 C ++ room 1, of1 A ++ room 1))
+    -- held by the watchtower at 1,000: busy at 1,800,999, free at 1,801,000
+    ∷ (takeCells (table (tower 1801000 A ∷ [])) (of1 A) none (Taker.Funding 7) (ms 1800999) (room 4) (room 40) gives (done (tower 1801000 A ∷ []), none, of1 A))
+    ∷ (takeCells (table (tower 1801000 A ∷ [])) (of1 A) none (Taker.Funding 7) (ms 1801000) (room 40) (room 4) gives (done (funding 7 A ∷ []), of1 A, none))
+    -- free A, B; pick A, A, B: taken A, B; refused A
+    ∷ (takeCells (table []) (pointList (A ∷ A ∷ B ∷ [])) none Taker.Watchtower (ms 1000) (room 76) (room 40) gives (done (tower 61000 A ∷ tower 61000 B ∷ []), of2 A B, of1 A))
     -- "for the watchtower until now + 60,000 (capped)"
     ∷ (takeCells (table []) (of1 A) none Taker.Watchtower (ms 1000) (room 40) (room 4) gives (done (tower 61000 A ∷ []), of1 A, none))
     ∷ (takeCells (table []) (of1 A) none Taker.Watchtower (ms (2 ^ 64 - 60000)) (room 40) (room 4) gives (done (tower (2 ^ 64 - 1) A ∷ []), of1 A, none))
@@ -128,6 +124,8 @@ taking =
     -- 13 comes before 14: no room for the taken ones, or for the refused ones
     ∷ (takeCells (table (others 256)) (of1 A) none (Taker.Funding 1) (ms 1000) (room 39) (room 40) gives (refused 13 (table (others 256)), room 39, room 40))
     ∷ (takeCells (table (others 256)) (of1 (cell 0)) none (Taker.Funding 1) (ms 1000) (room 40) (room 39) gives (refused 13 (table (others 256)), room 40, room 39))
+    -- and then an ended record stays
+    ∷ (takeCells (table (tower 1000 B ∷ [])) (of1 A) none Taker.Watchtower (ms 1000) (room 4) (room 4) gives (refused 13 (table (tower 1000 B ∷ [])), room 4, room 4))
     -- 3 before all, of either list
     ∷ (takeCells twoHeld noList none (Taker.Funding 1) (ms 1000) (room 3) (room 3) gives (refused 3 twoHeld, room 3, room 3))
     ∷ (takeCells twoHeld (of1 A) noList (Taker.Funding 1) (ms 1000) (room 3) (room 3) gives (refused 3 twoHeld, room 3, room 3))
@@ -143,23 +141,4 @@ naming =
     ∷ (unavailable twoHeld (of1 B) none (ms 1000) (room 39) gives (13, room 39))
     ∷ (unavailable twoHeld noList none (ms 1000) (room 40) gives (3, room 40))
     ∷ (unavailable twoHeld (of1 B) noList (ms 1000) (room 40) gives (3, room 40))
-    ∷ []
-
--- ---- on lent bytes
-
--- no record, and bytes behind; and one record of a kind that is not named, which is the watchtower's
-abbrev lentNone : List ℕ
-lentNone = toLe 4 0 ++ room 12288
-
-abbrev lentOdd : List ℕ
-lentOdd = toLe 4 1 ++ pointBytes A ++ toLe 4 9 ++ toLe 8 5 ++ replicate 12240 0
-
-abbrev pub lent : List (Row (After (List Hold)))
-lent =
-    -- what is done is put over the bytes, and those behind it keep their value
-    (lentTable heldBytes 12292 lentNone (holdFunding (heldOf lentNone) 1 (of1 A)) gives done (funding 1 A ∷ [], putAt lentNone 0 (toLe 4 1 ++ pointBytes A ++ toLe 4 0 ++ toLe 8 1)))
-    ∷ (lentTable heldBytes 12292 lentOdd (holdFunding (heldOf lentOdd) 1 none) gives done (tower 5 A ∷ [], putAt lentOdd 0 (toLe 4 1 ++ pointBytes A ++ toLe 4 1 ++ toLe 8 5)))
-    -- a refusal leaves them; a table of another length is 3
-    ∷ (lentTable heldBytes 12292 lentNone (holdFunding (heldOf lentNone) 1 noList) gives refused 3 lentNone)
-    ∷ (lentTable heldBytes 12292 (room 12291) (holdFunding (heldOf (room 12291)) 1 (of1 A)) gives refused 3 (room 12291))
     ∷ []

@@ -3,7 +3,7 @@ use mathlib.Core.Path.{refl}
 use Rattle.known_outcomes.specs.Outcomes.{outcomes}
 use Rattle.known_outcomes.proofs.Computing.{computing}
 use Rattle.known_cases.proofs.Largest.{bytes-pass, bytes-over}
-use Rattle.known_tables.proofs.KnownExclusions.{kept-at-99, kept-at-112, dropped-at-113}
+use Rattle.known_exclusions.proofs.KnownExclusions.{kept-at-99, kept-at-112, dropped-at-113}
 use Rattle.known_cases.specs.Rows.{AllRight}
 use Rattle.known_cases.proofs.Rows.{_and_, done}
 

@@ -11,7 +11,6 @@ use Rattle.units.specs.Fee.{requiredFee, changeCapacity}
 use Rattle.molecule.specs.Molecule.{Value, encode}
 use Rattle.transaction.specs.Ckb.{Script, CellOutput, TokenCell, TokenCells}
 use Rattle.rules.specs.Outcome as verdict
-use Rattle.units.specs.declared.{Millis.Millis}
 use Rattle.out_points.specs.declared.{OutPoint.OutPoint}
 use Rattle.out_points.specs.OutPoints.{pointList}
 use Rattle.out_points.specs.Tables as table
@@ -22,9 +21,9 @@ use Rattle.funding_cell.specs.FundingCell.{buildFundingCell}
 use Rattle.udt_cells.specs.Change.{Built, udtInputsOutputs}
 use Rattle.case_file.specs.CaseFile.{caseLine}
 use Rattle.known_outcomes.specs.CaseFiles.{ascii, file, fileAt, firstFile}
-use Rattle.known_tables.specs.Exclusions.{listed, excludedBy}
+use Rattle.known_exclusions.specs.Exclusions.{listed, excludedBy}
 use Rattle.known_cases.specs.Rows.{Row, _gives_}
-use Rattle.known_cases.specs.Cases.{plainScript, expectedLock, ourLock, tokenType, inputs, output, plain, token, amount, spending, crowd, cell, notLive, atRate, offer, untyped, numbers, answer}
+use Rattle.known_cases.specs.Cases.{plainScript, expectedLock, ourLock, tokenType, inputs, output, plain, token, amount, ms, spending, crowd, cell, notLive, atRate, offer, untyped, numbers, answer}
 
 abbrev bytes : List ℕ → List ℕ
 bytes s = length s ∷ []
@@ -68,9 +67,6 @@ cellA = record { hash = record { a = 0; b = 0; c = 0; d = 0 }; index = 1 }
 
 abbrev pub cellB : OutPoint
 cellB = record { hash = record { a = 0; b = 0; c = 0; d = 0 }; index = 2 }
-
-abbrev pub ms : ℕ → Millis
-ms n = record { 0 = n }
 
 -- room for so many out points
 abbrev pub room : ℕ → List ℕ

@@ -2,5 +2,4 @@ pub mod ChangeLaws
 pub mod OutputReads
 pub mod PickLaws
 pub mod PickTheorems
-pub mod Examples
 pub mod Ways

@@ -1,5 +1,4 @@
 pub mod CallLaws
-pub mod Examples
 pub mod HintLaws
 pub mod RenewLaws
 pub mod TestLaws

@@ -12,9 +12,9 @@ use Rattle.exclusion_entries.specs.Entries.{mapBytes, FitEntry}
 use Rattle.exclusion_entries.specs.LentMap.{left}
 use Rattle.known_cases.specs.Rows.{AllRight}
 use Rattle.known_cases.proofs.Rows.{_and_, done}
-use Rattle.known_tables.specs.Exclusions.{add, commit, zeros, lent, hash, spends, room, listed, pendingOf, committedOf, transactions, pending7, committed7, two, three, twice, excludedBy, noMap, unread, full, works, doubled, lists}
-use Rattle.known_tables.proofs.Computing.{computing}
-use Rattle.known_tables.proofs.LentLaws.{Holds, add-on, commit-on, remove-on, truncate-on, migrate-on, apply-on, left-holds, zeros-hold, lent-holds, pending-fits, committed-fits, transactions-fit}
+use Rattle.known_exclusions.specs.Exclusions.{add, commit, zeros, lent, hash, spends, room, listed, pendingOf, committedOf, transactions, pending7, committed7, two, three, twice, excludedBy, noMap, unread, full, works, doubled, lists}
+use Rattle.known_exclusions.proofs.Computing.{computing}
+use Rattle.known_exclusions.proofs.LentLaws.{Holds, add-on, commit-on, remove-on, truncate-on, migrate-on, apply-on, left-holds, zeros-hold, lent-holds, pending-fits, committed-fits, transactions-fit}
 
 pub known-no-map : AllRight noMap
 unfolding computing
