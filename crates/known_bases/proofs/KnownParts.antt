@@ -13,5 +13,6 @@ use Rattle.known_bases.proofs.Computing.{computing}
 pub known-parts : AllRight parts
 unfolding computing number buildFundingCell pick putFirst withChange lent unlessRefused udtInputsOutputs inForm writes leaves
 known-parts =
-    refl and refl and refl and refl and refl and refl and refl and refl and refl
+    refl and refl and refl and refl and refl and refl and refl and refl and refl and refl and refl and refl and refl and refl and refl
+    and refl and refl and refl and refl
     and refl and refl and refl and refl and refl and refl and refl and refl and done

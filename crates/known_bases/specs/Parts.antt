@@ -1,5 +1,5 @@
 -- The other calls of our own side, and the writers of a transaction, worked through: lent bytes that reach each of their refusals, and what then stands in the buffer. What they do when they
--- are not refused is among the known outcomes (crates/known_outcomes). proofs/KnownParts.antt proves all rows at once.
+-- are not refused is among the known outcomes (crates/known_outcomes), but for figures of the funding cell on which wrong rules answer otherwise. proofs/KnownParts.antt proves all rows at once.
 use Prim.Native.Nat.{ℕ, _-_, _^_}
 use mathlib.Core.List.{List, [], _∷_, _++_}
 use lib.ListN.{replicate}
@@ -15,14 +15,26 @@ use Rattle.udt_cells.specs.Change.{Built, udtInputsOutputs}
 use Rattle.transaction_writer.specs.declared.{Written.Written}
 use Rattle.transaction_writer.specs.Written.{txBytes, inForm, writes, leaves}
 use Rattle.known_cases.specs.Rows.{Row, _gives_}
-use Rattle.known_cases.specs.Cases.{ourLock, tokenType, amount, room, usual, numbers}
+use Rattle.known_cases.specs.Cases.{ourLock, tokenType, inputs, plain, amount, room, spending, usual, numbers}
 use Rattle.known_bases.specs.Bases.{tokenCell, threeCells, noList}
 
 -- ---- the funding cell
 
--- so much local and so much in reserve, and nothing remote
+-- so much local and so much in reserve, and the same of the remote side
+abbrev sides : ℕ → ℕ → ℕ → ℕ → FundingRequest
+sides local reserve remote remoteReserve =
+    record { «local_amount» = amountOf local; «local_reserved_ckb_amount» = reserve; «remote_amount» = amountOf remote; «remote_reserved_ckb_amount» = remoteReserve }
+
+-- nothing remote
 abbrev funding : ℕ → ℕ → FundingRequest
-funding local reserve = record { «local_amount» = amountOf local; «local_reserved_ckb_amount» = reserve; «remote_amount» = amountOf 0; «remote_reserved_ckb_amount» = 0 }
+funding local reserve = sides local reserve 0 0
+
+-- one input and no outputs; one output and no inputs
+abbrev inputOnly : List ℕ
+inputOnly = spending (inputs 1) [] []
+
+abbrev outputOnly : List ℕ
+outputOnly = spending [] (plain 100 ∷ []) ([] ∷ [])
 
 abbrev funded : List ℕ → List ℕ → FundingRequest → List ℕ
 funded ours type request = numbers (buildFundingCell ours type request)
@@ -73,7 +85,24 @@ parts =
     ∷ (funded [] noList (funding (2 ^ 64) 0) gives 3 ∷ [])
     ∷ (funded [] [] (funding (2 ^ 64 - 1) 1) gives 7 ∷ [])
     ∷ (funded [] [] (funding (2 ^ 64 - 8) 7) gives 0 ∷ (2 ^ 64 - 1) ∷ 0 ∷ [])
-    ∷ (funded usual tokenType (record { «local_amount» = amountOf (2 ^ 128 - 1); «local_reserved_ckb_amount» = 7; «remote_amount» = amountOf 1; «remote_reserved_ckb_amount» = 13 }) gives 7 ∷ [])
+    ∷ (funded usual tokenType (sides (2 ^ 128 - 1) 7 1 13) gives 7 ∷ [])
+    -- typed, the reserves come to 2^64, or to one less; not 2^64 as capacity, as if only amounts were held to their width
+    ∷ (funded usual tokenType (sides 5 (2 ^ 64 - 1) 11 1) gives 7 ∷ [])
+    ∷ (funded usual tokenType (sides 5 (2 ^ 64 - 2) 11 1) gives 0 ∷ (2 ^ 64 - 1) ∷ 16 ∷ [])
+    -- untyped, both sides together come to 2^64; not as if each side were held to it by itself
+    ∷ (funded usual [] (sides (2 ^ 63 - 7) 7 (2 ^ 63 - 13) 13) gives 7 ∷ [])
+    -- an untyped amount of 2^64; not 7 shannons, as if its low half were taken
+    ∷ (funded [] [] (funding (2 ^ 64) 7) gives 7 ∷ [])
+    -- funded is a transaction with outputs: ours has an input and none, untyped and typed; not 36, nor 20 and 16, as if any transaction or any input were enough
+    ∷ (funded inputOnly [] (sides 5 7 11 13) gives 0 ∷ 12 ∷ 0 ∷ [])
+    ∷ (funded inputOnly tokenType (sides 5 7 11 13) gives 0 ∷ 7 ∷ 5 ∷ [])
+    -- ours has an output and no inputs; not 12, as if inputs were needed
+    ∷ (funded outputOnly [] (sides 5 7 11 13) gives 0 ∷ 36 ∷ 0 ∷ [])
+    -- unfunded, the remote figures are unread: with them the sums would be 2^64 or more, and 2^128 tokens or more; not 7
+    ∷ (funded inputOnly [] (sides 5 7 (2 ^ 128 - 1) (2 ^ 64 - 1)) gives 0 ∷ 12 ∷ 0 ∷ [])
+    ∷ (funded inputOnly tokenType (sides 5 7 (2 ^ 128 - 1) (2 ^ 64 - 1)) gives 0 ∷ 7 ∷ 5 ∷ [])
+    -- the type unreadable, and reserves of 2^64; not 7
+    ∷ (funded usual noList (sides 5 (2 ^ 64 - 1) 11 1) gives 3 ∷ [])
     -- the token pick: 3, the list of cells, the type, our lock; 12, data under 16 bytes; 10, a total of 2^128; 13, no room for the change output of 130 bytes
     ∷ (pick noList tokenType ourLock 70 132 gives 3 ∷ room 132)
     ∷ (pick (cellList threeCells) noList ourLock 70 132 gives 3 ∷ room 132)

@@ -1,3 +1,4 @@
 pub mod Computing
 pub mod KnownLines
+pub mod KnownPrinted
 pub mod LinesLaw

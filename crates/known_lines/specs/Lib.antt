@@ -1,2 +1,3 @@
 pub mod Alone
 pub mod Lines
+pub mod Printed

@@ -1,0 +1,10 @@
+-- Every line is what the definitions compute.
+use mathlib.Core.Path.{refl}
+use Rattle.known_cases.specs.Rows.{AllRight}
+use Rattle.known_cases.proofs.Rows.{_and_, done}
+use Rattle.known_outcomes.proofs.Computing.{computing}
+use Rattle.known_lines.specs.Printed.{printed}
+
+pub known-printed : AllRight printed
+unfolding computing
+known-printed = refl and refl and refl and refl and refl and refl and refl and refl and refl and refl and refl and refl and done
