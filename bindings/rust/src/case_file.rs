@@ -3,7 +3,7 @@ use crate::cells::record;
 use crate::ffi;
 use crate::molecule;
 use crate::refusal::Refusal;
-use crate::update::{Accepted, Update, update_for_peer};
+use crate::update::{Accepted, PeerUpdate, update_for_peer};
 use std::fmt;
 
 /// The longest case file that [`check_case`] judges; [`CaseFile::judge`] has no such bound.
@@ -258,7 +258,7 @@ impl CaseFile {
     /// ```
     pub fn judge(&self) -> Result<Accepted, Refusal> {
         let records = self.records_bytes();
-        let Update { peer, records, source, rate } = self.update(&records);
+        let PeerUpdate { peer, records, source, rate } = self.update(&records);
         update_for_peer(&self.ours, peer, &self.lock, &self.udt, source, rate, records)
     }
 
@@ -268,8 +268,8 @@ impl CaseFile {
     /// let case = basinpantry::CaseFile { rate: 7, ..Default::default() };
     /// assert_eq!(case.update(&case.records_bytes()).rate, 7);
     /// ```
-    pub fn update<'a>(&'a self, records: &'a [u8]) -> Update<'a> {
-        Update { peer: &self.peer, records, source: &self.source, rate: self.rate }
+    pub fn update<'a>(&'a self, records: &'a [u8]) -> PeerUpdate<'a> {
+        PeerUpdate { peer: &self.peer, records, source: &self.source, rate: self.rate }
     }
 }
 

@@ -48,4 +48,4 @@ pub use transaction::{
     List, MAX_TRANSACTION_BYTES, Transaction, is_out_points, is_records, is_script, is_transaction, item, item_count, rewrite, version,
     write_transaction,
 };
-pub use update::{Accepted, Negotiation, Update, update_for_peer};
+pub use update::{Accepted, Negotiation, PeerUpdate, update_for_peer};

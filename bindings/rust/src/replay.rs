@@ -2,7 +2,7 @@
 use crate::refusal::Refusal;
 use crate::sum::Sum;
 use crate::update::accepted;
-use crate::update::{Accepted, Update};
+use crate::update::{Accepted, PeerUpdate};
 use crate::{ffi, molecule};
 
 /// What a list of updates comes to.
@@ -29,12 +29,12 @@ pub struct Replay {
 /// use basinpantry::*;
 ///
 /// let lock = Script::default().to_bytes();
-/// let update = Update { peer: b"no transaction", records: &write_records(&[]), source: &lock, rate: 1000 };
+/// let update = PeerUpdate { peer: b"no transaction", records: &write_records(&[]), source: &lock, rate: 1000 };
 /// let replayed = replay(&[], &lock, &[], &[update]).unwrap();
 /// assert_eq!(replayed.answers, [Err(Refusal::PeerTransactionUnreadable)]);
 /// assert_eq!(replayed.in_force, None);
 /// ```
-pub fn replay(start: &[u8], lock: &[u8], udt: &[u8], updates: &[Update]) -> Result<Replay, Refusal> {
+pub fn replay(start: &[u8], lock: &[u8], udt: &[u8], updates: &[PeerUpdate]) -> Result<Replay, Refusal> {
     let items: Vec<Vec<u8>> = updates
         .iter()
         .map(|update| {

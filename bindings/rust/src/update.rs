@@ -80,11 +80,11 @@ pub fn update_for_peer(
 /// What one update of a negotiation brings.
 ///
 /// ```
-/// let update = basinpantry::Update { peer: &[], records: &[4, 0, 0, 0], source: &[], rate: 1000 };
+/// let update = basinpantry::PeerUpdate { peer: &[], records: &[4, 0, 0, 0], source: &[], rate: 1000 };
 /// assert_eq!(update.rate, 1000);
 /// ```
 #[derive(Clone, Copy, Debug, PartialEq, Eq, Hash)]
-pub struct Update<'a> {
+pub struct PeerUpdate<'a> {
     /// The peer's transaction.
     pub peer: &'a [u8],
     /// One record for each input that it adds ([`write_records`](crate::write_records)); of a cell that is spent twice each record is counted.
@@ -115,12 +115,12 @@ pub struct Update<'a> {
 /// let records = write_records(&[Some(cell)]);
 ///
 /// let mut negotiation = Negotiation::new(&[], &lock.to_bytes(), &[]);
-/// let update = Update { peer: &peer.to_bytes(), records: &records, source: &source, rate: 1000 };
+/// let update = PeerUpdate { peer: &peer.to_bytes(), records: &records, source: &source, rate: 1000 };
 /// assert_eq!(negotiation.update(&update), Ok(Accepted { capacity: 205, token: 0 }));
 /// assert_eq!(negotiation.in_force(), peer.to_bytes());
 /// // the same again adds no input, so there is no record to lend
 /// assert_eq!(negotiation.update(&update), Err(Refusal::LentBytesUnreadable));
-/// assert_eq!(negotiation.update(&Update { records: &write_records(&[]), ..update }), Ok(Accepted { capacity: 0, token: 0 }));
+/// assert_eq!(negotiation.update(&PeerUpdate { records: &write_records(&[]), ..update }), Ok(Accepted { capacity: 0, token: 0 }));
 /// assert_eq!(negotiation.capacity().to_u128(), Some(205));
 /// assert_eq!(negotiation.accepted(), 2);
 /// ```
@@ -150,12 +150,12 @@ impl Negotiation {
     /// use basinpantry::*;
     ///
     /// let mut negotiation = Negotiation::new(&[], &Script::default().to_bytes(), &[]);
-    /// let update = Update { peer: b"no transaction", records: &[4, 0, 0, 0], source: &Script::default().to_bytes(), rate: 1000 };
+    /// let update = PeerUpdate { peer: b"no transaction", records: &[4, 0, 0, 0], source: &Script::default().to_bytes(), rate: 1000 };
     /// assert_eq!(negotiation.update(&update), Err(Refusal::PeerTransactionUnreadable));
     /// assert!(negotiation.in_force().is_empty());
     /// ```
-    pub fn update(&mut self, update: &Update) -> Result<Accepted, Refusal> {
-        let Update { peer, records, source, rate } = *update;
+    pub fn update(&mut self, update: &PeerUpdate) -> Result<Accepted, Refusal> {
+        let PeerUpdate { peer, records, source, rate } = *update;
         let accepted = update_for_peer(&self.in_force, peer, &self.lock, &self.udt, source, rate, records)?;
         self.in_force.clear();
         self.in_force.extend(peer);

@@ -32,7 +32,7 @@ fn sums_pass_128_bits() {
     let (start, lock, udt, source) = (holding(1), script(0).to_bytes(), script(2).to_bytes(), script(1).to_bytes());
     let peers: Vec<Vec<u8>> = (2..5).map(holding).collect();
     let (top, none) = (brings(u128::MAX), write_records(&[]));
-    let update = |peer, records| Update { peer, records, source: &source, rate: 1000 };
+    let update = |peer, records| PeerUpdate { peer, records, source: &source, rate: 1000 };
     // the second lends no record for its input, and is refused
     let updates = [update(&peers[0], &top), update(&peers[1], &none), update(&peers[1], &top), update(&peers[2], &top)];
     let replayed = replay(&start, &lock, &udt, &updates).unwrap();
@@ -97,7 +97,7 @@ fn replay_is_the_calls_one_by_one() {
     for start in 0..cases.len() {
         for step in [1, 2, 3, 5] {
             let order: Vec<usize> = (0..2 * cases.len()).map(|i| (start + i * step) % cases.len()).collect();
-            let updates: Vec<Update> = order.iter().map(|i| cases[*i].update(&records[*i])).collect();
+            let updates: Vec<PeerUpdate> = order.iter().map(|i| cases[*i].update(&records[*i])).collect();
             let first = &cases[start];
             let replayed = replay(&first.ours, &first.lock, &first.udt, &updates).unwrap();
             let mut negotiation = Negotiation::new(&first.ours, &first.lock, &first.udt);
@@ -114,7 +114,7 @@ fn replay_is_the_calls_one_by_one() {
 #[test]
 fn an_unreadable_start() {
     let lock = script(0).to_bytes();
-    let update = Update { peer: &holding(1), records: &write_records(&[]), source: &lock, rate: 1000 };
+    let update = PeerUpdate { peer: &holding(1), records: &write_records(&[]), source: &lock, rate: 1000 };
     let replayed = replay(b"no transaction", &lock, &[], &[update; 3]).unwrap();
     assert_eq!(replayed.answers, [Err(Refusal::OurTransactionUnreadable); 3]);
     assert_eq!(replayed.in_force, None);
