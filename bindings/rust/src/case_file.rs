@@ -257,9 +257,7 @@ impl CaseFile {
     /// assert_eq!(basinpantry::CaseFile::default().judge(), Err(basinpantry::Refusal::PeerTransactionUnreadable));
     /// ```
     pub fn judge(&self) -> Result<Accepted, Refusal> {
-        let records = self.records_bytes();
-        let PeerUpdate { peer, records, source, rate } = self.update(&records);
-        update_for_peer(&self.ours, peer, &self.lock, &self.udt, source, rate, records)
+        update_for_peer(&self.ours, &self.lock, &self.udt, &self.update(&self.records_bytes()))
     }
 
     /// The update that it holds, over its list of records.

@@ -2,7 +2,7 @@
 //! library (`libcapi.a`, header `bindings/c/basinpantry.h`): no bytes that a peer, a caller or a damaged file supplies stop it, and a refused call has changed
 //! nothing.
 //!
-//! - [`update_for_peer`] judges one update, [`Negotiation`] keeps the transaction in force.
+//! - [`update_for_peer`] judges one [`PeerUpdate`], [`Negotiation`] keeps the transaction in force.
 //! - [`CaseFile`] is an update in one file; the program `basinpantry` makes, judges and shows such files.
 //! - [`replay`] judges a list of updates in one call.
 //! - [`HeldCells`] and [`LiveCellsExclusionMap`] keep which cells of ours are in use.
@@ -12,11 +12,11 @@
 //! A call needs up to half a megabyte of stack.
 //!
 //! ```
-//! use basinpantry::{Refusal, Script, update_for_peer, write_records};
+//! use basinpantry::{PeerUpdate, Refusal, Script, update_for_peer, write_records};
 //!
 //! let script = Script::default().to_bytes();
-//! let answer = update_for_peer(&[], b"no transaction", &script, &[], &script, 1000, &write_records(&[]));
-//! assert_eq!(answer, Err(Refusal::PeerTransactionUnreadable));
+//! let update = PeerUpdate { peer: b"no transaction", records: &write_records(&[]), source: &script, rate: 1000 };
+//! assert_eq!(update_for_peer(&[], &script, &[], &update), Err(Refusal::PeerTransactionUnreadable));
 //! ```
 #![deny(missing_docs, unsafe_code)]
 

@@ -34,8 +34,7 @@ pub(crate) fn whole(low: u64, high: u64) -> u128 {
     u128::from(high) << 64 | u128::from(low)
 }
 
-/// Judges the peer's transaction against ours (no bytes: none), under the expected funding lock, the expected token type (no bytes: untyped), our
-/// source lock and a fee rate in shannons per 1000 bytes, over one record for each input that the peer added.
+/// Judges an update of the peer's against our transaction (no bytes: none), under the expected funding lock and token type (no bytes: untyped).
 ///
 /// An added input whose out point stands earlier among the peer's inputs is not refused, and its record is counted again, as in the original, though the chain
 /// takes no such transaction.
@@ -57,7 +56,8 @@ pub(crate) fn whole(low: u64, high: u64) -> u128 {
 /// let judge = |brought_in| {
 ///     let cell = ResolvedCell { output: CellOutput { capacity: brought_in, ..output.clone() }, data: vec![] };
 ///     let records = write_records(&[Some(cell)]);
-///     update_for_peer(&[], &peer.to_bytes(), &lock.to_bytes(), &[], &source.to_bytes(), 1000, &records)
+///     let update = PeerUpdate { peer: &peer.to_bytes(), records: &records, source: &source.to_bytes(), rate: 1000 };
+///     update_for_peer(&[], &lock.to_bytes(), &[], &update)
 /// };
 /// assert_eq!(judge(10_000_000_205), Ok(Accepted { capacity: 205, token: 0 }));
 /// assert_eq!(
@@ -65,19 +65,12 @@ pub(crate) fn whole(low: u64, high: u64) -> u128 {
 ///     Err(Refusal::PeerFundingFeeTooLow { peer_fee: 204, required_fee: 205, funding_fee_rate: 1000, tx_size: 205 })
 /// );
 /// ```
-pub fn update_for_peer(
-    ours: &[u8],
-    peer: &[u8],
-    lock: &[u8],
-    udt: &[u8],
-    source: &[u8],
-    rate: u64,
-    records: &[u8],
-) -> Result<Accepted, Refusal> {
+pub fn update_for_peer(ours: &[u8], lock: &[u8], udt: &[u8], update: &PeerUpdate) -> Result<Accepted, Refusal> {
+    let PeerUpdate { peer, records, source, rate } = *update;
     ffi::update_for_peer(ours, peer, lock, udt, source, rate, records).map(accepted)
 }
 
-/// What one update of a negotiation brings.
+/// An update that a peer proposes, with what is needed to judge it beside our transaction and the expected scripts.
 ///
 /// ```
 /// let update = basinpantry::PeerUpdate { peer: &[], records: &[4, 0, 0, 0], source: &[], rate: 1000 };
@@ -155,10 +148,9 @@ impl Negotiation {
     /// assert!(negotiation.in_force().is_empty());
     /// ```
     pub fn update(&mut self, update: &PeerUpdate) -> Result<Accepted, Refusal> {
-        let PeerUpdate { peer, records, source, rate } = *update;
-        let accepted = update_for_peer(&self.in_force, peer, &self.lock, &self.udt, source, rate, records)?;
+        let accepted = update_for_peer(&self.in_force, &self.lock, &self.udt, update)?;
         self.in_force.clear();
-        self.in_force.extend(peer);
+        self.in_force.extend(update.peer);
         self.capacity = self.capacity.plus(Sum::from(accepted.capacity));
         self.token = self.token.plus(Sum::from(accepted.token));
         self.accepted = self.accepted.saturating_add(1);
