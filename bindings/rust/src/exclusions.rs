@@ -1,7 +1,7 @@
 //! Cells that transactions of ours spend, and that are not to be collected for others.
 use crate::cells::{OutPoint, read_out_points};
-use crate::ffi;
 use crate::refusal::Refusal;
+use crate::{ffi, molecule};
 
 /// How many transactions and out points a map has room for.
 const TRANSACTIONS: usize = 64;
@@ -75,10 +75,11 @@ impl LiveCellsExclusionMap {
     ///
     /// let mut map = LiveCellsExclusionMap::new();
     /// assert_eq!(map.add(&[9; 32], Some(b"no transaction")), Err(Refusal::OurTransactionUnreadable));
+    /// assert_eq!(map.add(&[9; 32], Some(&[])), Err(Refusal::OurTransactionUnreadable));
     /// assert_eq!(map.add(&[9; 32], None), Ok(()));
     /// ```
     pub fn add(&mut self, hash: &[u8; 32], tx: Option<&[u8]>) -> Result<(), Refusal> {
-        lent(tx).and_then(|tx| ffi::exclusions_add(&mut self.table, hash, tx))
+        ffi::exclusions_add(&mut self.table, hash, molecule::option(tx))
     }
 
     /// The transaction of this hash was committed in this block. An unknown hash changes nothing.
@@ -120,7 +121,7 @@ impl LiveCellsExclusionMap {
     /// assert_eq!(map.apply().unwrap(), [OutPoint { tx_hash: [1; 32], index: 1 }]);
     /// ```
     pub fn migrate_funding_tx(&mut self, old_hash: &[u8; 32], new_hash: &[u8; 32], tx: Option<&[u8]>) -> Result<(), Refusal> {
-        lent(tx).and_then(|tx| ffi::exclusions_migrate_funding_tx(&mut self.table, old_hash, new_hash, tx))
+        ffi::exclusions_migrate_funding_tx(&mut self.table, old_hash, new_hash, molecule::option(tx))
     }
 
     /// Drops what was committed 13 blocks before the tip, or earlier.
@@ -141,15 +142,6 @@ impl LiveCellsExclusionMap {
         let mut out = vec![0; 4 + 36 * OUT_POINTS];
         ffi::exclusions_apply(&self.table, &mut out)?;
         Ok(read_out_points(&out))
-    }
-}
-
-/// No bytes stand for no transaction, so a transaction of no bytes, which is unreadable, may not be lent as such.
-fn lent(tx: Option<&[u8]>) -> Result<&[u8], Refusal> {
-    match tx {
-        Some([]) => Err(Refusal::OurTransactionUnreadable),
-        Some(tx) => Ok(tx),
-        None => Ok(&[]),
     }
 }
 

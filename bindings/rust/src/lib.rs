@@ -9,6 +9,8 @@
 //! - [`build_base`] writes the base transaction of our own side.
 //! - [`Transaction`], [`Script`] and the like are the lent bytes as Rust values.
 //!
+//! Transactions and scripts are lent as their bytes, and one that may be missing as an `Option` of them. One of no bytes is not missing, but unreadable.
+//!
 //! A call needs up to half a megabyte of stack.
 //!
 //! ```
@@ -16,7 +18,7 @@
 //!
 //! let script = Script::default().to_bytes();
 //! let update = PeerUpdate { peer: b"no transaction", records: &write_records(&[]), source: &script, rate: 1000 };
-//! assert_eq!(update_for_peer(&[], &script, &[], &update), Err(Refusal::PeerTransactionUnreadable));
+//! assert_eq!(update_for_peer(None, &script, None, &update), Err(Refusal::PeerTransactionUnreadable));
 //! ```
 #![deny(missing_docs, unsafe_code)]
 

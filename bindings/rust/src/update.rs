@@ -1,7 +1,7 @@
 //! A peer's update, and a list of them.
-use crate::ffi;
 use crate::refusal::Refusal;
 use crate::sum::Sum;
+use crate::{ffi, molecule};
 
 /// What an accepted update leaves over: what the added inputs brought in, less the growth of output 0 and the outputs that were added after it.
 ///
@@ -34,7 +34,7 @@ pub(crate) fn whole(low: u64, high: u64) -> u128 {
     u128::from(high) << 64 | u128::from(low)
 }
 
-/// Judges an update of the peer's against our transaction (no bytes: none), under the expected funding lock and token type (no bytes: untyped).
+/// Judges an update of the peer's against our transaction, if there is one, under the expected funding lock and the expected token type, if the channel has one.
 ///
 /// An added input whose out point stands earlier among the peer's inputs is not refused, and its record is counted again, as in the original, though the chain
 /// takes no such transaction.
@@ -57,7 +57,7 @@ pub(crate) fn whole(low: u64, high: u64) -> u128 {
 ///     let cell = ResolvedCell { output: CellOutput { capacity: brought_in, ..output.clone() }, data: vec![] };
 ///     let records = write_records(&[Some(cell)]);
 ///     let update = PeerUpdate { peer: &peer.to_bytes(), records: &records, source: &source.to_bytes(), rate: 1000 };
-///     update_for_peer(&[], &lock.to_bytes(), &[], &update)
+///     update_for_peer(None, &lock.to_bytes(), None, &update)
 /// };
 /// assert_eq!(judge(10_000_000_205), Ok(Accepted { capacity: 205, token: 0 }));
 /// assert_eq!(
@@ -65,9 +65,9 @@ pub(crate) fn whole(low: u64, high: u64) -> u128 {
 ///     Err(Refusal::PeerFundingFeeTooLow { peer_fee: 204, required_fee: 205, funding_fee_rate: 1000, tx_size: 205 })
 /// );
 /// ```
-pub fn update_for_peer(ours: &[u8], lock: &[u8], udt: &[u8], update: &PeerUpdate) -> Result<Accepted, Refusal> {
+pub fn update_for_peer(ours: Option<&[u8]>, lock: &[u8], udt: Option<&[u8]>, update: &PeerUpdate) -> Result<Accepted, Refusal> {
     let PeerUpdate { peer, records, source, rate } = *update;
-    ffi::update_for_peer(ours, peer, lock, udt, source, rate, records).map(accepted)
+    ffi::update_for_peer(molecule::option(ours), peer, lock, molecule::option(udt), source, rate, records).map(accepted)
 }
 
 /// An update that a peer proposes, with what is needed to judge it beside our transaction and the expected scripts.
@@ -107,10 +107,10 @@ pub struct PeerUpdate<'a> {
 /// let cell = ResolvedCell { output: CellOutput { capacity: 10_000_000_205, ..output }, data: vec![] };
 /// let records = write_records(&[Some(cell)]);
 ///
-/// let mut negotiation = Negotiation::new(&[], &lock.to_bytes(), &[]);
+/// let mut negotiation = Negotiation::new(None, &lock.to_bytes(), None);
 /// let update = PeerUpdate { peer: &peer.to_bytes(), records: &records, source: &source, rate: 1000 };
 /// assert_eq!(negotiation.update(&update), Ok(Accepted { capacity: 205, token: 0 }));
-/// assert_eq!(negotiation.in_force(), peer.to_bytes());
+/// assert_eq!(negotiation.in_force(), Some(&peer.to_bytes()[..]));
 /// // the same again adds no input, so there is no record to lend
 /// assert_eq!(negotiation.update(&update), Err(Refusal::LentBytesUnreadable));
 /// assert_eq!(negotiation.update(&PeerUpdate { records: &write_records(&[]), ..update }), Ok(Accepted { capacity: 0, token: 0 }));
@@ -119,22 +119,29 @@ pub struct PeerUpdate<'a> {
 /// ```
 #[derive(Clone, Debug, PartialEq, Eq)]
 pub struct Negotiation {
-    in_force: Vec<u8>,
+    in_force: Option<Vec<u8>>,
     lock: Vec<u8>,
-    udt: Vec<u8>,
+    udt: Option<Vec<u8>>,
     capacity: Sum,
     token: Sum,
     accepted: usize,
 }
 
 impl Negotiation {
-    /// A negotiation from a transaction (no bytes: none), under the expected funding lock and token type (no bytes: untyped).
+    /// A negotiation from a transaction, if there is one, under the expected funding lock and the expected token type, if the channel has one.
     ///
     /// ```
-    /// assert!(basinpantry::Negotiation::new(&[], &[], &[]).in_force().is_empty());
+    /// assert_eq!(basinpantry::Negotiation::new(None, &[], None).in_force(), None);
     /// ```
-    pub fn new(start: &[u8], lock: &[u8], udt: &[u8]) -> Negotiation {
-        Negotiation { in_force: start.to_vec(), lock: lock.to_vec(), udt: udt.to_vec(), capacity: Sum::ZERO, token: Sum::ZERO, accepted: 0 }
+    pub fn new(start: Option<&[u8]>, lock: &[u8], udt: Option<&[u8]>) -> Negotiation {
+        Negotiation {
+            in_force: start.map(<[u8]>::to_vec),
+            lock: lock.to_vec(),
+            udt: udt.map(<[u8]>::to_vec),
+            capacity: Sum::ZERO,
+            token: Sum::ZERO,
+            accepted: 0,
+        }
     }
 
     /// Judges an update against the transaction in force. A refusal changes nothing.
@@ -142,34 +149,33 @@ impl Negotiation {
     /// ```
     /// use basinpantry::*;
     ///
-    /// let mut negotiation = Negotiation::new(&[], &Script::default().to_bytes(), &[]);
+    /// let mut negotiation = Negotiation::new(None, &Script::default().to_bytes(), None);
     /// let update = PeerUpdate { peer: b"no transaction", records: &[4, 0, 0, 0], source: &Script::default().to_bytes(), rate: 1000 };
     /// assert_eq!(negotiation.update(&update), Err(Refusal::PeerTransactionUnreadable));
-    /// assert!(negotiation.in_force().is_empty());
+    /// assert_eq!(negotiation.in_force(), None);
     /// ```
     pub fn update(&mut self, update: &PeerUpdate) -> Result<Accepted, Refusal> {
-        let accepted = update_for_peer(&self.in_force, &self.lock, &self.udt, update)?;
-        self.in_force.clear();
-        self.in_force.extend(update.peer);
+        let accepted = update_for_peer(self.in_force.as_deref(), &self.lock, self.udt.as_deref(), update)?;
+        self.in_force = Some(update.peer.to_vec());
         self.capacity = self.capacity.plus(Sum::from(accepted.capacity));
         self.token = self.token.plus(Sum::from(accepted.token));
         self.accepted = self.accepted.saturating_add(1);
         Ok(accepted)
     }
 
-    /// The transaction in force: the peer's of the last accepted update, or the one at the start.
+    /// The transaction in force: the peer's of the last accepted update, or the one at the start, if there was one.
     ///
     /// ```
-    /// assert_eq!(basinpantry::Negotiation::new(&[1, 2], &[], &[]).in_force(), [1, 2]);
+    /// assert_eq!(basinpantry::Negotiation::new(Some(&[1, 2]), &[], None).in_force(), Some(&[1, 2][..]));
     /// ```
-    pub fn in_force(&self) -> &[u8] {
-        &self.in_force
+    pub fn in_force(&self) -> Option<&[u8]> {
+        self.in_force.as_deref()
     }
 
     /// The sum of the capacity surpluses, in shannons.
     ///
     /// ```
-    /// assert_eq!(basinpantry::Negotiation::new(&[], &[], &[]).capacity(), basinpantry::Sum::ZERO);
+    /// assert_eq!(basinpantry::Negotiation::new(None, &[], None).capacity(), basinpantry::Sum::ZERO);
     /// ```
     pub fn capacity(&self) -> Sum {
         self.capacity
@@ -178,7 +184,7 @@ impl Negotiation {
     /// The sum of the token surpluses.
     ///
     /// ```
-    /// assert_eq!(basinpantry::Negotiation::new(&[], &[], &[]).token(), basinpantry::Sum::ZERO);
+    /// assert_eq!(basinpantry::Negotiation::new(None, &[], None).token(), basinpantry::Sum::ZERO);
     /// ```
     pub fn token(&self) -> Sum {
         self.token
@@ -187,7 +193,7 @@ impl Negotiation {
     /// How many updates were accepted.
     ///
     /// ```
-    /// assert_eq!(basinpantry::Negotiation::new(&[], &[], &[]).accepted(), 0);
+    /// assert_eq!(basinpantry::Negotiation::new(None, &[], None).accepted(), 0);
     /// ```
     pub fn accepted(&self) -> usize {
         self.accepted

@@ -107,10 +107,10 @@ fn others(tx: &Transaction, full: bool) -> String {
 fn show_case(case: &CaseFile, full: bool) -> String {
     let mut out = String::new();
     let ours = ours_of(case);
-    out += &match (&ours, case.ours.is_empty()) {
-        (_, true) => "ours: none\n".to_string(),
-        (Some(ours), _) => format!("ours: {}\n", counts(case.ours.len(), ours)),
-        (None, _) => format!("ours: {} bytes, which are no transaction\n", case.ours.len()),
+    out += &match (&case.ours, &ours) {
+        (None, _) => "ours: none\n".to_string(),
+        (Some(bytes), Some(ours)) => format!("ours: {}\n", counts(bytes.len(), ours)),
+        (Some(bytes), None) => format!("ours: {} bytes, which are no transaction\n", bytes.len()),
     };
     let peer = Transaction::from_bytes(&case.peer);
     out += &match &peer {
@@ -118,7 +118,7 @@ fn show_case(case: &CaseFile, full: bool) -> String {
         None => format!("the peer's: {} bytes, which are no transaction\n", case.peer.len()),
     };
     out += &format!("funding lock: {}\n", script(&case.lock, full));
-    out += &format!("token type: {}\n", if case.udt.is_empty() { "none".to_string() } else { script(&case.udt, full) });
+    out += &format!("token type: {}\n", case.udt.as_ref().map_or("none".to_string(), |udt| script(udt, full)));
     out += &format!("our source lock: {}\n", script(&case.source, full));
     out += &format!("fee rate: {} shannons per 1000 bytes\n", case.rate);
     if let (Some(ours), Some(peer)) = (&ours, &peer) {
@@ -177,7 +177,7 @@ fn lock_name(case: &CaseFile, lock: &Script, full: bool) -> String {
 fn type_name(case: &CaseFile, output: &CellOutput, full: bool) -> String {
     match &output.type_ {
         None => "-".to_string(),
-        Some(type_) if type_.to_bytes() == case.udt => "the token".to_string(),
+        Some(_) if is_of(output, case) => "the token".to_string(),
         Some(type_) => words::script(type_, full),
     }
 }
@@ -298,12 +298,12 @@ fn figures(out: &mut String, case: &CaseFile, ours: &Transaction, peer: &Transac
     let amount = |tx: &Transaction| if tx.outputs.is_empty() { 0 } else { tx.amount(0).unwrap_or(0) };
     // a missing or short amount counts 0
     let token = Account {
-        put_in: live().filter(|cell| is_of(&cell.output, &case.udt)).map(|cell| cell.amount().unwrap_or(0)).sum(),
+        put_in: live().filter(|cell| is_of(&cell.output, case)).map(|cell| cell.amount().unwrap_or(0)).sum(),
         before: amount(ours),
         after: amount(peer),
-        back: added.filter(|i| is_of(&peer.outputs[*i], &case.udt)).map(|i| peer.amount(i).unwrap_or(0)).sum(),
+        back: added.filter(|i| is_of(&peer.outputs[*i], case)).map(|i| peer.amount(i).unwrap_or(0)).sum(),
     };
-    let typed = !case.udt.is_empty();
+    let typed = case.udt.is_some();
     let names = ["put in by added inputs", "growth of output 0", "taken back by added outputs", "surplus"];
     let mut rows = Vec::new();
     for ((name, shannons), token) in names.iter().zip(shannons.lines()).zip(token.lines()) {

@@ -43,7 +43,7 @@ pub fn was(n: usize, plural: &str) -> String {
 pub fn verdict(case: &CaseFile, answer: &Result<Accepted, Refusal>) -> String {
     match answer {
         Ok(accepted) => {
-            let left = surplus(Sum::from(accepted.capacity), Sum::from(accepted.token), !case.udt.is_empty());
+            let left = surplus(Sum::from(accepted.capacity), Sum::from(accepted.token), case.udt.is_some());
             format!("accepted: the peer puts in {left} more than the growth of output 0 and the outputs that it added")
         }
         Err(why) => match reason::reason(case) {
