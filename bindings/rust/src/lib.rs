@@ -32,7 +32,7 @@ mod held_cells;
 mod molecule;
 mod refusal;
 mod replay;
-mod sum;
+mod total;
 mod transaction;
 mod update;
 
@@ -45,7 +45,7 @@ pub use funding::{
 pub use held_cells::{HeldCells, Taken, Taker};
 pub use refusal::Refusal;
 pub use replay::{Replay, replay};
-pub use sum::Sum;
+pub use total::Total;
 pub use transaction::{
     List, MAX_TRANSACTION_BYTES, Transaction, is_out_points, is_records, is_script, is_transaction, item, item_count, rewrite, version,
     write_transaction,

@@ -1,6 +1,6 @@
 //! A list of updates.
 use crate::refusal::Refusal;
-use crate::sum::Sum;
+use crate::total::Total;
 use crate::update::accepted;
 use crate::update::{Accepted, PeerUpdate};
 use crate::{ffi, molecule};
@@ -17,9 +17,9 @@ pub struct Replay {
     /// Which update's transaction is then in force; none: the one at the start, if there was one.
     pub in_force: Option<usize>,
     /// The sum of the capacity surpluses, in shannons.
-    pub capacity: Sum,
+    pub capacity: Total,
     /// The sum of the token surpluses.
-    pub token: Sum,
+    pub token: Total,
 }
 
 /// Judges a list of updates, each against the transaction that the one before it left in force, from a transaction at the start, if there is one, and under one

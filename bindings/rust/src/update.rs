@@ -1,6 +1,6 @@
 //! A peer's update, and a list of them.
 use crate::refusal::Refusal;
-use crate::sum::Sum;
+use crate::total::Total;
 use crate::{ffi, molecule};
 
 /// What an accepted update leaves over: what the added inputs brought in, less the growth of output 0 and the outputs that were added after it.
@@ -122,8 +122,8 @@ pub struct Negotiation {
     in_force: Option<Vec<u8>>,
     lock: Vec<u8>,
     udt: Option<Vec<u8>>,
-    capacity: Sum,
-    token: Sum,
+    capacity: Total,
+    token: Total,
     accepted: usize,
 }
 
@@ -138,8 +138,8 @@ impl Negotiation {
             in_force: start.map(<[u8]>::to_vec),
             lock: lock.to_vec(),
             udt: udt.map(<[u8]>::to_vec),
-            capacity: Sum::ZERO,
-            token: Sum::ZERO,
+            capacity: Total::ZERO,
+            token: Total::ZERO,
             accepted: 0,
         }
     }
@@ -157,8 +157,8 @@ impl Negotiation {
     pub fn update(&mut self, update: &PeerUpdate) -> Result<Accepted, Refusal> {
         let accepted = update_for_peer(self.in_force.as_deref(), &self.lock, self.udt.as_deref(), update)?;
         self.in_force = Some(update.peer.to_vec());
-        self.capacity = self.capacity.plus(Sum::from(accepted.capacity));
-        self.token = self.token.plus(Sum::from(accepted.token));
+        self.capacity = self.capacity.saturating_add(Total::from(accepted.capacity));
+        self.token = self.token.saturating_add(Total::from(accepted.token));
         self.accepted = self.accepted.saturating_add(1);
         Ok(accepted)
     }
@@ -175,18 +175,18 @@ impl Negotiation {
     /// The sum of the capacity surpluses, in shannons.
     ///
     /// ```
-    /// assert_eq!(basinpantry::Negotiation::new(None, &[], None).capacity(), basinpantry::Sum::ZERO);
+    /// assert_eq!(basinpantry::Negotiation::new(None, &[], None).capacity(), basinpantry::Total::ZERO);
     /// ```
-    pub fn capacity(&self) -> Sum {
+    pub fn capacity(&self) -> Total {
         self.capacity
     }
 
     /// The sum of the token surpluses.
     ///
     /// ```
-    /// assert_eq!(basinpantry::Negotiation::new(None, &[], None).token(), basinpantry::Sum::ZERO);
+    /// assert_eq!(basinpantry::Negotiation::new(None, &[], None).token(), basinpantry::Total::ZERO);
     /// ```
-    pub fn token(&self) -> Sum {
+    pub fn token(&self) -> Total {
         self.token
     }
 

@@ -1,7 +1,7 @@
 //! Which check refuses an update. The verdict is the proved library's and only that; since one number stands for many checks, this goes over them in
 //! their order (crates/rules/specs/Judge.antt) and puts the first that fails into words. It is shown only where its number is the verdict's.
 use crate::words::{count, was};
-use basinpantry::{CaseFile, CellOutput, ResolvedCell, Script, Sum, Transaction, is_script};
+use basinpantry::{CaseFile, CellOutput, ResolvedCell, Script, Total, Transaction, is_script};
 
 type Reason = (u32, String);
 
@@ -136,18 +136,18 @@ fn contribution(case: &CaseFile, ours: &Transaction, peer: &Transaction, cells: 
         check(5, before <= after, || format!("the tokens of output 0 fall from {before} to {after}"))?;
         growth = after - before;
     }
-    let gained: Sum = cells.iter().map(|cell| u128::from(cell.output.capacity)).sum();
+    let gained: Total = cells.iter().map(|cell| u128::from(cell.output.capacity)).sum();
     let added = added_outputs(ours, peer);
-    let taken: Sum = peer.outputs[added.clone()].iter().map(|output| u128::from(output.capacity)).sum();
-    let needed = Sum::from(u128::from(after - before)).plus(taken);
-    let left = gained.minus(needed).ok_or_else(|| {
-        let short = needed.minus(gained).unwrap_or_default();
+    let taken: Total = peer.outputs[added.clone()].iter().map(|output| u128::from(output.capacity)).sum();
+    let needed = Total::from(u128::from(after - before)).saturating_add(taken);
+    let left = gained.checked_sub(needed).ok_or_else(|| {
+        let short = needed.checked_sub(gained).unwrap_or_default();
         (5, format!("it puts in {gained} shannons, {short} below the growth of output 0 and the outputs that it added"))
     })?;
     if ours.inputs.is_empty() && ours.outputs.is_empty() {
         let size = u64::try_from(case.peer.len() + 4).unwrap_or(u64::MAX);
         let required = case.rate.saturating_mul(size) / 1000;
-        check(8, left >= Sum::from(u128::from(required)), || "the fee".to_string())?;
+        check(8, left >= Total::from(u128::from(required)), || "the fee".to_string())?;
     }
     if typed {
         let mut put_in: u128 = 0;

@@ -4,7 +4,7 @@ use crate::json::Source;
 use crate::reason::{added_outputs, cell_of, is_of, ours_of};
 use crate::repeats::repeats;
 use crate::{node, table, words};
-use basinpantry::{CaseFile, CellOutput, ResolvedCell, Script, Sum, Transaction, is_script};
+use basinpantry::{CaseFile, CellOutput, ResolvedCell, Script, Total, Transaction, is_script};
 
 /// What `show` prints of a file: of a transaction in Molecule or JSON, or of a case.
 pub fn show(file: &Input, full: bool) -> Result<String, Failure> {
@@ -43,7 +43,7 @@ fn tokens(output: &CellOutput, amount: Option<u128>) -> String {
 }
 
 fn capacity(shannons: u64) -> String {
-    words::ckb(Sum::from(u128::from(shannons)))
+    words::ckb(Total::from(u128::from(shannons)))
 }
 
 fn transaction(tx: &Transaction, bytes: usize, full: bool) -> String {
@@ -246,36 +246,36 @@ fn outputs(out: &mut String, case: &CaseFile, ours: &Transaction, peer: &Transac
 
 /// A whole number by what is above and what is below zero.
 struct Difference {
-    plus: Sum,
-    minus: Sum,
+    plus: Total,
+    minus: Total,
 }
 
 impl Difference {
     /// As written by `write`, with the sign in front.
-    fn signed(&self, write: impl Fn(Sum) -> String) -> String {
-        match self.plus.minus(self.minus) {
+    fn signed(&self, write: impl Fn(Total) -> String) -> String {
+        match self.plus.checked_sub(self.minus) {
             Some(left) => write(left),
-            None => format!("-{}", write(self.minus.minus(self.plus).unwrap_or_default())),
+            None => format!("-{}", write(self.minus.checked_sub(self.plus).unwrap_or_default())),
         }
     }
 }
 
 /// One account: what came in, output 0 before and after, and the added outputs.
 struct Account {
-    put_in: Sum,
+    put_in: Total,
     before: u128,
     after: u128,
-    back: Sum,
+    back: Total,
 }
 
 impl Account {
     fn lines(&self) -> [Difference; 4] {
-        let (before, after) = (Sum::from(self.before), Sum::from(self.after));
+        let (before, after) = (Total::from(self.before), Total::from(self.after));
         [
-            Difference { plus: self.put_in, minus: Sum::ZERO },
+            Difference { plus: self.put_in, minus: Total::ZERO },
             Difference { plus: after, minus: before },
-            Difference { plus: self.back, minus: Sum::ZERO },
-            Difference { plus: self.put_in.plus(before), minus: after.plus(self.back) },
+            Difference { plus: self.back, minus: Total::ZERO },
+            Difference { plus: self.put_in.saturating_add(before), minus: after.saturating_add(self.back) },
         ]
     }
 }
