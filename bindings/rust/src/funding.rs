@@ -97,7 +97,7 @@ fn write_token_cells(cells: &[TokenCell]) -> Vec<u8> {
 #[derive(Clone, Debug, Default, PartialEq, Eq, Hash)]
 pub struct TokenPick {
     /// How many cells are taken, from the first on.
-    pub count: usize,
+    pub taken: usize,
     /// The tokens that are left of them.
     pub change: u128,
     /// The output that holds the change; none where nothing is left. Its data is the change in 16 bytes.
@@ -117,7 +117,7 @@ pub struct TokenPick {
 /// let pick = |wanted| build_udt_inputs_outputs(&cells, Some(&udt.to_bytes()), &source.to_bytes(), wanted);
 ///
 /// let picked = pick(70).unwrap();
-/// assert_eq!((picked.count, picked.change), (2, 10));
+/// assert_eq!((picked.taken, picked.change), (2, 10));
 /// assert_eq!(picked.change_output.unwrap(), CellOutput { capacity: 14_200_000_000, lock: source.clone(), type_: Some(udt.clone()) });
 /// assert_eq!(pick(80).unwrap().change_output, None);
 /// assert_eq!(pick(121), Err(Refusal::InsufficientCells));
@@ -126,11 +126,11 @@ pub fn build_udt_inputs_outputs(cells: &[TokenCell], udt: Option<&[u8]>, source:
     let udt = molecule::option(udt);
     // an output's table has a head of 16 bytes, its capacity and both scripts
     let mut out = vec![0; 24 + source.len() + udt.len()];
-    let [count, change_low, change_high, _] =
+    let [taken, change_low, change_high, _] =
         ffi::build_udt_inputs_outputs(&write_token_cells(cells), udt, source, halves(wanted), &mut out)?;
     let change = whole(change_low, change_high);
     let change_output = if change == 0 { None } else { CellOutput::from_bytes(&out) };
-    Ok(TokenPick { count: usize::try_from(count).unwrap_or(usize::MAX), change, change_output })
+    Ok(TokenPick { taken: usize::try_from(taken).unwrap_or(usize::MAX), change, change_output })
 }
 
 /// What a base transaction is built from; the default has none of it.
