@@ -23,7 +23,9 @@ pub struct Replay {
 }
 
 /// Judges a list of updates, each against the transaction that the one before it left in force, from a transaction at the start, if there is one, and under one
-/// expected funding lock and token type, if the channel has one.
+/// expected funding lock and token type, if the channel has one. An update that is refused is an answer like any other.
+///
+/// The call itself is refused, before any update is judged, only with 3, where the updates are too long for one list: 2^32 bytes or more in all.
 ///
 /// ```
 /// use basinpantry::*;
