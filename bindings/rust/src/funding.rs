@@ -105,7 +105,7 @@ pub struct TokenPick {
 }
 
 /// Picks token cells of this type in their order until their total reaches the wanted amount; without a type nothing is picked. What is left goes to a change
-/// output under our source lock. Refused: 3, 12, 10, 9.
+/// output under our source lock. Refused: 3, 12, 10, 9, and 13 where the change output would have more than 133,116 bytes.
 ///
 /// ```
 /// use basinpantry::*;
@@ -121,6 +121,8 @@ pub struct TokenPick {
 /// assert_eq!(picked.change_output.unwrap(), CellOutput { capacity: 14_200_000_000, lock: source.clone(), type_: Some(udt.clone()) });
 /// assert_eq!(pick(80).unwrap().change_output, None);
 /// assert_eq!(pick(121), Err(Refusal::InsufficientCells));
+/// let long = Script { args: vec![0; 133_116], ..source.clone() };
+/// assert_eq!(build_udt_inputs_outputs(&cells, Some(&udt.to_bytes()), &long.to_bytes(), 70), Err(Refusal::BufferTooShort));
 /// ```
 pub fn build_udt_inputs_outputs(cells: &[TokenCell], udt: Option<&[u8]>, source: &[u8], wanted: u128) -> Result<TokenPick, Refusal> {
     let udt = molecule::option(udt);
