@@ -133,14 +133,23 @@ uint32_t basinpantry_build_udt_inputs_outputs(const uint8_t *cells, size_t cells
                                               size_t source_len, uint64_t wanted_low, uint64_t wanted_high, uint8_t *out, size_t out_len,
                                               uint64_t *values, size_t values_len);
 
-/* Writes the base transaction of a request to the start of out: our present transaction (no bytes: none), the funding cell under `lock` of the type (no bytes: untyped),
-   token cells picked as above for the local amount, and the change under `source`. `udt_deps` is a list of cell deps and `lock_dep` one cell dep of 37 bytes; no bytes: not
-   supplied. values[0] of 0: how many bytes; 133,116 are always enough. Refused: 1, 3, 7, 12, 10, 9, 11, 13. */
-uint32_t basinpantry_build_base(const uint8_t *ours, size_t ours_len, const uint8_t *lock, size_t lock_len, const uint8_t *udt, size_t udt_len,
-                                const uint8_t *source, size_t source_len, const uint8_t *cells, size_t cells_len, const uint8_t *udt_deps,
-                                size_t udt_deps_len, const uint8_t *lock_dep, size_t lock_dep_len, const uint8_t *extra_deps, size_t extra_deps_len,
-                                uint64_t local_low, uint64_t local_high, uint64_t local_reserved, uint64_t remote_low, uint64_t remote_high,
-                                uint64_t remote_reserved, uint8_t *out, size_t out_len, uint64_t *values, size_t values_len);
+/* Writes the base transaction of a request, whose output 0 is the funding cell, to the start of out. It is lent, in this order and line by line below,
+   - our present transaction (no bytes: none);
+   - three scripts: the funding lock, the token type (no bytes: untyped), and our source lock, under which the change goes;
+   - token cells, which are picked as above for the local amount;
+   - cell deps: the token's, a list, and our source lock's, one cell dep of 37 bytes, which are needed and added where tokens are picked (no bytes: not supplied); and a list
+     of others to be added;
+   - the figures of the request, ours and the peer's;
+   - the buffer and the values.
+   values[0] of 0: how many bytes; 133,116 are always enough. Refused: 1, 3, 7, 12 and 10 (cell by cell), 9, 11, 13. */
+uint32_t basinpantry_build_base(const uint8_t *ours, size_t ours_len,
+                                const uint8_t *lock, size_t lock_len, const uint8_t *udt, size_t udt_len, const uint8_t *source, size_t source_len,
+                                const uint8_t *cells, size_t cells_len,
+                                const uint8_t *udt_deps, size_t udt_deps_len, const uint8_t *lock_dep, size_t lock_dep_len,
+                                const uint8_t *extra_deps, size_t extra_deps_len,
+                                uint64_t local_low, uint64_t local_high, uint64_t local_reserved,
+                                uint64_t remote_low, uint64_t remote_high, uint64_t remote_reserved,
+                                uint8_t *out, size_t out_len, uint64_t *values, size_t values_len);
 
 /* ---- tables of cells: bytes that the caller keeps and lends to each call. All zeros are the empty table; any other content is safe.
    A table is a count (4 bytes), then its records one after the other. Bytes beyond them mean nothing, and a call leaves them as they were. A table of another length is 3,
