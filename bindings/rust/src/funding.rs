@@ -105,7 +105,7 @@ pub struct TokenPick {
 }
 
 /// Picks token cells of this type in their order until their total reaches the wanted amount; without a type nothing is picked. What is left goes to a change
-/// output under our source lock. Refused: 3, 12, 10, 9, and 13 where the change output would have more than 133,116 bytes.
+/// output under our source lock. Refused: 3, 12 and 10 (cell by cell), 9, and 13 where the change output would have more than 133,116 bytes.
 ///
 /// ```
 /// use basinpantry::*;
@@ -162,7 +162,7 @@ pub struct BaseRequest<'a> {
     pub request: FundingRequest,
 }
 
-/// Writes the base transaction of our own side. Refused: 1, 3, 7, 12, 10, 9, 11, 13.
+/// Writes the base transaction of our own side. Refused: 1, 3, 7, 12 and 10 (cell by cell), 9, 11, 13.
 ///
 /// ```
 /// use basinpantry::*;

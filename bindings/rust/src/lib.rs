@@ -11,6 +11,8 @@
 //!
 //! Transactions and scripts are lent as their bytes, and one that may be missing as an `Option` of them. One of no bytes is not missing, but unreadable.
 //!
+//! Where an item says "Refused", the numbers are those of [`Refusal`], in the order in which they are looked for: where several apply, the first is the answer.
+//!
 //! A call needs up to half a megabyte of stack.
 //!
 //! ```

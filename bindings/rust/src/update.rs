@@ -39,7 +39,8 @@ pub(crate) fn whole(low: u64, high: u64) -> u128 {
 /// An added input whose out point stands earlier among the peer's inputs is not refused, and its record is counted again, as in the original, though the chain
 /// takes no such transaction.
 ///
-/// After an acceptance the peer's transaction is in force, after a refusal ours ([`Negotiation`] keeps it). Refused: 1 to 8.
+/// After an acceptance the peer's transaction is in force, after a refusal ours ([`Negotiation`] keeps it). Refused: 1, 2, 3 (a script), 4, 5 (compared with ours),
+/// 3 (the records), 5 and 6 (input by input), 5 (output 0, and the capacity), 8, 5 and 7 (the tokens).
 ///
 /// ```
 /// use basinpantry::*;
@@ -144,7 +145,7 @@ impl Negotiation {
         }
     }
 
-    /// Judges an update against the transaction in force. A refusal changes nothing.
+    /// Judges an update against the transaction in force, as [`update_for_peer`] does. A refusal changes nothing.
     ///
     /// ```
     /// use basinpantry::*;
