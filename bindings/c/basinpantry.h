@@ -8,8 +8,11 @@
    ones (records, token cells, updates, outputs, data, witnesses); no bytes in its place are 3.
 
    A function whose comment says "Refused" returns 0, or the number of its refusal (1 to 15, BASINPANTRY_...), and then no table and no buffer that was lent has
-   changed. `values` is where the answer goes: an array of at least four words, which every such call sets, the unused ones to 0; with fewer the answer is 13 before
+   changed. The numbers are listed in the order in which they are looked for: where several apply, the first of them is the answer.
+   Some of these functions, and none of the twelve on tables of cells, have more to tell, in `values`: an array of at least four words of 64 bits. Such a call sets the first four,
+   to what its comment says where it returns 0, to what the refusal carries where it is refused, and the unused ones to 0. With fewer than four words the answer is 13 before
    all else, and they stay as they are.
+   `values_len` and `answers_len` count words of 64 bits; every other length counts bytes.
 
    A thread that calls needs half a megabyte of stack (bench/tables measures the largest calls). Calls that do not share a table or a buffer may run at once. */
 #ifndef BASINPANTRY_H
@@ -91,26 +94,30 @@ uint32_t basinpantry_rewrite(const uint8_t *tx, size_t tx_len, uint8_t *out, siz
 /* Judges the peer's transaction against ours (no bytes: none), under the expected funding lock, the expected token type (no bytes: untyped), our source
    lock and a fee rate in shannons for 1,000 bytes. `records` has the cell that each added input spends, in the order of these inputs, as the chain has it: the
    caller answers for that. Each input entry counts by itself: a cell that the peer lists twice counts twice. After 0 the peer's transaction is in force, after a refusal ours.
-   values of 0: the capacity surplus (low half, high half) and the token surplus (low half, high half). Refused: 1 to 8. */
+   values of 0: the capacity surplus (low half, high half) and the token surplus (low half, high half).
+   Refused: 1, 2, 3 (a script), 4, 5 (compared with ours), 3 (the records), 5 and 6 (input by input), 5 (output 0, and the capacity), 8, 5 and 7 (the tokens). */
 uint32_t basinpantry_update_for_peer(const uint8_t *ours, size_t ours_len, const uint8_t *peer, size_t peer_len, const uint8_t *lock, size_t lock_len,
                                      const uint8_t *udt, size_t udt_len, const uint8_t *source, size_t source_len, uint64_t rate, const uint8_t *records,
                                      size_t records_len, uint64_t *values, size_t values_len);
 
-/* Judges a list of updates, each against the transaction that the one before it left in force, under one expected lock and type. `updates` is a list of
-   unsized items, each a table of four fields: the peer's transaction, the records and the source lock, each as bytes with their count, and the fee rate
-   (8 bytes, as above). For update k, answers[5 * k] is its number and the four words after it are its values, as above. values: how many updates, how many
-   accepted, and which transaction is then in force: 0 for the one at the start, k + 1 for that of update k. Refused, before any update is judged: 3 where
-   `updates` is not such a list, 13 where `answers` has fewer than five words for each update. */
+/* Judges a list of updates, from the transaction `start` (no bytes: none) on and each against the one that the update before it left in force, under one expected
+   lock and type (no bytes: untyped). `updates` is a list of unsized items, each a table of four fields: the peer's transaction, the records and the source lock,
+   each as bytes with their count, and the fee rate (8 bytes, as above). For update k, answers[5 * k] is 0 or the number of its refusal, and the four words after it are
+   its values, as above; words behind those of the last update keep their value.
+   values of 0: how many updates, how many accepted, and which transaction is then in force: 0 for the one at the start, k + 1 for that of update k.
+   Refused, before any update is judged: 3 where `updates` is not such a list, 13 where `answers` has fewer than five words for each update. A `start`, lock or type that
+   can't be read refuses each update. */
 uint32_t basinpantry_replay(const uint8_t *start, size_t start_len, const uint8_t *lock, size_t lock_len, const uint8_t *udt, size_t udt_len,
                             const uint8_t *updates, size_t updates_len, uint64_t *answers, size_t answers_len, uint64_t *values, size_t values_len);
 
 /* Writes the verdict line of a case file to the start of `line`, which has room for at least 105 bytes; the answer is how many bytes the line has, 0 where
-   there is no such room. It takes about 165 KB of the stack. */
+   there is no such room, and then nothing is written. The line of bytes that are no case file, or more than 65,536, says 3. It takes about 165 KB of the stack. */
 size_t basinpantry_check_case(const uint8_t *file, size_t file_len, uint8_t *line, size_t line_len);
 
 /* ---- our own side */
 
-/* The figures of a funding request are amounts, each in two halves (of shannons where the channel is untyped, else of the token), and reserves in shannons. */
+/* The six figures of a funding request are, for us and then for the peer, an amount in two halves (of shannons where the channel is untyped, else of the token)
+   and a reserve in shannons. Those of the peer are not looked at while our present transaction is none or has no outputs. */
 
 /* The funding cell beside our present transaction (no bytes: none), of this token type (no bytes: untyped).
    values of 0: the capacity, and the token amount (low half, high half). Refused: 1, 3, 7. */
@@ -118,29 +125,39 @@ uint32_t basinpantry_build_funding_cell(const uint8_t *ours, size_t ours_len, co
                                         uint64_t local_reserved, uint64_t remote_low, uint64_t remote_high, uint64_t remote_reserved, uint64_t *values,
                                         size_t values_len);
 
-/* Picks token cells, a list of tables of out point and data, from the first on until their total reaches the wanted amount; without a type nothing is picked. The
-   caller answers for the cells: that they are live, under our lock, of the type, and listed once. The change output, if there is change, goes to the start of out,
-   24 + source_len + udt_len bytes; its data, the change in 16 bytes, is for the caller to write.
-   values of 0: how many cells, the change (low half, high half), the capacity of its output. Refused: 3, 12, 10, 9, 13. */
+/* Picks token cells, a list of tables of out point and data, from the first on until their total reaches the wanted amount; without a type (no bytes: untyped)
+   nothing is picked. The caller answers for the cells: that they are live, under our lock, of the type, and listed once. The change output, if there is change, goes
+   to the start of out, 24 + source_len + udt_len bytes; its data, the change in 16 bytes, is for the caller to write.
+   values of 0: how many cells, the change (low half, high half), the capacity of its output (0: no change). Refused: 3, 12 and 10 (cell by cell), 9, 13. */
 uint32_t basinpantry_build_udt_inputs_outputs(const uint8_t *cells, size_t cells_len, const uint8_t *udt, size_t udt_len, const uint8_t *source,
                                               size_t source_len, uint64_t wanted_low, uint64_t wanted_high, uint8_t *out, size_t out_len,
                                               uint64_t *values, size_t values_len);
 
-/* Writes the base transaction of a request to the start of out: our present transaction (no bytes: none), the funding cell under `lock` of the type (no bytes: untyped),
-   token cells picked as above for the local amount, and the change under `source`. `udt_deps` is a list of cell deps and `lock_dep` one cell dep of 37 bytes; no bytes: not
-   supplied. values[0] of 0: how many bytes; 133,116 are always enough. Refused: 1, 3, 7, 12, 10, 9, 11, 13. */
-uint32_t basinpantry_build_base(const uint8_t *ours, size_t ours_len, const uint8_t *lock, size_t lock_len, const uint8_t *udt, size_t udt_len,
-                                const uint8_t *source, size_t source_len, const uint8_t *cells, size_t cells_len, const uint8_t *udt_deps,
-                                size_t udt_deps_len, const uint8_t *lock_dep, size_t lock_dep_len, const uint8_t *extra_deps, size_t extra_deps_len,
-                                uint64_t local_low, uint64_t local_high, uint64_t local_reserved, uint64_t remote_low, uint64_t remote_high,
-                                uint64_t remote_reserved, uint8_t *out, size_t out_len, uint64_t *values, size_t values_len);
+/* Writes the base transaction of a request, whose output 0 is the funding cell, to the start of out. It is lent, in this order and line by line below,
+   - our present transaction (no bytes: none);
+   - three scripts: the funding lock, the token type (no bytes: untyped), and our source lock, under which the change goes;
+   - token cells, which are picked as above for the local amount;
+   - cell deps: the token's, a list, and our source lock's, one cell dep of 37 bytes, which are needed and added where tokens are picked (no bytes: not supplied); and a list
+     of others to be added;
+   - the figures of the request, ours and the peer's;
+   - the buffer and the values.
+   values[0] of 0: how many bytes; 133,116 are always enough. Refused: 1, 3, 7, 12 and 10 (cell by cell), 9, 11, 13. */
+uint32_t basinpantry_build_base(const uint8_t *ours, size_t ours_len,
+                                const uint8_t *lock, size_t lock_len, const uint8_t *udt, size_t udt_len, const uint8_t *source, size_t source_len,
+                                const uint8_t *cells, size_t cells_len,
+                                const uint8_t *udt_deps, size_t udt_deps_len, const uint8_t *lock_dep, size_t lock_dep_len,
+                                const uint8_t *extra_deps, size_t extra_deps_len,
+                                uint64_t local_low, uint64_t local_high, uint64_t local_reserved,
+                                uint64_t remote_low, uint64_t remote_high, uint64_t remote_reserved,
+                                uint8_t *out, size_t out_len, uint64_t *values, size_t values_len);
 
 /* ---- tables of cells: bytes that the caller keeps and lends to each call. All zeros are the empty table; any other content is safe.
    A table is a count (4 bytes), then its records one after the other. Bytes beyond them mean nothing, and a call leaves them as they were. A table of another length is 3,
    before all else but 1. Lists of out points are written to the start of their buffer as they are read: a count of four bytes and 36 bytes for each. */
 
 /* Held cells: 256 places of 48 bytes, each an out point (36), a kind (4) and a number (8). Kind 0 is a funding, and the number its holder; any other kind the watchtower, and
-   the number the end in milliseconds: every content means a table. A call that is done writes the records that stand anew in this form. */
+   the number the end in milliseconds: every content means a table. A call that is done writes the records that stand anew in this form. Watchtower records that have
+   ended are dropped by lock_held and take; the two calls that hold count them for 14. */
 #define BASINPANTRY_HELD_BYTES 12292
 
 /* The funding inputs that `holder` holds now, in place of the ones that it held before. A holder is a number of the caller's: two that use one number replace each
@@ -150,19 +167,20 @@ uint32_t basinpantry_hold_funding(uint8_t *held, size_t held_len, uint64_t holde
 /* The cells of a transaction that the watchtower sent at `time`: held for 1,800,000 ms. Refused: 3, 14. */
 uint32_t basinpantry_hold_for_watchtower(uint8_t *held, size_t held_len, const uint8_t *cells, size_t cells_len, uint64_t time);
 
-/* The cells of a transaction that the watchtower could not send are free again. Refused: 3. */
+/* The cells of a transaction that the watchtower could not send are free again: its records of them are dropped, and no funding's. Refused: 3. */
 uint32_t basinpantry_release_for_watchtower(uint8_t *held, size_t held_len, const uint8_t *cells, size_t cells_len);
 
 /* Writes the out points of every record that holds at `time`, in the order of the records; watchtower records that have ended are dropped. 9,220 bytes are always enough.
    Refused: 3, 13. */
 uint32_t basinpantry_lock_held(uint8_t *held, size_t held_len, uint64_t time, uint8_t *out, size_t out_len);
 
-/* Writes the out points of `picked` that are held at `time` or in `spent`, each once: picked_len bytes are always enough. This call and the next look at as many out
-   points as picks times (records, spent and picks). Refused: 3, 13. */
+/* Writes the out points of `picked` that are held at `time` or in `spent`, each once and in the order of the picks: picked_len bytes are always enough. This call
+   and the next look at as many out points as picks times (records, spent and picks). Refused: 3, 13. */
 uint32_t basinpantry_unavailable(const uint8_t *held, size_t held_len, const uint8_t *picked, size_t picked_len, const uint8_t *spent, size_t spent_len,
                                  uint64_t time, uint8_t *out, size_t out_len);
 
-/* Takes the cells `picked` for the watchtower, which holds them for 60,000 ms, or for the funding of `holder`: a cell that is held, spent, or taken earlier in the call is refused.
+/* Takes the cells `picked` for the watchtower, which holds them for 60,000 ms, or for the funding of `holder`, which is not looked at for the watchtower: a cell that
+   is held, spent, or taken earlier in the call is refused.
    The lists of those taken and of those refused go into the two buffers; picked_len bytes are always enough for each. Watchtower records that have ended are dropped.
    Refused: 3, 13, 14. */
 uint32_t basinpantry_take(uint8_t *held, size_t held_len, const uint8_t *picked, size_t picked_len, const uint8_t *spent, size_t spent_len, bool watchtower,

@@ -128,8 +128,12 @@ int main(int argc, char **argv)
     assert(why == 0 && values[0] == 36);
     printf("funding cell: %" PRIu64 " shannons\n", values[0]);
     const uint8_t no_cells[] = {4, 0, 0, 0}, no_deps[] = {0, 0, 0, 0};
-    why = basinpantry_build_base(NULL, 0, lock.at, lock.len, NULL, 0, source.at, source.len, no_cells, 4, NULL, 0, NULL, 0, no_deps, 4, 5, 0, 7, 11, 0, 13, out,
-                                 sizeof out, values, 4);
+    why = basinpantry_build_base(NULL, 0,                                           /* no present transaction */
+                                 lock.at, lock.len, NULL, 0, source.at, source.len, /* funding lock, no type, source lock */
+                                 no_cells, 4,                                       /* no token cells */
+                                 NULL, 0, NULL, 0, no_deps, 4,                      /* the token's and the lock's deps not supplied, no others */
+                                 5, 0, 7, 11, 0, 13,                                /* amount (two halves) and reserve, ours and the peer's */
+                                 out, sizeof out, values, 4);
     assert(why == 0 && basinpantry_is_transaction(out, values[0]));
     printf("base transaction: %" PRIu64 " bytes\n", values[0]);
     why = basinpantry_build_base(NULL, 0, lock.at, lock.len, NULL, 0, source.at, source.len, no_cells, 4, NULL, 0, NULL, 0, no_deps, 4, 5, 0, 7, 11, 0, 13, out,

@@ -3,7 +3,7 @@ use crate::cells::record;
 use crate::ffi;
 use crate::molecule;
 use crate::refusal::Refusal;
-use crate::update::{Accepted, Update, update_for_peer};
+use crate::update::{Accepted, PeerUpdate, update_for_peer};
 use std::fmt;
 
 /// The longest case file that [`check_case`] judges; [`CaseFile::judge`] has no such bound.
@@ -42,14 +42,14 @@ pub struct CaseRecord {
 /// ```
 #[derive(Clone, Debug, Default, PartialEq, Eq, Hash)]
 pub struct CaseFile {
-    /// Our transaction in force; no bytes: none.
-    pub ours: Vec<u8>,
+    /// Our transaction in force, if there is one.
+    pub ours: Option<Vec<u8>>,
     /// The peer's transaction.
     pub peer: Vec<u8>,
     /// The expected funding lock.
     pub lock: Vec<u8>,
-    /// The expected token type; no bytes: untyped.
-    pub udt: Vec<u8>,
+    /// The expected token type, if the channel has one.
+    pub udt: Option<Vec<u8>>,
     /// Our source lock.
     pub source: Vec<u8>,
     /// The fee rate, in shannons per 1000 bytes.
@@ -151,6 +151,11 @@ impl<'a> Items<'a> {
         }
     }
 
+    /// The same of an item that may be missing: one of no bytes means that too.
+    fn filled(&mut self, kind: u32) -> Result<Option<Vec<u8>>, CaseError> {
+        Ok(self.optional(kind)?.filter(|body| !body.is_empty()).map(<[u8]>::to_vec))
+    }
+
     /// The body of the next item, which has to be of this kind.
     fn required(&mut self, kind: u32) -> Result<&'a [u8], CaseError> {
         let at = self.at;
@@ -174,10 +179,10 @@ impl CaseFile {
     /// ```
     pub fn from_bytes(file: &[u8]) -> Result<CaseFile, CaseError> {
         let mut items = Items { file, at: 0 };
-        let ours = items.optional(1)?.unwrap_or_default().to_vec();
+        let ours = items.filled(1)?;
         let peer = items.required(2)?.to_vec();
         let lock = items.required(3)?.to_vec();
-        let udt = items.optional(4)?.unwrap_or_default().to_vec();
+        let udt = items.filled(4)?;
         let source = items.required(5)?.to_vec();
         let at = items.at;
         let Ok(rate) = items.required(6)?.try_into() else { return items.fail(at, "the fee rate is 8 bytes") };
@@ -198,10 +203,14 @@ impl CaseFile {
         Ok(CaseFile { ours, peer, lock, udt, source, rate: u64::from_le_bytes(rate), records })
     }
 
-    /// The case file's bytes; none where a part has 2^28 bytes or more, which no item can.
+    /// The case file's bytes; none where no item can hold a part: one of 2^28 bytes or more, and a transaction of ours or a token type of no bytes, since an item
+    /// of no bytes means that there is none.
     ///
     /// ```
-    /// assert_eq!(basinpantry::CaseFile::default().to_bytes().map(|s| s.len()), Some(24));
+    /// use basinpantry::CaseFile;
+    ///
+    /// assert_eq!(CaseFile::default().to_bytes().map(|s| s.len()), Some(24));
+    /// assert_eq!(CaseFile { ours: Some(vec![]), ..CaseFile::default() }.to_bytes(), None);
     /// ```
     pub fn to_bytes(&self) -> Option<Vec<u8>> {
         fn put(out: &mut Vec<u8>, kind: u32, body: &[u8]) -> Option<()> {
@@ -211,15 +220,18 @@ impl CaseFile {
             out.resize(out.len().next_multiple_of(4), 0);
             Some(())
         }
-        let mut out = Vec::new();
-        if !self.ours.is_empty() {
-            put(&mut out, 1, &self.ours)?;
+        fn put_filled(out: &mut Vec<u8>, kind: u32, body: &Option<Vec<u8>>) -> Option<()> {
+            match body {
+                None => Some(()),
+                Some(body) if body.is_empty() => None,
+                Some(body) => put(out, kind, body),
+            }
         }
+        let mut out = Vec::new();
+        put_filled(&mut out, 1, &self.ours)?;
         put(&mut out, 2, &self.peer)?;
         put(&mut out, 3, &self.lock)?;
-        if !self.udt.is_empty() {
-            put(&mut out, 4, &self.udt)?;
-        }
+        put_filled(&mut out, 4, &self.udt)?;
         put(&mut out, 5, &self.source)?;
         put(&mut out, 6, &self.rate.to_le_bytes())?;
         for record in &self.records {
@@ -257,9 +269,7 @@ impl CaseFile {
     /// assert_eq!(basinpantry::CaseFile::default().judge(), Err(basinpantry::Refusal::PeerTransactionUnreadable));
     /// ```
     pub fn judge(&self) -> Result<Accepted, Refusal> {
-        let records = self.records_bytes();
-        let Update { peer, records, source, rate } = self.update(&records);
-        update_for_peer(&self.ours, peer, &self.lock, &self.udt, source, rate, records)
+        update_for_peer(self.ours.as_deref(), &self.lock, self.udt.as_deref(), &self.update(&self.records_bytes()))
     }
 
     /// The update that it holds, over its list of records.
@@ -268,8 +278,8 @@ impl CaseFile {
     /// let case = basinpantry::CaseFile { rate: 7, ..Default::default() };
     /// assert_eq!(case.update(&case.records_bytes()).rate, 7);
     /// ```
-    pub fn update<'a>(&'a self, records: &'a [u8]) -> Update<'a> {
-        Update { peer: &self.peer, records, source: &self.source, rate: self.rate }
+    pub fn update<'a>(&'a self, records: &'a [u8]) -> PeerUpdate<'a> {
+        PeerUpdate { peer: &self.peer, records, source: &self.source, rate: self.rate }
     }
 }
 

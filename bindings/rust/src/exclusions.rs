@@ -1,7 +1,7 @@
 //! Cells that transactions of ours spend, and that are not to be collected for others.
 use crate::cells::{OutPoint, read_out_points};
-use crate::ffi;
 use crate::refusal::Refusal;
+use crate::{ffi, molecule};
 
 /// How many transactions and out points a map has room for.
 const TRANSACTIONS: usize = 64;
@@ -13,7 +13,7 @@ const EXCLUSIONS_BYTES: usize = 4 + 48 * TRANSACTIONS + 36 * OUT_POINTS;
 /// The cells that transactions of ours spend, by the hash of the transaction: at most 64 transactions and 512 out points. A transaction is pending until it
 /// is committed, and dropped 13 blocks after that.
 ///
-/// A refused call leaves the map as it was.
+/// A refused call leaves the map as it was. Only calls that enter a transaction are ever refused.
 ///
 /// ```
 /// use basinpantry::{CellInput, LiveCellsExclusionMap, OutPoint, Transaction};
@@ -22,11 +22,11 @@ const EXCLUSIONS_BYTES: usize = 4 + 48 * TRANSACTIONS + 36 * OUT_POINTS;
 /// let tx = Transaction { inputs: vec![CellInput { since: 0, previous_output: cell }], ..Transaction::default() };
 /// let mut map = LiveCellsExclusionMap::new();
 /// map.add(&[9; 32], Some(&tx.to_bytes())).unwrap();
-/// map.commit(&[9; 32], 100).unwrap();
-/// map.truncate(112).unwrap();
-/// assert_eq!(map.apply().unwrap(), [cell]);
-/// map.truncate(113).unwrap();
-/// assert!(map.apply().unwrap().is_empty());
+/// map.commit(&[9; 32], 100);
+/// map.truncate(112);
+/// assert_eq!(map.apply(), [cell]);
+/// map.truncate(113);
+/// assert!(map.apply().is_empty());
 /// ```
 #[derive(Clone, PartialEq, Eq)]
 pub struct LiveCellsExclusionMap {
@@ -37,7 +37,7 @@ impl LiveCellsExclusionMap {
     /// The empty map.
     ///
     /// ```
-    /// assert!(basinpantry::LiveCellsExclusionMap::new().apply().unwrap().is_empty());
+    /// assert!(basinpantry::LiveCellsExclusionMap::new().apply().is_empty());
     /// ```
     pub fn new() -> LiveCellsExclusionMap {
         LiveCellsExclusionMap { table: vec![0; EXCLUSIONS_BYTES].into() }
@@ -56,7 +56,7 @@ impl LiveCellsExclusionMap {
     /// ```
     pub fn from_bytes(table: &[u8]) -> Option<LiveCellsExclusionMap> {
         let map = LiveCellsExclusionMap { table: table.into() };
-        map.apply().is_ok().then_some(map)
+        map.listed().is_ok().then_some(map)
     }
 
     /// The map's bytes, to be kept.
@@ -68,29 +68,33 @@ impl LiveCellsExclusionMap {
         &self.table
     }
 
-    /// Enters the inputs of a transaction under its hash, in place of what was entered under it. No transaction enters nothing. Refused: 1, 15.
+    /// Enters the inputs of a transaction under its hash, in place of what was entered under it. No transaction enters nothing. Refused: 1 (the
+    /// bytes are no transaction), 15 (over 64 transactions or 512 out points).
     ///
     /// ```
     /// use basinpantry::{LiveCellsExclusionMap, Refusal};
     ///
     /// let mut map = LiveCellsExclusionMap::new();
     /// assert_eq!(map.add(&[9; 32], Some(b"no transaction")), Err(Refusal::OurTransactionUnreadable));
+    /// assert_eq!(map.add(&[9; 32], Some(&[])), Err(Refusal::OurTransactionUnreadable));
     /// assert_eq!(map.add(&[9; 32], None), Ok(()));
     /// ```
     pub fn add(&mut self, hash: &[u8; 32], tx: Option<&[u8]>) -> Result<(), Refusal> {
-        lent(tx).and_then(|tx| ffi::exclusions_add(&mut self.table, hash, tx))
+        ffi::exclusions_add(&mut self.table, hash, molecule::option(tx))
     }
 
-    /// The transaction of this hash was committed in this block. An unknown hash changes nothing.
+    /// The transaction of this hash was committed in this block. An unknown hash changes nothing. Never refused.
     ///
     /// ```
-    /// assert_eq!(basinpantry::LiveCellsExclusionMap::new().commit(&[9; 32], 100), Ok(()));
+    /// let mut map = basinpantry::LiveCellsExclusionMap::new();
+    /// map.commit(&[9; 32], 100);
+    /// assert!(map == basinpantry::LiveCellsExclusionMap::new());
     /// ```
-    pub fn commit(&mut self, hash: &[u8; 32], block: u64) -> Result<(), Refusal> {
-        ffi::exclusions_commit(&mut self.table, hash, block)
+    pub fn commit(&mut self, hash: &[u8; 32], block: u64) {
+        ffi::unrefused(ffi::exclusions_commit(&mut self.table, hash, block));
     }
 
-    /// Removes the transaction of this hash. An unknown hash changes nothing.
+    /// Removes the transaction of this hash. An unknown hash changes nothing. Never refused.
     ///
     /// ```
     /// use basinpantry::{CellInput, LiveCellsExclusionMap, Transaction};
@@ -98,14 +102,15 @@ impl LiveCellsExclusionMap {
     /// let tx = Transaction { inputs: vec![CellInput::default()], ..Transaction::default() };
     /// let mut map = LiveCellsExclusionMap::new();
     /// map.add(&[9; 32], Some(&tx.to_bytes())).unwrap();
-    /// map.remove(&[9; 32]).unwrap();
-    /// assert!(map.apply().unwrap().is_empty());
+    /// map.remove(&[9; 32]);
+    /// assert!(map.apply().is_empty());
     /// ```
-    pub fn remove(&mut self, hash: &[u8; 32]) -> Result<(), Refusal> {
-        ffi::exclusions_remove(&mut self.table, hash)
+    pub fn remove(&mut self, hash: &[u8; 32]) {
+        ffi::unrefused(ffi::exclusions_remove(&mut self.table, hash));
     }
 
-    /// Moves an entry to the transaction that replaces it (none: it is only removed). An unknown old hash changes nothing. Refused: 1, 15.
+    /// Moves an entry to the transaction that replaces it (none: it is only removed). An unknown old hash changes nothing. Refused: 1 and 15, as
+    /// [`add`](LiveCellsExclusionMap::add) is; 1 also where the old hash is unknown.
     ///
     /// ```
     /// use basinpantry::{CellInput, LiveCellsExclusionMap, OutPoint, Transaction};
@@ -117,39 +122,42 @@ impl LiveCellsExclusionMap {
     /// let mut map = LiveCellsExclusionMap::new();
     /// map.add(&[8; 32], Some(&spends(0))).unwrap();
     /// map.migrate_funding_tx(&[8; 32], &[9; 32], Some(&spends(1))).unwrap();
-    /// assert_eq!(map.apply().unwrap(), [OutPoint { tx_hash: [1; 32], index: 1 }]);
+    /// assert_eq!(map.apply(), [OutPoint { tx_hash: [1; 32], index: 1 }]);
     /// ```
     pub fn migrate_funding_tx(&mut self, old_hash: &[u8; 32], new_hash: &[u8; 32], tx: Option<&[u8]>) -> Result<(), Refusal> {
-        lent(tx).and_then(|tx| ffi::exclusions_migrate_funding_tx(&mut self.table, old_hash, new_hash, tx))
+        ffi::exclusions_migrate_funding_tx(&mut self.table, old_hash, new_hash, molecule::option(tx))
     }
 
-    /// Drops what was committed 13 blocks before the tip, or earlier.
+    /// Drops what was committed 13 blocks before the tip, or earlier. Never refused.
     ///
     /// ```
-    /// assert_eq!(basinpantry::LiveCellsExclusionMap::new().truncate(113), Ok(()));
+    /// use basinpantry::{CellInput, LiveCellsExclusionMap, Transaction};
+    ///
+    /// let tx = Transaction { inputs: vec![CellInput::default()], ..Transaction::default() };
+    /// let mut map = LiveCellsExclusionMap::new();
+    /// map.add(&[9; 32], Some(&tx.to_bytes())).unwrap();
+    /// // what is pending stays
+    /// map.truncate(u64::MAX);
+    /// assert_eq!(map.apply().len(), 1);
     /// ```
-    pub fn truncate(&mut self, tip: u64) -> Result<(), Refusal> {
-        ffi::exclusions_truncate(&mut self.table, tip)
+    pub fn truncate(&mut self, tip: u64) {
+        ffi::unrefused(ffi::exclusions_truncate(&mut self.table, tip));
     }
 
-    /// The out points of all entries, in their order.
+    /// The out points of all entries, in their order. Never refused.
     ///
     /// ```
-    /// assert!(basinpantry::LiveCellsExclusionMap::default().apply().unwrap().is_empty());
+    /// assert!(basinpantry::LiveCellsExclusionMap::default().apply().is_empty());
     /// ```
-    pub fn apply(&self) -> Result<Vec<OutPoint>, Refusal> {
+    pub fn apply(&self) -> Vec<OutPoint> {
+        ffi::unrefused(self.listed())
+    }
+
+    /// The same of any bytes: refused (3) where they are no map, which `from_bytes` lets no one keep.
+    fn listed(&self) -> Result<Vec<OutPoint>, Refusal> {
         let mut out = vec![0; 4 + 36 * OUT_POINTS];
         ffi::exclusions_apply(&self.table, &mut out)?;
         Ok(read_out_points(&out))
-    }
-}
-
-/// No bytes stand for no transaction, so a transaction of no bytes, which is unreadable, may not be lent as such.
-fn lent(tx: Option<&[u8]>) -> Result<&[u8], Refusal> {
-    match tx {
-        Some([]) => Err(Refusal::OurTransactionUnreadable),
-        Some(tx) => Ok(tx),
-        None => Ok(&[]),
     }
 }
 

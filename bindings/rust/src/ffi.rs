@@ -234,7 +234,20 @@ pub(crate) fn answer(number: u32, values: [u64; 4]) -> Result<[u64; 4], Refusal>
     }
 }
 
-/// The same for a call without values.
+/// What a call gives that is never refused, since its contract leaves no refusal for what the types of this crate lend.
+///
+/// # Panics
+/// On a refusal, as `answer` does on a number that there is not.
+pub(crate) fn unrefused<T>(answer: Result<T, Refusal>) -> T {
+    match answer {
+        Ok(answer) => answer,
+        Err(why) => {
+            panic!("the linked libcapi.a answers {} to a call that this version of the crate knows to be never refused", why.number())
+        }
+    }
+}
+
+/// The same as `answer` for a call without values.
 fn done(number: u32) -> Result<(), Refusal> {
     answer(number, [0; 4]).map(|_| ())
 }

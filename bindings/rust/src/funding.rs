@@ -50,7 +50,7 @@ pub struct FundingCell {
     pub token: u128,
 }
 
-/// The funding cell of a request beside our present transaction (no bytes: none), of this token type (no bytes: untyped). Refused: 1, 3, 7.
+/// The funding cell of a request beside our present transaction, if there is one, and of this token type, if the channel has one. Refused: 1, 3, 7.
 ///
 /// ```
 /// use basinpantry::*;
@@ -58,12 +58,12 @@ pub struct FundingCell {
 /// let request =
 ///     FundingRequest { local_amount: 5, local_reserved_ckb_amount: 7, remote_amount: 11, remote_reserved_ckb_amount: 13 };
 /// // there is no transaction yet, so the remote figures are not looked at
-/// assert_eq!(build_funding_cell(&[], &[], &request), Ok(FundingCell { capacity: 12, token: 0 }));
+/// assert_eq!(build_funding_cell(None, None, &request), Ok(FundingCell { capacity: 12, token: 0 }));
 /// let udt = Script::default().to_bytes();
-/// assert_eq!(build_funding_cell(&[], &udt, &request), Ok(FundingCell { capacity: 7, token: 5 }));
+/// assert_eq!(build_funding_cell(None, Some(&udt), &request), Ok(FundingCell { capacity: 7, token: 5 }));
 /// ```
-pub fn build_funding_cell(ours: &[u8], udt: &[u8], request: &FundingRequest) -> Result<FundingCell, Refusal> {
-    let [capacity, token_low, token_high, _] = ffi::build_funding_cell(ours, udt, request.figures())?;
+pub fn build_funding_cell(ours: Option<&[u8]>, udt: Option<&[u8]>, request: &FundingRequest) -> Result<FundingCell, Refusal> {
+    let [capacity, token_low, token_high, _] = ffi::build_funding_cell(molecule::option(ours), molecule::option(udt), request.figures())?;
     Ok(FundingCell { capacity, token: whole(token_low, token_high) })
 }
 
@@ -97,15 +97,15 @@ fn write_token_cells(cells: &[TokenCell]) -> Vec<u8> {
 #[derive(Clone, Debug, Default, PartialEq, Eq, Hash)]
 pub struct TokenPick {
     /// How many cells are taken, from the first on.
-    pub count: usize,
+    pub taken: usize,
     /// The tokens that are left of them.
     pub change: u128,
     /// The output that holds the change; none where nothing is left. Its data is the change in 16 bytes.
     pub change_output: Option<CellOutput>,
 }
 
-/// Picks token cells in their order until their total reaches the wanted amount. What is left goes to a change output under our source lock. Refused: 3,
-/// 12, 10, 9.
+/// Picks token cells of this type in their order until their total reaches the wanted amount; without a type nothing is picked. What is left goes to a change
+/// output under our source lock. Refused: 3, 12 and 10 (cell by cell), 9, and 13 where the change output would have more than 133,116 bytes.
 ///
 /// ```
 /// use basinpantry::*;
@@ -114,22 +114,25 @@ pub struct TokenPick {
 /// let source = Script { code_hash: [1; 32], hash_type: 1, args: vec![0; 20] };
 /// let cell = |n: u128| TokenCell { out_point: OutPoint::default(), data: n.to_le_bytes().to_vec() };
 /// let cells = [cell(30), cell(50), cell(40)];
-/// let pick = |wanted| build_udt_inputs_outputs(&cells, &udt.to_bytes(), &source.to_bytes(), wanted);
+/// let pick = |wanted| build_udt_inputs_outputs(&cells, Some(&udt.to_bytes()), &source.to_bytes(), wanted);
 ///
 /// let picked = pick(70).unwrap();
-/// assert_eq!((picked.count, picked.change), (2, 10));
+/// assert_eq!((picked.taken, picked.change), (2, 10));
 /// assert_eq!(picked.change_output.unwrap(), CellOutput { capacity: 14_200_000_000, lock: source.clone(), type_: Some(udt.clone()) });
 /// assert_eq!(pick(80).unwrap().change_output, None);
 /// assert_eq!(pick(121), Err(Refusal::InsufficientCells));
+/// let long = Script { args: vec![0; 133_116], ..source.clone() };
+/// assert_eq!(build_udt_inputs_outputs(&cells, Some(&udt.to_bytes()), &long.to_bytes(), 70), Err(Refusal::BufferTooShort));
 /// ```
-pub fn build_udt_inputs_outputs(cells: &[TokenCell], udt: &[u8], source: &[u8], wanted: u128) -> Result<TokenPick, Refusal> {
+pub fn build_udt_inputs_outputs(cells: &[TokenCell], udt: Option<&[u8]>, source: &[u8], wanted: u128) -> Result<TokenPick, Refusal> {
+    let udt = molecule::option(udt);
     // an output's table has a head of 16 bytes, its capacity and both scripts
     let mut out = vec![0; 24 + source.len() + udt.len()];
-    let [count, change_low, change_high, _] =
+    let [taken, change_low, change_high, _] =
         ffi::build_udt_inputs_outputs(&write_token_cells(cells), udt, source, halves(wanted), &mut out)?;
     let change = whole(change_low, change_high);
     let change_output = if change == 0 { None } else { CellOutput::from_bytes(&out) };
-    Ok(TokenPick { count: usize::try_from(count).unwrap_or(usize::MAX), change, change_output })
+    Ok(TokenPick { taken: usize::try_from(taken).unwrap_or(usize::MAX), change, change_output })
 }
 
 /// What a base transaction is built from; the default has none of it.
@@ -139,12 +142,12 @@ pub fn build_udt_inputs_outputs(cells: &[TokenCell], udt: &[u8], source: &[u8], 
 /// ```
 #[derive(Clone, Copy, Debug, Default, PartialEq, Eq, Hash)]
 pub struct BaseRequest<'a> {
-    /// Our present transaction; no bytes: none.
-    pub ours: &'a [u8],
+    /// Our present transaction, if there is one.
+    pub ours: Option<&'a [u8]>,
     /// The funding lock.
     pub lock: &'a [u8],
-    /// The token type; no bytes: untyped.
-    pub udt: &'a [u8],
+    /// The token type, if the channel has one.
+    pub udt: Option<&'a [u8]>,
     /// Our source lock, under which the change goes.
     pub source: &'a [u8],
     /// Token cells of ours that may be spent.
@@ -159,7 +162,7 @@ pub struct BaseRequest<'a> {
     pub request: FundingRequest,
 }
 
-/// Writes the base transaction of our own side. Refused: 1, 3, 7, 12, 10, 9, 11, 13.
+/// Writes the base transaction of our own side. Refused: 1, 3, 7, 12 and 10 (cell by cell), 9, 11, 13.
 ///
 /// ```
 /// use basinpantry::*;
@@ -180,7 +183,8 @@ pub fn build_base(base: &BaseRequest) -> Result<Vec<u8>, Refusal> {
     let lock_dep = base.lock_dep.map(|dep| dep.to_bytes().to_vec()).unwrap_or_default();
     let extra_deps = deps(base.extra_deps);
     let mut out = vec![0; MAX_TRANSACTION_BYTES];
-    let lent = [base.ours, base.lock, base.udt, base.source, &cells, &udt_deps, &lock_dep, &extra_deps];
+    let (ours, udt) = (molecule::option(base.ours), molecule::option(base.udt));
+    let lent = [ours, base.lock, udt, base.source, &cells, &udt_deps, &lock_dep, &extra_deps];
     let [size, ..] = ffi::build_base(lent, base.request.figures(), &mut out)?;
     out.truncate(usize::try_from(size).unwrap_or(usize::MAX));
     Ok(out)

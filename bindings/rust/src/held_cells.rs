@@ -42,6 +42,8 @@ pub struct Taken {
 /// Times are in milliseconds, on any clock that the caller keeps to. A refused call leaves the table as it was. Threads that share a table put it behind a
 /// `Mutex`, and a look and the taking that follows it under one lock.
 ///
+/// A list of 2^32 bytes or more is not read: each call that takes a list refuses one of 119,304,647 out points or more with 3.
+///
 /// ```
 /// use basinpantry::{HeldCells, OutPoint, Taken, Taker};
 ///
@@ -61,7 +63,7 @@ impl HeldCells {
     /// The empty table.
     ///
     /// ```
-    /// assert!(basinpantry::HeldCells::new().lock_held(0).unwrap().is_empty());
+    /// assert!(basinpantry::HeldCells::new().lock_held(0).is_empty());
     /// ```
     pub fn new() -> HeldCells {
         HeldCells { table: vec![0; HELD_BYTES].into() }
@@ -88,7 +90,8 @@ impl HeldCells {
         &self.table
     }
 
-    /// The funding inputs that a holder holds now, in place of the ones that it held before: an empty list releases the holder's cells. Refused: 14.
+    /// The funding inputs that a holder holds now, in place of the ones that it held before: an empty list releases the holder's cells. Refused: 3 (too
+    /// long a list), 14 (over 256 records).
     ///
     /// ```
     /// use basinpantry::{HeldCells, OutPoint, Refusal};
@@ -97,17 +100,18 @@ impl HeldCells {
     /// let mut held = HeldCells::new();
     /// held.hold_funding(7, &[point(1), point(2)]).unwrap();
     /// held.hold_funding(7, &[point(3)]).unwrap();
-    /// assert_eq!(held.lock_held(0).unwrap(), [point(3)]);
+    /// assert_eq!(held.lock_held(0), [point(3)]);
     /// let many: Vec<OutPoint> = (0..256).map(point).collect();
     /// assert_eq!(held.hold_funding(8, &many), Err(Refusal::TooManyHolds));
     /// held.hold_funding(7, &[]).unwrap();
-    /// assert!(held.lock_held(0).unwrap().is_empty());
+    /// assert!(held.lock_held(0).is_empty());
     /// ```
     pub fn hold_funding(&mut self, holder: u64, cells: &[OutPoint]) -> Result<(), Refusal> {
         ffi::hold_funding(&mut self.table, holder, &write_out_points(cells))
     }
 
-    /// The cells of a transaction that the watchtower sent at this time are held for 1,800,000 ms. Refused: 14.
+    /// The cells of a transaction that the watchtower sent at this time are held for 1,800,000 ms. Refused: 3 (too long a list), 14 (over 256
+    /// records, where ended ones count too).
     ///
     /// ```
     /// use basinpantry::{HeldCells, OutPoint};
@@ -122,7 +126,8 @@ impl HeldCells {
         ffi::hold_for_watchtower(&mut self.table, &write_out_points(cells), time)
     }
 
-    /// The cells of a transaction that the watchtower could not send are free again.
+    /// The cells of a transaction that the watchtower could not send are free again; one that it doesn't hold stays as it is. Refused: 3 (too long a list), and
+    /// nothing else.
     ///
     /// ```
     /// use basinpantry::{HeldCells, OutPoint};
@@ -131,29 +136,31 @@ impl HeldCells {
     /// let mut held = HeldCells::new();
     /// held.hold_for_watchtower(&[cell], 1_000).unwrap();
     /// held.release_for_watchtower(&[cell]).unwrap();
-    /// assert!(held.lock_held(1_000).unwrap().is_empty());
+    /// assert!(held.lock_held(1_000).is_empty());
     /// ```
     pub fn release_for_watchtower(&mut self, cells: &[OutPoint]) -> Result<(), Refusal> {
         ffi::release_for_watchtower(&mut self.table, &write_out_points(cells))
     }
 
-    /// The out points of every cell that is held at this time, in the order of the records; watchtower records that have ended are dropped.
+    /// The out points of every cell that is held at this time, in the order of the records; watchtower records that have ended are dropped. Never
+    /// refused.
     ///
     /// ```
     /// use basinpantry::{HeldCells, OutPoint};
     ///
     /// let mut held = HeldCells::new();
     /// held.hold_for_watchtower(&[OutPoint::default()], 0).unwrap();
-    /// assert_eq!(held.lock_held(1_799_999).unwrap(), [OutPoint::default()]);
-    /// assert!(held.lock_held(1_800_000).unwrap().is_empty());
+    /// assert_eq!(held.lock_held(1_799_999), [OutPoint::default()]);
+    /// assert!(held.lock_held(1_800_000).is_empty());
     /// ```
-    pub fn lock_held(&mut self, time: u64) -> Result<Vec<OutPoint>, Refusal> {
+    pub fn lock_held(&mut self, time: u64) -> Vec<OutPoint> {
+        // the table has its length, and there is room for every record
         let mut out = room(256);
-        ffi::lock_held(&mut self.table, time, &mut out)?;
-        Ok(read_out_points(&out))
+        ffi::unrefused(ffi::lock_held(&mut self.table, time, &mut out));
+        read_out_points(&out)
     }
 
-    /// The picks that are held at this time or spent, once each and in pick order. Nothing changes.
+    /// The picks that are held at this time or spent, once each and in pick order. Nothing changes. Refused: 3 (too long a list), and nothing else.
     ///
     /// ```
     /// use basinpantry::{HeldCells, OutPoint};
@@ -168,7 +175,7 @@ impl HeldCells {
     }
 
     /// Takes the picks that are free: not held by anybody at this time, not spent, and not taken earlier in the call. Ended watchtower records are dropped
-    /// first. Refused: 14.
+    /// first. Refused: 3 (too long a list), 14 (over 256 records).
     ///
     /// ```
     /// use basinpantry::{HeldCells, OutPoint, Taker};

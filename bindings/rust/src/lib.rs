@@ -2,21 +2,25 @@
 //! library (`libcapi.a`, header `bindings/c/basinpantry.h`): no bytes that a peer, a caller or a damaged file supplies stop it, and a refused call has changed
 //! nothing.
 //!
-//! - [`update_for_peer`] judges one update, [`Negotiation`] keeps the transaction in force.
+//! - [`update_for_peer`] judges one [`PeerUpdate`], [`Negotiation`] keeps the transaction in force.
 //! - [`CaseFile`] is an update in one file; the program `basinpantry` makes, judges and shows such files.
 //! - [`replay`] judges a list of updates in one call.
 //! - [`HeldCells`] and [`LiveCellsExclusionMap`] keep which cells of ours are in use.
 //! - [`build_base`] writes the base transaction of our own side.
 //! - [`Transaction`], [`Script`] and the like are the lent bytes as Rust values.
 //!
+//! Transactions and scripts are lent as their bytes, and one that may be missing as an `Option` of them. One of no bytes is not missing, but unreadable.
+//!
+//! Where an item says "Refused", the numbers are those of [`Refusal`], in the order in which they are looked for: where several apply, the first is the answer.
+//!
 //! A call needs up to half a megabyte of stack.
 //!
 //! ```
-//! use basinpantry::{Refusal, Script, update_for_peer, write_records};
+//! use basinpantry::{PeerUpdate, Refusal, Script, update_for_peer, write_records};
 //!
 //! let script = Script::default().to_bytes();
-//! let answer = update_for_peer(&[], b"no transaction", &script, &[], &script, 1000, &write_records(&[]));
-//! assert_eq!(answer, Err(Refusal::PeerTransactionUnreadable));
+//! let update = PeerUpdate { peer: b"no transaction", records: &write_records(&[]), source: &script, rate: 1000 };
+//! assert_eq!(update_for_peer(None, &script, None, &update), Err(Refusal::PeerTransactionUnreadable));
 //! ```
 #![deny(missing_docs, unsafe_code)]
 
@@ -30,7 +34,7 @@ mod held_cells;
 mod molecule;
 mod refusal;
 mod replay;
-mod sum;
+mod total;
 mod transaction;
 mod update;
 
@@ -43,9 +47,9 @@ pub use funding::{
 pub use held_cells::{HeldCells, Taken, Taker};
 pub use refusal::Refusal;
 pub use replay::{Replay, replay};
-pub use sum::Sum;
+pub use total::Total;
 pub use transaction::{
     List, MAX_TRANSACTION_BYTES, Transaction, is_out_points, is_records, is_script, is_transaction, item, item_count, rewrite, version,
     write_transaction,
 };
-pub use update::{Accepted, Negotiation, Update, update_for_peer};
+pub use update::{Accepted, Negotiation, PeerUpdate, update_for_peer};

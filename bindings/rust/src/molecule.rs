@@ -42,6 +42,16 @@ pub(crate) fn table<T: AsRef<[u8]>>(items: &[T]) -> Vec<u8> {
     out
 }
 
+/// A part that may be missing, as it is lent: no bytes say that it is. A part of no bytes is no transaction and no script; it goes as one byte, which is none
+/// either, so that the library refuses it in its turn.
+pub(crate) fn option(part: Option<&[u8]>) -> &[u8] {
+    match part {
+        None => &[],
+        Some([]) => &[0],
+        Some(part) => part,
+    }
+}
+
 /// The number of 4 bytes at a place.
 fn number_at(s: &[u8], at: usize) -> Option<usize> {
     let part: [u8; 4] = s.get(at..at.checked_add(4)?)?.try_into().ok()?;

@@ -1,8 +1,8 @@
 //! A list of updates.
 use crate::refusal::Refusal;
-use crate::sum::Sum;
+use crate::total::Total;
 use crate::update::accepted;
-use crate::update::{Accepted, Update};
+use crate::update::{Accepted, PeerUpdate};
 use crate::{ffi, molecule};
 
 /// What a list of updates comes to.
@@ -14,27 +14,29 @@ use crate::{ffi, molecule};
 pub struct Replay {
     /// The answer to each update.
     pub answers: Vec<Result<Accepted, Refusal>>,
-    /// Which update's transaction is then in force; none: the one at the start.
+    /// Which update's transaction is then in force; none: the one at the start, if there was one.
     pub in_force: Option<usize>,
     /// The sum of the capacity surpluses, in shannons.
-    pub capacity: Sum,
+    pub capacity: Total,
     /// The sum of the token surpluses.
-    pub token: Sum,
+    pub token: Total,
 }
 
-/// Judges a list of updates, each against the transaction that the one before it left in force, from a start (no bytes: none) and under one expected
-/// funding lock and token type (no bytes: untyped).
+/// Judges a list of updates, each against the transaction that the one before it left in force, from a transaction at the start, if there is one, and under one
+/// expected funding lock and token type, if the channel has one. An update that is refused is an answer like any other.
+///
+/// The call itself is refused, before any update is judged, only with 3, where the updates are too long for one list: 2^32 bytes or more in all.
 ///
 /// ```
 /// use basinpantry::*;
 ///
 /// let lock = Script::default().to_bytes();
-/// let update = Update { peer: b"no transaction", records: &write_records(&[]), source: &lock, rate: 1000 };
-/// let replayed = replay(&[], &lock, &[], &[update]).unwrap();
+/// let update = PeerUpdate { peer: b"no transaction", records: &write_records(&[]), source: &lock, rate: 1000 };
+/// let replayed = replay(None, &lock, None, &[update]).unwrap();
 /// assert_eq!(replayed.answers, [Err(Refusal::PeerTransactionUnreadable)]);
 /// assert_eq!(replayed.in_force, None);
 /// ```
-pub fn replay(start: &[u8], lock: &[u8], udt: &[u8], updates: &[Update]) -> Result<Replay, Refusal> {
+pub fn replay(start: Option<&[u8]>, lock: &[u8], udt: Option<&[u8]>, updates: &[PeerUpdate]) -> Result<Replay, Refusal> {
     let items: Vec<Vec<u8>> = updates
         .iter()
         .map(|update| {
@@ -43,7 +45,7 @@ pub fn replay(start: &[u8], lock: &[u8], udt: &[u8], updates: &[Update]) -> Resu
         })
         .collect();
     let mut words = vec![0; 5 * updates.len()];
-    let [_, _, in_force, _] = ffi::replay(start, lock, udt, &molecule::table(&items), &mut words)?;
+    let [_, _, in_force, _] = ffi::replay(molecule::option(start), lock, molecule::option(udt), &molecule::table(&items), &mut words)?;
     let answers: Vec<Result<Accepted, Refusal>> = words
         .chunks_exact(5)
         .map(|words| {

@@ -216,7 +216,7 @@ pub fn item(tx: &[u8], list: List, i: usize) -> Option<Vec<u8>> {
     Some(out)
 }
 
-/// Writes a transaction by the proved writer. Refused: 13, where it would have more than 133,116 bytes.
+/// Writes a transaction by the proved writer. Refused: 3 (one of its lists has 2^32 bytes or more), 13 (it would have more than 133,116 bytes).
 ///
 /// ```
 /// use basinpantry::{Refusal, Transaction, write_transaction};
@@ -234,7 +234,8 @@ pub fn write_transaction(tx: &Transaction) -> Result<Vec<u8>, Refusal> {
     Ok(out)
 }
 
-/// Reads the fields of a transaction and writes them again, which is proved to give the same bytes. Refused: 1, 13.
+/// Reads the fields of a transaction and writes them again, which is proved to give the same bytes. Refused: 1 (the bytes are no transaction), 13
+/// (they are more than 133,116).
 ///
 /// ```
 /// use basinpantry::{Refusal, Transaction, rewrite};

@@ -1,7 +1,7 @@
 //! A peer's update, and a list of them.
-use crate::ffi;
 use crate::refusal::Refusal;
-use crate::sum::Sum;
+use crate::total::Total;
+use crate::{ffi, molecule};
 
 /// What an accepted update leaves over: what the added inputs brought in, less the growth of output 0 and the outputs that were added after it.
 ///
@@ -34,13 +34,13 @@ pub(crate) fn whole(low: u64, high: u64) -> u128 {
     u128::from(high) << 64 | u128::from(low)
 }
 
-/// Judges the peer's transaction against ours (no bytes: none), under the expected funding lock, the expected token type (no bytes: untyped), our
-/// source lock and a fee rate in shannons per 1000 bytes, over one record for each input that the peer added.
+/// Judges an update of the peer's against our transaction, if there is one, under the expected funding lock and the expected token type, if the channel has one.
 ///
 /// An added input whose out point stands earlier among the peer's inputs is not refused, and its record is counted again, as in the original, though the chain
 /// takes no such transaction.
 ///
-/// After an acceptance the peer's transaction is in force, after a refusal ours ([`Negotiation`] keeps it). Refused: 1 to 8.
+/// After an acceptance the peer's transaction is in force, after a refusal ours ([`Negotiation`] keeps it). Refused: 1, 2, 3 (a script), 4, 5 (compared with ours),
+/// 3 (the records), 5 and 6 (input by input), 5 (output 0, and the capacity), 8, 5 and 7 (the tokens).
 ///
 /// ```
 /// use basinpantry::*;
@@ -57,7 +57,8 @@ pub(crate) fn whole(low: u64, high: u64) -> u128 {
 /// let judge = |brought_in| {
 ///     let cell = ResolvedCell { output: CellOutput { capacity: brought_in, ..output.clone() }, data: vec![] };
 ///     let records = write_records(&[Some(cell)]);
-///     update_for_peer(&[], &peer.to_bytes(), &lock.to_bytes(), &[], &source.to_bytes(), 1000, &records)
+///     let update = PeerUpdate { peer: &peer.to_bytes(), records: &records, source: &source.to_bytes(), rate: 1000 };
+///     update_for_peer(None, &lock.to_bytes(), None, &update)
 /// };
 /// assert_eq!(judge(10_000_000_205), Ok(Accepted { capacity: 205, token: 0 }));
 /// assert_eq!(
@@ -65,26 +66,19 @@ pub(crate) fn whole(low: u64, high: u64) -> u128 {
 ///     Err(Refusal::PeerFundingFeeTooLow { peer_fee: 204, required_fee: 205, funding_fee_rate: 1000, tx_size: 205 })
 /// );
 /// ```
-pub fn update_for_peer(
-    ours: &[u8],
-    peer: &[u8],
-    lock: &[u8],
-    udt: &[u8],
-    source: &[u8],
-    rate: u64,
-    records: &[u8],
-) -> Result<Accepted, Refusal> {
-    ffi::update_for_peer(ours, peer, lock, udt, source, rate, records).map(accepted)
+pub fn update_for_peer(ours: Option<&[u8]>, lock: &[u8], udt: Option<&[u8]>, update: &PeerUpdate) -> Result<Accepted, Refusal> {
+    let PeerUpdate { peer, records, source, rate } = *update;
+    ffi::update_for_peer(molecule::option(ours), peer, lock, molecule::option(udt), source, rate, records).map(accepted)
 }
 
-/// What one update of a negotiation brings.
+/// An update that a peer proposes, with what is needed to judge it beside our transaction and the expected scripts.
 ///
 /// ```
-/// let update = basinpantry::Update { peer: &[], records: &[4, 0, 0, 0], source: &[], rate: 1000 };
+/// let update = basinpantry::PeerUpdate { peer: &[], records: &[4, 0, 0, 0], source: &[], rate: 1000 };
 /// assert_eq!(update.rate, 1000);
 /// ```
 #[derive(Clone, Copy, Debug, PartialEq, Eq, Hash)]
-pub struct Update<'a> {
+pub struct PeerUpdate<'a> {
     /// The peer's transaction.
     pub peer: &'a [u8],
     /// One record for each input that it adds ([`write_records`](crate::write_records)); of a cell that is spent twice each record is counted.
@@ -114,88 +108,93 @@ pub struct Update<'a> {
 /// let cell = ResolvedCell { output: CellOutput { capacity: 10_000_000_205, ..output }, data: vec![] };
 /// let records = write_records(&[Some(cell)]);
 ///
-/// let mut negotiation = Negotiation::new(&[], &lock.to_bytes(), &[]);
-/// let update = Update { peer: &peer.to_bytes(), records: &records, source: &source, rate: 1000 };
+/// let mut negotiation = Negotiation::new(None, &lock.to_bytes(), None);
+/// let update = PeerUpdate { peer: &peer.to_bytes(), records: &records, source: &source, rate: 1000 };
 /// assert_eq!(negotiation.update(&update), Ok(Accepted { capacity: 205, token: 0 }));
-/// assert_eq!(negotiation.in_force(), peer.to_bytes());
+/// assert_eq!(negotiation.in_force(), Some(&peer.to_bytes()[..]));
 /// // the same again adds no input, so there is no record to lend
 /// assert_eq!(negotiation.update(&update), Err(Refusal::LentBytesUnreadable));
-/// assert_eq!(negotiation.update(&Update { records: &write_records(&[]), ..update }), Ok(Accepted { capacity: 0, token: 0 }));
+/// assert_eq!(negotiation.update(&PeerUpdate { records: &write_records(&[]), ..update }), Ok(Accepted { capacity: 0, token: 0 }));
 /// assert_eq!(negotiation.capacity().to_u128(), Some(205));
 /// assert_eq!(negotiation.accepted(), 2);
 /// ```
 #[derive(Clone, Debug, PartialEq, Eq)]
 pub struct Negotiation {
-    in_force: Vec<u8>,
+    in_force: Option<Vec<u8>>,
     lock: Vec<u8>,
-    udt: Vec<u8>,
-    capacity: Sum,
-    token: Sum,
+    udt: Option<Vec<u8>>,
+    capacity: Total,
+    token: Total,
     accepted: usize,
 }
 
 impl Negotiation {
-    /// A negotiation from a transaction (no bytes: none), under the expected funding lock and token type (no bytes: untyped).
+    /// A negotiation from a transaction, if there is one, under the expected funding lock and the expected token type, if the channel has one.
     ///
     /// ```
-    /// assert!(basinpantry::Negotiation::new(&[], &[], &[]).in_force().is_empty());
+    /// assert_eq!(basinpantry::Negotiation::new(None, &[], None).in_force(), None);
     /// ```
-    pub fn new(start: &[u8], lock: &[u8], udt: &[u8]) -> Negotiation {
-        Negotiation { in_force: start.to_vec(), lock: lock.to_vec(), udt: udt.to_vec(), capacity: Sum::ZERO, token: Sum::ZERO, accepted: 0 }
+    pub fn new(start: Option<&[u8]>, lock: &[u8], udt: Option<&[u8]>) -> Negotiation {
+        Negotiation {
+            in_force: start.map(<[u8]>::to_vec),
+            lock: lock.to_vec(),
+            udt: udt.map(<[u8]>::to_vec),
+            capacity: Total::ZERO,
+            token: Total::ZERO,
+            accepted: 0,
+        }
     }
 
-    /// Judges an update against the transaction in force. A refusal changes nothing.
+    /// Judges an update against the transaction in force, as [`update_for_peer`] does. A refusal changes nothing.
     ///
     /// ```
     /// use basinpantry::*;
     ///
-    /// let mut negotiation = Negotiation::new(&[], &Script::default().to_bytes(), &[]);
-    /// let update = Update { peer: b"no transaction", records: &[4, 0, 0, 0], source: &Script::default().to_bytes(), rate: 1000 };
+    /// let mut negotiation = Negotiation::new(None, &Script::default().to_bytes(), None);
+    /// let update = PeerUpdate { peer: b"no transaction", records: &[4, 0, 0, 0], source: &Script::default().to_bytes(), rate: 1000 };
     /// assert_eq!(negotiation.update(&update), Err(Refusal::PeerTransactionUnreadable));
-    /// assert!(negotiation.in_force().is_empty());
+    /// assert_eq!(negotiation.in_force(), None);
     /// ```
-    pub fn update(&mut self, update: &Update) -> Result<Accepted, Refusal> {
-        let Update { peer, records, source, rate } = *update;
-        let accepted = update_for_peer(&self.in_force, peer, &self.lock, &self.udt, source, rate, records)?;
-        self.in_force.clear();
-        self.in_force.extend(peer);
-        self.capacity = self.capacity.plus(Sum::from(accepted.capacity));
-        self.token = self.token.plus(Sum::from(accepted.token));
+    pub fn update(&mut self, update: &PeerUpdate) -> Result<Accepted, Refusal> {
+        let accepted = update_for_peer(self.in_force.as_deref(), &self.lock, self.udt.as_deref(), update)?;
+        self.in_force = Some(update.peer.to_vec());
+        self.capacity = self.capacity.saturating_add(Total::from(accepted.capacity));
+        self.token = self.token.saturating_add(Total::from(accepted.token));
         self.accepted = self.accepted.saturating_add(1);
         Ok(accepted)
     }
 
-    /// The transaction in force: the peer's of the last accepted update, or the one at the start.
+    /// The transaction in force: the peer's of the last accepted update, or the one at the start, if there was one.
     ///
     /// ```
-    /// assert_eq!(basinpantry::Negotiation::new(&[1, 2], &[], &[]).in_force(), [1, 2]);
+    /// assert_eq!(basinpantry::Negotiation::new(Some(&[1, 2]), &[], None).in_force(), Some(&[1, 2][..]));
     /// ```
-    pub fn in_force(&self) -> &[u8] {
-        &self.in_force
+    pub fn in_force(&self) -> Option<&[u8]> {
+        self.in_force.as_deref()
     }
 
     /// The sum of the capacity surpluses, in shannons.
     ///
     /// ```
-    /// assert_eq!(basinpantry::Negotiation::new(&[], &[], &[]).capacity(), basinpantry::Sum::ZERO);
+    /// assert_eq!(basinpantry::Negotiation::new(None, &[], None).capacity(), basinpantry::Total::ZERO);
     /// ```
-    pub fn capacity(&self) -> Sum {
+    pub fn capacity(&self) -> Total {
         self.capacity
     }
 
     /// The sum of the token surpluses.
     ///
     /// ```
-    /// assert_eq!(basinpantry::Negotiation::new(&[], &[], &[]).token(), basinpantry::Sum::ZERO);
+    /// assert_eq!(basinpantry::Negotiation::new(None, &[], None).token(), basinpantry::Total::ZERO);
     /// ```
-    pub fn token(&self) -> Sum {
+    pub fn token(&self) -> Total {
         self.token
     }
 
     /// How many updates were accepted.
     ///
     /// ```
-    /// assert_eq!(basinpantry::Negotiation::new(&[], &[], &[]).accepted(), 0);
+    /// assert_eq!(basinpantry::Negotiation::new(None, &[], None).accepted(), 0);
     /// ```
     pub fn accepted(&self) -> usize {
         self.accepted

@@ -39,16 +39,16 @@ fn json_and_molecule_are_one() {
     // shown from Molecule as from JSON
     let molecule = file("molecule.peer", &case.peer);
     assert_eq!(run(&["show", &molecule]), run(&["show", "json/peer.json"]));
-    assert_eq!(run(&["show", &file("molecule.ours", &case.ours)]), run(&["show", "json/ours.json"]));
+    assert_eq!(run(&["show", &file("molecule.ours", case.ours.as_ref().unwrap())]), run(&["show", "json/ours.json"]));
     // a case made from Molecule is the same
     let again = file("again.case", "");
     let made = make(
         &again,
         &[
             ("--peer", &molecule),
-            ("--ours", &file("again.ours", &case.ours)),
+            ("--ours", &file("again.ours", case.ours.as_ref().unwrap())),
             ("--lock", &file("again.lock", &case.lock)),
-            ("--type", &file("again.type", &case.udt)),
+            ("--type", &file("again.type", case.udt.as_ref().unwrap())),
             ("--source", &file("again.source", &case.source)),
         ],
     );

@@ -1,8 +1,8 @@
-//! What README.md says that the program prints.
+//! What README.md says that the program prints, in the folder that it goes to.
 mod common;
 
 use common::examples;
-use std::path::Path;
+use std::path::{Path, PathBuf};
 use std::process::Command;
 
 /// The commands of the indented blocks, each with what is to be printed.
@@ -11,7 +11,7 @@ fn commands(text: &str) -> Vec<(String, String)> {
     let mut open = false;
     let mut lines = text.lines().peekable();
     while let Some(line) = lines.next() {
-        if let Some(command) = line.strip_prefix("    $ basinpantry ") {
+        if let Some(command) = line.strip_prefix("    $ ") {
             let mut command = command.to_string();
             while let Some(start) = command.strip_suffix('\\') {
                 command = format!("{start} {}", lines.next().unwrap().trim());
@@ -31,22 +31,49 @@ fn commands(text: &str) -> Vec<(String, String)> {
     commands
 }
 
-#[test]
-fn what_the_program_prints() {
-    let folder = Path::new(env!("CARGO_TARGET_TMPDIR")).join("readme");
-    std::fs::create_dir_all(folder.join("cases")).unwrap();
-    for (from, to) in [("json", folder.clone()), ("cases", folder.join("cases"))] {
-        for entry in std::fs::read_dir(examples().join(from)).unwrap() {
-            let path = entry.unwrap().path();
-            std::fs::copy(&path, to.join(path.file_name().unwrap())).unwrap();
+fn copy(from: &Path, to: &Path) {
+    std::fs::create_dir_all(to).unwrap();
+    for entry in std::fs::read_dir(from).unwrap() {
+        let entry = entry.unwrap();
+        let (path, copied) = (entry.path(), to.join(entry.file_name()));
+        if path.is_dir() {
+            copy(&path, &copied);
+        } else {
+            std::fs::copy(&path, &copied).unwrap();
         }
     }
-    let readme = std::fs::read_to_string(Path::new(env!("CARGO_MANIFEST_DIR")).join("README.md")).unwrap();
-    let commands = commands(&readme);
-    assert_eq!(commands.len(), 4);
-    for (command, printed) in commands {
-        let output =
-            Command::new(env!("CARGO_BIN_EXE_basinpantry")).args(command.split_whitespace()).current_dir(&folder).output().unwrap();
-        assert_eq!(String::from_utf8_lossy(&output.stdout), printed, "{command}");
+}
+
+/// A copy of the examples as they are in the repository, and nothing else.
+fn copied_examples() -> PathBuf {
+    let folder = Path::new(env!("CARGO_TARGET_TMPDIR")).join("readme");
+    let _ = std::fs::remove_dir_all(&folder);
+    copy(&examples(), &folder);
+    folder
+}
+
+#[test]
+fn what_the_program_prints() {
+    let here = Path::new(env!("CARGO_MANIFEST_DIR"));
+    let commands = commands(&std::fs::read_to_string(here.join("README.md")).unwrap());
+    let mut folder = None;
+    let mut ran = 0;
+    for (command, printed) in &commands {
+        let words: Vec<&str> = command.split_whitespace().collect();
+        match (words[0], &folder) {
+            ("basinpantry", Some(folder)) => {
+                let output = Command::new(env!("CARGO_BIN_EXE_basinpantry")).args(&words[1..]).current_dir(folder).output().unwrap();
+                assert_eq!(String::from_utf8_lossy(&output.stdout), *printed, "{command}");
+                ran += 1;
+            }
+            ("cd", None) => {
+                assert_eq!(here.join(words[1]).canonicalize().unwrap(), examples().canonicalize().unwrap());
+                folder = Some(copied_examples());
+            }
+            // this test has a program of its own
+            ("cargo" | "PATH=$PWD/target/release:$PATH", None) => assert_eq!(printed, ""),
+            _ => panic!("{command}"),
+        }
     }
+    assert_eq!(ran, 6);
 }

@@ -2,6 +2,7 @@
 use crate::files::{Failure, Input};
 use crate::json::Source;
 use crate::node::{self, Record};
+use crate::reason::ours_of;
 use crate::repeats::repeats;
 use crate::words::was;
 use basinpantry::{CaseFile, CaseRecord, MAX_CASE_BYTES, Transaction, is_script, is_transaction};
@@ -45,17 +46,16 @@ fn script(file: &Input) -> Result<Vec<u8>, Failure> {
 /// The case file's bytes, and notes for the caller.
 pub fn make(parts: &Parts) -> Result<(Vec<u8>, Vec<String>), Failure> {
     let mut case = CaseFile {
-        ours: parts.ours.as_ref().map(transaction).transpose()?.unwrap_or_default(),
+        ours: parts.ours.as_ref().map(transaction).transpose()?,
         peer: transaction(&parts.peer)?,
         lock: script(&parts.lock)?,
-        udt: parts.udt.as_ref().map(script).transpose()?.unwrap_or_default(),
+        udt: parts.udt.as_ref().map(script).transpose()?,
         source: script(&parts.source)?,
         rate: parts.rate,
         records: Vec::new(),
     };
     let mut notes = Vec::new();
-    let read = |bytes: &[u8]| Transaction::from_bytes(bytes).unwrap_or_default();
-    let (ours, peer) = (read(&case.ours), read(&case.peer));
+    let (ours, peer) = (ours_of(&case).unwrap_or_default(), Transaction::from_bytes(&case.peer).unwrap_or_default());
     let shared = ours.inputs.len();
     let added = peer.inputs.get(shared..).unwrap_or_default();
     if let Some(file) = &parts.records {

@@ -1,7 +1,7 @@
 //! Which check refuses an update. The verdict is the proved library's and only that; since one number stands for many checks, this goes over them in
 //! their order (crates/rules/specs/Judge.antt) and puts the first that fails into words. It is shown only where its number is the verdict's.
 use crate::words::{count, was};
-use basinpantry::{CaseFile, CellOutput, ResolvedCell, Script, Sum, Transaction, is_script};
+use basinpantry::{CaseFile, CellOutput, ResolvedCell, Script, Total, Transaction, is_script};
 
 type Reason = (u32, String);
 
@@ -17,7 +17,10 @@ pub fn reason(case: &CaseFile) -> Option<Reason> {
 
 /// Our transaction, or the one of version 0 and empty lists where there is none.
 pub fn ours_of(case: &CaseFile) -> Option<Transaction> {
-    if case.ours.is_empty() { Some(Transaction::default()) } else { Transaction::from_bytes(&case.ours) }
+    match &case.ours {
+        None => Some(Transaction::default()),
+        Some(ours) => Transaction::from_bytes(ours),
+    }
 }
 
 /// The cell of a record, nothing where it is unreadable.
@@ -35,7 +38,7 @@ fn judge(case: &CaseFile) -> Result<(), Reason> {
     let ours = ours_of(case).ok_or((1, "ours".to_string()))?;
     let peer = Transaction::from_bytes(&case.peer).ok_or((2, "the peer's".to_string()))?;
     check(3, is_script(&case.lock), || "the expected funding lock is no script".to_string())?;
-    check(3, case.udt.is_empty() || is_script(&case.udt), || "the expected token type is no script".to_string())?;
+    check(3, case.udt.as_ref().is_none_or(|udt| is_script(udt)), || "the expected token type is no script".to_string())?;
     check(3, is_script(&case.source), || "our source lock is no script".to_string())?;
     limits(case, &ours, &peer)?;
     comparison(case, &ours, &peer)?;
@@ -82,22 +85,22 @@ fn comparison(case: &CaseFile, ours: &Transaction, peer: &Transaction) -> Result
     fewer("outputs", ours.outputs.len(), peer.outputs.len())?;
     if let Some(output) = peer.outputs.first() {
         check(5, output.lock.to_bytes() == case.lock, || "the lock of output 0 is not the expected funding lock".to_string())?;
-        check(5, is_of(output, &case.udt), || match (case.udt.is_empty(), &output.type_) {
-            (true, _) => "output 0 has a type, and none is expected".to_string(),
-            (false, None) => "output 0 has no type, and the token's is expected".to_string(),
-            (false, Some(_)) => "the type of output 0 is not the expected token's".to_string(),
+        check(5, is_of(output, case), || match (&case.udt, &output.type_) {
+            (None, _) => "output 0 has a type, and none is expected".to_string(),
+            (Some(_), None) => "output 0 has no type, and the token's is expected".to_string(),
+            (Some(_), Some(_)) => "the type of output 0 is not the expected token's".to_string(),
         })?;
         let data = peer.outputs_data.first().map_or(0, Vec::len);
-        check(5, !case.udt.is_empty() || data == 0, || format!("output 0 is untyped, and has {} of data", count(data, "bytes")))?;
+        check(5, case.udt.is_some() || data == 0, || format!("output 0 is untyped, and has {} of data", count(data, "bytes")))?;
     }
     same("output", differs(&ours.outputs, &peer.outputs, 1))?;
     fewer("data entries", ours.outputs_data.len(), peer.outputs_data.len())?;
     same("the data of output", differs(&ours.outputs_data, &peer.outputs_data, 1))
 }
 
-/// Whether an output has this type; no bytes: none.
-pub fn is_of(output: &CellOutput, udt: &[u8]) -> bool {
-    output.type_.as_ref().map(Script::to_bytes).unwrap_or_default() == udt
+/// Whether an output has the type that is expected, or none where none is.
+pub fn is_of(output: &CellOutput, case: &CaseFile) -> bool {
+    output.type_.as_ref().map(Script::to_bytes) == case.udt
 }
 
 fn records(case: &CaseFile, ours: &Transaction, peer: &Transaction) -> Result<Vec<ResolvedCell>, Reason> {
@@ -119,7 +122,7 @@ fn records(case: &CaseFile, ours: &Transaction, peer: &Transaction) -> Result<Ve
 }
 
 fn contribution(case: &CaseFile, ours: &Transaction, peer: &Transaction, cells: &[ResolvedCell]) -> Result<(), Reason> {
-    let typed = !case.udt.is_empty();
+    let typed = case.udt.is_some();
     let Some(first) = peer.outputs.first() else { return Err((5, "output 0 is missing".to_string())) };
     check(5, !peer.outputs_data.is_empty(), || "the data entry of output 0 is missing".to_string())?;
     let before = ours.outputs.first().map_or(0, |output| output.capacity);
@@ -133,27 +136,27 @@ fn contribution(case: &CaseFile, ours: &Transaction, peer: &Transaction, cells: 
         check(5, before <= after, || format!("the tokens of output 0 fall from {before} to {after}"))?;
         growth = after - before;
     }
-    let gained: Sum = cells.iter().map(|cell| u128::from(cell.output.capacity)).sum();
+    let gained: Total = cells.iter().map(|cell| u128::from(cell.output.capacity)).sum();
     let added = added_outputs(ours, peer);
-    let taken: Sum = peer.outputs[added.clone()].iter().map(|output| u128::from(output.capacity)).sum();
-    let needed = Sum::from(u128::from(after - before)).plus(taken);
-    let left = gained.minus(needed).ok_or_else(|| {
-        let short = needed.minus(gained).unwrap_or_default();
+    let taken: Total = peer.outputs[added.clone()].iter().map(|output| u128::from(output.capacity)).sum();
+    let needed = Total::from(u128::from(after - before)).saturating_add(taken);
+    let left = gained.checked_sub(needed).ok_or_else(|| {
+        let short = needed.checked_sub(gained).unwrap_or_default();
         (5, format!("it puts in {gained} shannons, {short} below the growth of output 0 and the outputs that it added"))
     })?;
     if ours.inputs.is_empty() && ours.outputs.is_empty() {
         let size = u64::try_from(case.peer.len() + 4).unwrap_or(u64::MAX);
         let required = case.rate.saturating_mul(size) / 1000;
-        check(8, left >= Sum::from(u128::from(required)), || "the fee".to_string())?;
+        check(8, left >= Total::from(u128::from(required)), || "the fee".to_string())?;
     }
     if typed {
         let mut put_in: u128 = 0;
-        for (i, cell) in cells.iter().enumerate().filter(|(_, cell)| is_of(&cell.output, &case.udt)) {
+        for (i, cell) in cells.iter().enumerate().filter(|(_, cell)| is_of(&cell.output, case)) {
             let amount = short(&format!("the cell of input {}", ours.inputs.len() + i), cell.amount())?;
             put_in = put_in.checked_add(amount).ok_or((7, "the tokens of the added inputs come to 2^128 or more".to_string()))?;
         }
         let mut back: u128 = 0;
-        for i in added.filter(|i| is_of(&peer.outputs[*i], &case.udt)) {
+        for i in added.filter(|i| is_of(&peer.outputs[*i], case)) {
             let amount = short(&format!("output {i}"), peer.amount(i))?;
             back = back.checked_add(amount).ok_or((7, "the tokens of the added outputs come to 2^128 or more".to_string()))?;
         }

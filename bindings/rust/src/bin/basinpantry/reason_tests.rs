@@ -57,10 +57,10 @@ fn brings(capacity: u64) -> Option<CaseRecord> {
 
 fn case(ours: Option<Transaction>, peer: Transaction, records: Vec<Option<CaseRecord>>) -> CaseFile {
     CaseFile {
-        ours: ours.map(|tx| tx.to_bytes()).unwrap_or_default(),
+        ours: ours.map(|tx| tx.to_bytes()),
         peer: peer.to_bytes(),
         lock: script(0).to_bytes(),
-        udt: vec![],
+        udt: None,
         source: script(1).to_bytes(),
         rate: 1000,
         records,
@@ -68,7 +68,7 @@ fn case(ours: Option<Transaction>, peer: Transaction, records: Vec<Option<CaseRe
 }
 
 fn typed(ours: Option<Transaction>, peer: Transaction, records: Vec<Option<CaseRecord>>) -> CaseFile {
-    CaseFile { udt: script(2).to_bytes(), ..case(ours, peer, records) }
+    CaseFile { udt: Some(script(2).to_bytes()), ..case(ours, peer, records) }
 }
 
 fn deps(indices: &[u32]) -> Transaction {
@@ -103,7 +103,7 @@ fn lines() -> Vec<(&'static str, CaseFile, &'static str)> {
         ),
         (
             "our_bytes",
-            CaseFile { ours: lengthened(usual().to_bytes()), ..itself() },
+            CaseFile { ours: Some(lengthened(usual().to_bytes())), ..itself() },
             "refused (1): our own transaction's bytes are no transaction",
         ),
         ("peer_bytes", CaseFile { peer: lengthened(usual().to_bytes()), ..itself() }, "refused (2): the peer's bytes are no transaction"),
@@ -114,7 +114,7 @@ fn lines() -> Vec<(&'static str, CaseFile, &'static str)> {
         ),
         (
             "type",
-            CaseFile { udt: vec![0], ..itself() },
+            CaseFile { udt: Some(vec![0]), ..itself() },
             "refused (3): something that is lent can't be used: the expected token type is no script",
         ),
         (

@@ -19,7 +19,7 @@ pub fn replay_cases(files: &[Input]) -> Result<(String, bool), Failure> {
     let Some(first) = cases.first() else { return Err(Failure("replay: no case file is named".to_string())) };
     let records: Vec<Vec<u8>> = cases.iter().map(CaseFile::records_bytes).collect();
     let updates: Vec<_> = cases.iter().zip(&records).map(|(case, records)| case.update(records)).collect();
-    let replayed = match replay(&first.ours, &first.lock, &first.udt, &updates) {
+    let replayed = match replay(first.ours.as_deref(), &first.lock, first.udt.as_deref(), &updates) {
         Ok(replayed) => replayed,
         Err(why) => return Err(Failure(format!("the list of updates is refused ({}): {why}", why.number()))),
     };
@@ -30,15 +30,15 @@ pub fn replay_cases(files: &[Input]) -> Result<(String, bool), Failure> {
         let case = CaseFile { ours: in_force.clone(), ..case.clone() };
         out += &format!("{}: {}\n", file.name, words::verdict(&case, answer));
         if answer.is_ok() {
-            in_force = case.peer;
+            in_force = Some(case.peer);
         }
     }
     let accepted = replayed.answers.iter().filter(|answer| answer.is_ok()).count();
     out += &format!("\naccepted: {accepted} of {}\n", replayed.answers.len());
-    out += &format!("sum of their surpluses: {}", words::surplus(replayed.capacity, replayed.token, !first.udt.is_empty()));
+    out += &format!("sum of their surpluses: {}", words::surplus(replayed.capacity, replayed.token, first.udt.is_some()));
     out += &match replayed.in_force.and_then(|k| files.get(k)) {
         Some(file) => format!("\nin force: the peer's transaction of {}\n", file.name),
-        None if first.ours.is_empty() => "\nin force: none, as at the start\n".to_string(),
+        None if first.ours.is_none() => "\nin force: none, as at the start\n".to_string(),
         None => "\nin force: the transaction at the start\n".to_string(),
     };
     Ok((out, accepted == replayed.answers.len()))

@@ -4,7 +4,7 @@ use crate::json::Source;
 use crate::reason::{added_outputs, cell_of, is_of, ours_of};
 use crate::repeats::repeats;
 use crate::{node, table, words};
-use basinpantry::{CaseFile, CellOutput, ResolvedCell, Script, Sum, Transaction, is_script};
+use basinpantry::{CaseFile, CellOutput, ResolvedCell, Script, Total, Transaction, is_script};
 
 /// What `show` prints of a file: of a transaction in Molecule or JSON, or of a case.
 pub fn show(file: &Input, full: bool) -> Result<String, Failure> {
@@ -43,7 +43,7 @@ fn tokens(output: &CellOutput, amount: Option<u128>) -> String {
 }
 
 fn capacity(shannons: u64) -> String {
-    words::ckb(Sum::from(u128::from(shannons)))
+    words::ckb(Total::from(u128::from(shannons)))
 }
 
 fn transaction(tx: &Transaction, bytes: usize, full: bool) -> String {
@@ -107,10 +107,10 @@ fn others(tx: &Transaction, full: bool) -> String {
 fn show_case(case: &CaseFile, full: bool) -> String {
     let mut out = String::new();
     let ours = ours_of(case);
-    out += &match (&ours, case.ours.is_empty()) {
-        (_, true) => "ours: none\n".to_string(),
-        (Some(ours), _) => format!("ours: {}\n", counts(case.ours.len(), ours)),
-        (None, _) => format!("ours: {} bytes, which are no transaction\n", case.ours.len()),
+    out += &match (&case.ours, &ours) {
+        (None, _) => "ours: none\n".to_string(),
+        (Some(bytes), Some(ours)) => format!("ours: {}\n", counts(bytes.len(), ours)),
+        (Some(bytes), None) => format!("ours: {} bytes, which are no transaction\n", bytes.len()),
     };
     let peer = Transaction::from_bytes(&case.peer);
     out += &match &peer {
@@ -118,7 +118,7 @@ fn show_case(case: &CaseFile, full: bool) -> String {
         None => format!("the peer's: {} bytes, which are no transaction\n", case.peer.len()),
     };
     out += &format!("funding lock: {}\n", script(&case.lock, full));
-    out += &format!("token type: {}\n", if case.udt.is_empty() { "none".to_string() } else { script(&case.udt, full) });
+    out += &format!("token type: {}\n", case.udt.as_ref().map_or("none".to_string(), |udt| script(udt, full)));
     out += &format!("our source lock: {}\n", script(&case.source, full));
     out += &format!("fee rate: {} shannons per 1000 bytes\n", case.rate);
     if let (Some(ours), Some(peer)) = (&ours, &peer) {
@@ -177,7 +177,7 @@ fn lock_name(case: &CaseFile, lock: &Script, full: bool) -> String {
 fn type_name(case: &CaseFile, output: &CellOutput, full: bool) -> String {
     match &output.type_ {
         None => "-".to_string(),
-        Some(type_) if type_.to_bytes() == case.udt => "the token".to_string(),
+        Some(_) if is_of(output, case) => "the token".to_string(),
         Some(type_) => words::script(type_, full),
     }
 }
@@ -246,36 +246,36 @@ fn outputs(out: &mut String, case: &CaseFile, ours: &Transaction, peer: &Transac
 
 /// A whole number by what is above and what is below zero.
 struct Difference {
-    plus: Sum,
-    minus: Sum,
+    plus: Total,
+    minus: Total,
 }
 
 impl Difference {
     /// As written by `write`, with the sign in front.
-    fn signed(&self, write: impl Fn(Sum) -> String) -> String {
-        match self.plus.minus(self.minus) {
+    fn signed(&self, write: impl Fn(Total) -> String) -> String {
+        match self.plus.checked_sub(self.minus) {
             Some(left) => write(left),
-            None => format!("-{}", write(self.minus.minus(self.plus).unwrap_or_default())),
+            None => format!("-{}", write(self.minus.checked_sub(self.plus).unwrap_or_default())),
         }
     }
 }
 
 /// One account: what came in, output 0 before and after, and the added outputs.
 struct Account {
-    put_in: Sum,
+    put_in: Total,
     before: u128,
     after: u128,
-    back: Sum,
+    back: Total,
 }
 
 impl Account {
     fn lines(&self) -> [Difference; 4] {
-        let (before, after) = (Sum::from(self.before), Sum::from(self.after));
+        let (before, after) = (Total::from(self.before), Total::from(self.after));
         [
-            Difference { plus: self.put_in, minus: Sum::ZERO },
+            Difference { plus: self.put_in, minus: Total::ZERO },
             Difference { plus: after, minus: before },
-            Difference { plus: self.back, minus: Sum::ZERO },
-            Difference { plus: self.put_in.plus(before), minus: after.plus(self.back) },
+            Difference { plus: self.back, minus: Total::ZERO },
+            Difference { plus: self.put_in.saturating_add(before), minus: after.saturating_add(self.back) },
         ]
     }
 }
@@ -298,12 +298,12 @@ fn figures(out: &mut String, case: &CaseFile, ours: &Transaction, peer: &Transac
     let amount = |tx: &Transaction| if tx.outputs.is_empty() { 0 } else { tx.amount(0).unwrap_or(0) };
     // a missing or short amount counts 0
     let token = Account {
-        put_in: live().filter(|cell| is_of(&cell.output, &case.udt)).map(|cell| cell.amount().unwrap_or(0)).sum(),
+        put_in: live().filter(|cell| is_of(&cell.output, case)).map(|cell| cell.amount().unwrap_or(0)).sum(),
         before: amount(ours),
         after: amount(peer),
-        back: added.filter(|i| is_of(&peer.outputs[*i], &case.udt)).map(|i| peer.amount(i).unwrap_or(0)).sum(),
+        back: added.filter(|i| is_of(&peer.outputs[*i], case)).map(|i| peer.amount(i).unwrap_or(0)).sum(),
     };
-    let typed = !case.udt.is_empty();
+    let typed = case.udt.is_some();
     let names = ["put in by added inputs", "growth of output 0", "taken back by added outputs", "surplus"];
     let mut rows = Vec::new();
     for ((name, shannons), token) in names.iter().zip(shannons.lines()).zip(token.lines()) {

@@ -1,25 +1,25 @@
 //! Figures and verdicts for people.
 use crate::reason;
-use basinpantry::{Accepted, CaseFile, OutPoint, Refusal, Script, Sum};
+use basinpantry::{Accepted, CaseFile, OutPoint, Refusal, Script, Total};
 
 /// Shannons in CKB, with the decimal point.
-pub fn ckb(shannons: Sum) -> String {
+pub fn ckb(shannons: Total) -> String {
     let digits = format!("{shannons:09}");
     let (whole, rest) = digits.split_at(digits.len() - 8);
     format!("{whole}.{rest}")
 }
 
 /// Shannons, and in brackets in CKB.
-pub fn shannons(count: Sum) -> String {
-    let unit = if count == Sum::from(1) { "shannon" } else { "shannons" };
+pub fn shannons(count: Total) -> String {
+    let unit = if count == Total::from(1) { "shannon" } else { "shannons" };
     format!("{count} {unit} ({} CKB)", ckb(count))
 }
 
 /// A surplus in shannons and, where a token is expected, in tokens.
-pub fn surplus(capacity: Sum, token: Sum, typed: bool) -> String {
+pub fn surplus(capacity: Total, token: Total, typed: bool) -> String {
     match typed {
         false => shannons(capacity),
-        true if token == Sum::from(1) => format!("{} and 1 token", shannons(capacity)),
+        true if token == Total::from(1) => format!("{} and 1 token", shannons(capacity)),
         true => format!("{} and {token} tokens", shannons(capacity)),
     }
 }
@@ -43,7 +43,7 @@ pub fn was(n: usize, plural: &str) -> String {
 pub fn verdict(case: &CaseFile, answer: &Result<Accepted, Refusal>) -> String {
     match answer {
         Ok(accepted) => {
-            let left = surplus(Sum::from(accepted.capacity), Sum::from(accepted.token), !case.udt.is_empty());
+            let left = surplus(Total::from(accepted.capacity), Total::from(accepted.token), case.udt.is_some());
             format!("accepted: the peer puts in {left} more than the growth of output 0 and the outputs that it added")
         }
         Err(why) => match reason::reason(case) {
@@ -99,13 +99,13 @@ mod tests {
         assert_eq!(count(1, "cell deps"), "1 cell dep");
         assert_eq!(count(1, "data entries"), "1 data entry");
         assert_eq!(count(0, "inputs"), "0 inputs");
-        assert_eq!(surplus(Sum::from(2), Sum::from(3), false), "2 shannons (0.00000002 CKB)");
-        assert_eq!(surplus(Sum::from(2), Sum::from(3), true), "2 shannons (0.00000002 CKB) and 3 tokens");
-        assert_eq!(ckb(Sum::ZERO), "0.00000000");
-        assert_eq!(ckb(Sum::from(1)), "0.00000001");
-        assert_eq!(ckb(Sum::from(10_000_000_205)), "100.00000205");
-        assert_eq!(shannons(Sum::from(1)), "1 shannon (0.00000001 CKB)");
-        assert_eq!(shannons(Sum::from(205)), "205 shannons (0.00000205 CKB)");
+        assert_eq!(surplus(Total::from(2), Total::from(3), false), "2 shannons (0.00000002 CKB)");
+        assert_eq!(surplus(Total::from(2), Total::from(3), true), "2 shannons (0.00000002 CKB) and 3 tokens");
+        assert_eq!(ckb(Total::ZERO), "0.00000000");
+        assert_eq!(ckb(Total::from(1)), "0.00000001");
+        assert_eq!(ckb(Total::from(10_000_000_205)), "100.00000205");
+        assert_eq!(shannons(Total::from(1)), "1 shannon (0.00000001 CKB)");
+        assert_eq!(shannons(Total::from(205)), "205 shannons (0.00000205 CKB)");
     }
 
     #[test]
