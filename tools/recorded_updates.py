@@ -7,13 +7,13 @@
                                                        or, with --out, in the recorded form for crates/recorded_updates
 
 ORACLE is a program that runs the original Rust behind stand-ins for its crates. Asked with --stream it reads case files, each behind its length in four
-bytes, and prints the line of each, with a tab and `panic` behind it where the Rust panics and 01-scope.md says 5. Asked with --calls it reads
+bytes, and prints the line of each, with a tab and `panic` behind it where the Rust panics and docs/RULES.md says 5. Asked with --calls it reads
 `n_start TX` and `n_update FILE`, in hex (`-`: none), judges each update against the transaction in force, and prints the line, behind an
 acceptance the token surplus as 32 hex digits, ` | ` and the bytes then in force. Where its answer is not that of tools/update_model.py,
 nothing is written.
 
 Of the answers only 0 and 4 to 8 are the Rust's. 1, 2 and 3 are the oracle's own, by its strict reader and its count of records, since the Rust is
-handed what was read already; and 5 is 01's where the Rust panics.
+handed what was read already; and 5 is the rules' where the Rust panics.
 
 Both recorded files begin with the number of their parts (4 bytes, little-endian as all numbers here). A part is stored as three numbers of 4
 bytes, n, p and z, and n bytes: it is these with z zero bytes put in at place p. Parts are written in Molecule.
@@ -196,7 +196,7 @@ def expanded(data):
 
 
 def named():
-    """Cases with their lines: those of 01-scope.md and its open points, and those whose lines are proved (crates/known_outcomes, known_lines)."""
+    """Cases with their lines: those of docs/RULES.md and its open points, and those whose lines are proved (crates/known_outcomes, known_lines)."""
     return list(cases.named()) + [(name, f, line) for name, line, f in proved.KNOWN + proved.LINES]
 
 

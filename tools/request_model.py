@@ -1,4 +1,4 @@
-"""A request of our own side as 01-scope.md rules it ("Our own side"), written a second time and sharing nothing with the library: the funding cell, the
+"""A request of our own side as docs/RULES.md rules it ("Our own side"), written a second time and sharing nothing with the library: the funding cell, the
 token pick and the base transaction, each from the lent bytes, or the number of the refusal. tools/recorded_requests.py makes its answers with it, and
 stops where it and the Rust say different things."""
 from molecule_vectors import Script, TokenCell, Transaction, array, dynvec, fixvec, number, option, reads, split, u32

@@ -1,4 +1,4 @@
-"""The tables of cells as 01-scope.md rules them ("Holds and exclusions"), written a second time and sharing nothing with the library. A table is a list
+"""The tables of cells as docs/RULES.md rules them ("Holds and exclusions"), written a second time and sharing nothing with the library. A table is a list
 of records in order, each call a function from a table and the lent bytes to the table after it and the lists it writes, and a refusal (by its
 number) leaves the table as it was. tools/recorded_tables.py makes its calls with it, and stops where it and the Rust say different things."""
 from molecule_vectors import Transaction, fixvec, reads, u32

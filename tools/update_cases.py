@@ -565,7 +565,7 @@ def changed(c, *changes):
 # ---- families: lists of files
 
 def first_case(rate=1000, record_capacity=100 * CKB + 205):
-    """01's own: 201 bytes from none."""
+    """the rules' own: 201 bytes from none."""
     peer = Tx(inputs=[bytes(44)], outputs=[output(100 * CKB, LOCK)], data=[b''])
     return Case(None, peer, LOCK, b'', SOURCE, rate, [(output(record_capacity, LOCK), b'')])
 
@@ -578,7 +578,7 @@ def named():
     one, c = base('one', True), first_case()
     words = [f[:4] for f in (item(k, b) for k, b in c.items())]
     assert words == [u32(n) for n in (0x200000C9, 0x30000035, 0x50000035, 0x60000008, 0x7000004D, 0x80000000)]
-    yield "01's first", c.file(), accepted(205)
+    yield "the rules' first", c.file(), accepted(205)
     yield 'one less', first_case(1000, 100 * CKB + 204).file(), '8 204 205 1000 205'
     yield 'one less, at 1,005', first_case(1005, 100 * CKB + 204).file(), '8 204 206 1005 205'
     yield 'against itself', Case(c.peer, c.peer, LOCK, b'', SOURCE, 1000, []).file(), accepted(0)
@@ -1062,7 +1062,7 @@ def changed_places(f, rng, ways):
 
 
 def small_files():
-    """A file of each kind that the damage is done to: 01's own, a typed one from none, and a typed one with ours."""
+    """A file of each kind that the damage is done to: the rules' own, a typed one from none, and a typed one with ours."""
     first = base('none', False)
     first.peer.inputs, first.records = [bytes(44)], [(output(100 * CKB + 205, LOCK), b'')]
     typed = base('none', True)

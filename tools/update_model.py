@@ -1,4 +1,4 @@
-"""A peer's update as 01-scope.md rules it, written a second time and sharing nothing with the library: transactions as values, the case file, the
+"""A peer's update as docs/RULES.md rules it, written a second time and sharing nothing with the library: transactions as values, the case file, the
 checks of the table in its order, each with the name of its place, and the surplus in whole numbers. tools/recorded_updates.py makes its cases with it,
 counts by it which places they reach, and stops where it and the Rust say different things."""
 from molecule_vectors import CellOutput, Record, Script, Transaction, dynvec, join, number, option, reads, split, u32
@@ -323,7 +323,7 @@ def judge_file(f):
 
 
 def surplus(earlier, later, type_, records):
-    """Of a later transaction against an earlier one over records: 01's definition, capacity and tokens in whole numbers."""
+    """Of a later transaction against an earlier one over records: the rules' definition, capacity and tokens in whole numbers."""
     ours, peer = read_tx(earlier) or Tx(), read_tx(later) or Tx()
     outs = added_outputs(ours, peer)
     capacity = sum(capacity_of(o) for o, _ in records) - (first_capacity(peer) - first_capacity(ours)) - sum(capacity_of(o) for o, _ in outs)

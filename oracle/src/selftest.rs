@@ -1,4 +1,4 @@
-//! The known outcomes of the rules (01-scope.md), asked of the original.
+//! The known outcomes of the rules (docs/RULES.md), asked of the original.
 use crate::case::{self, Case};
 use crate::ckb::{funding::funding_tx::*, held_cells as held};
 use crate::original::{update::Verdict, Refusal};

@@ -1,4 +1,4 @@
--- An amount is 128 bits in two halves (01-scope.md, "The bytes underneath"), in 16 bytes (RFC 0025: the first 16 of a token cell's data).
+-- An amount is 128 bits in two halves (docs/RULES.md, "The bytes underneath"), in 16 bytes (RFC 0025: the first 16 of a token cell's data).
 use Prim.Native.Nat.{ℕ, _+_, _-_, _*_, _/_, _%_, _^_}
 use mathlib.Core.List.{List}
 use mathlib.Core.Bool.{Bool, cond}

@@ -2,7 +2,7 @@
 use crate::little_endian::u64_at;
 use crate::little_endian::u64_bytes;
 ghost use mathlib.Core.Path.{_≡_};
-ghost use Prim.Native.Nat.{_+_, _-_, _*_, _/_, _^_, min};
+ghost use Prim.Native.Nat.{_+_, _-_, _/_, _^_, min};
 ghost use Rattle.arithmetic.specs.LittleEndian.{toLe};
 ghost use Rattle.arithmetic.specs.Amount.{value, halves, amountOf, sum, difference, isLess, isSame, isZero, amountAt};
 

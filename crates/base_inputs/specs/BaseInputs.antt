@@ -1,4 +1,4 @@
--- The inputs of a base transaction, item by item and in bytes (01-scope.md, "Our own side": "present inputs then picked, with since 0"; the Rust's
+-- The inputs of a base transaction, item by item and in bytes (docs/RULES.md, "Our own side": "present inputs then picked, with since 0"; the Rust's
 -- `assemble_base_tx`).
 use Prim.Native.Nat.{ℕ, _+_}
 use mathlib.Core.List.{List, _++_, flatten}

@@ -1,4 +1,4 @@
--- The lists of a base transaction, item by item and in bytes (01-scope.md, "Our own side"; the Rust's `assemble_base_tx`). Items are packed, as
+-- The lists of a base transaction, item by item and in bytes (docs/RULES.md, "Our own side"; the Rust's `assemble_base_tx`). Items are packed, as
 -- they stand in a transaction.
 use Prim.Native.Nat.{ℕ, zero, suc}
 use mathlib.Core.Bool.{Bool, cond}

@@ -1,4 +1,4 @@
--- What is proved of the base transaction (01-scope.md, "Our own side"): of the bytes of `buildBase`, where they fit a transaction, and so (`of-calls`)
+-- What is proved of the base transaction (docs/RULES.md, "Our own side"): of the bytes of `buildBase`, where they fit a transaction, and so (`of-calls`)
 -- of what `build_base` writes. The proofs are proofs/Base.antt.
 use mathlib.Core.Path.{_≡_}
 use Prim.Native.Nat.{ℕ, zero, suc, _+_, _-_, _≤_}
@@ -110,7 +110,7 @@ abbrev pub Distinct : List (List ℕ) → Type 0
 Distinct [] = Unit {0}
 Distinct (x ∷ xs) = (contains x xs ≡ false) × Distinct xs
 
--- a peer that receives it with the same lock and type finds nothing of its own changed (our base passes 01's comparison against the present
+-- a peer that receives it with the same lock and type finds nothing of its own changed (our base passes the rules' comparison against the present
 -- transaction, but for the cases that DIFFERENCES.md names with their smallest inputs: repeated cell deps, and data entries beyond the outputs, both
 -- dropped as in the Rust)"
 abbrev pub Passes : Lent → FundingRequest → List ℕ → Type 0

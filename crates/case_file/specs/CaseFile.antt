@@ -1,4 +1,4 @@
--- A case file (01-scope.md, "Case file and known outcomes"): at most 65,536 bytes, an item after the other. An item is a word of four bytes, the top 4
+-- A case file (docs/RULES.md, "Case file and known outcomes"): at most 65,536 bytes, an item after the other. An item is a word of four bytes, the top 4
 -- bits its kind and the low 28 its body's length, then the body, padded with zeros to 4 bytes.
 use Prim.Native.Nat.{ℕ, zero, suc, _+_, _*_, _/_, _%_, _^_}
 use mathlib.Core.Bool.{Bool, true, false}

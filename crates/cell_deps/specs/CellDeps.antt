@@ -1,8 +1,8 @@
--- The cell deps of a base transaction (01-scope.md, "Our own side": "present, token's and lock's if tokens were picked, extra; first occurrence
+-- The cell deps of a base transaction (docs/RULES.md, "Our own side": "present, token's and lock's if tokens were picked, extra; first occurrence
 -- only").
 use mathlib.Core.Path.{_≡_}
 use Prim.Native.Nat.{ℕ, _+_, _-_, _≤_, min}
-use mathlib.Core.Bool.{Bool, cond}
+use mathlib.Core.Bool.{cond}
 use mathlib.Core.List.{List, [], _∷_, _++_, map}
 use lib.ListN.{length, take}
 use lib.Dec.{ltb}

@@ -2,7 +2,7 @@
 use arithmetic::sizes;
 use molecule::write;
 ghost use mathlib.Core.Path.{_≡_};
-ghost use Prim.Native.Nat.{_+_, _*_, _≤_, _<_, min};
+ghost use Prim.Native.Nat.{_+_, _≤_, _<_, min};
 ghost use mathlib.Core.List.{flatten};
 ghost use lib.ListN.{length, take, drop, set};
 ghost use Rattle.molecule.specs.Write.{Put};

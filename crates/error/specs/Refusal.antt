@@ -1,4 +1,4 @@
--- The refusals of the table in 01-scope.md, "A peer's update arrives": the number of each, and the values that it carries, in their order.
+-- The refusals of the table in docs/RULES.md, "A peer's update arrives": the number of each, and the values that it carries, in their order.
 use Prim.Native.Nat.{ℕ}
 use mathlib.Core.List.{List, [], _∷_}
 use Rattle.error.specs.declared.{Refusal.Refusal, Answer.Answer}

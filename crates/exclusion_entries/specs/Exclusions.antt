@@ -1,4 +1,4 @@
--- The exclusion map (01-scope.md, "Holds and exclusions"): it is a list of entries, and each call has a rule on such lists.
+-- The exclusion map (docs/RULES.md, "Holds and exclusions"): it is a list of entries, and each call has a rule on such lists.
 use Prim.Native.Nat.{ℕ}
 use mathlib.Core.Bool.{Bool, true, false, not, cond}
 use mathlib.Core.List.{List, [], _∷_, _++_, map}
@@ -36,7 +36,7 @@ without hash l = keep (λ e. not (hasHash hash e)) l
 unfoldable pub removeOn : List Entry → List ℕ → Ruling
 removeOn l hash = check (eqb (length hash) 32) (refused 3 tt) (done (without (byte32At hash 0) l))
 
--- "`truncate` drops an entry committed at c exactly when tip is at least c + 13": it is never refused
+-- "`truncate` drops an entry committed at c exactly when tip is at least c + 13"
 unfoldable pub isRecent : BlockNumber → Option BlockNumber → Bool
 isRecent tip none = true
 isRecent tip (some c) = not (isAtLeast tip c 13)

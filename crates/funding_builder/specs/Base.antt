@@ -1,8 +1,8 @@
--- The base transaction of our own side (01-scope.md, "Our own side"; the Rust's `build_base`, with `assemble_base_tx`, `add_udt_lock_dep` and
--- `with_extra_cell_deps`): what is refused, in the order of 01's table, and the transaction that is written, list by list.
+-- The base transaction of our own side (docs/RULES.md, "Our own side"; the Rust's `build_base`, with `assemble_base_tx`, `add_udt_lock_dep` and
+-- `with_extra_cell_deps`): what is refused, in the order of the rules' table, and the transaction that is written, list by list.
 use Prim.Native.Nat.{ℕ, zero, suc, _-_}
-use mathlib.Core.Bool.{Bool, true, false, not, _||_}
-use mathlib.Core.List.{List, [], _∷_}
+use mathlib.Core.Bool.{Bool, not, _||_}
+use mathlib.Core.List.{List}
 use lib.ListN.{length}
 use lib.Dec.{eqb}
 use Rattle.arithmetic.specs.Amount.{value}

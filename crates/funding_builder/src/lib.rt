@@ -66,7 +66,7 @@ fn is_supplied(taken: usize, deps: &[u8]) -> bool
     deps.len() != 0
 }
 
-// The same, refused with 11 where tokens were picked and deps are missing.
+// Assembles the base transaction behind the pick; 11 where tokens were picked and deps are missing.
 fn with_pick<'a>(
     ours: &'a [u8],
     lock: &[u8],

@@ -1,4 +1,4 @@
--- The funding cell's figures (01-scope.md, "Our own side"): "Funding cell, untyped: local amount plus local reserve, each figure below 2^64, and, if the
+-- The funding cell's figures (docs/RULES.md, "Our own side"): "Funding cell, untyped: local amount plus local reserve, each figure below 2^64, and, if the
 -- present transaction has outputs, remote amount plus remote reserve. Unfunded, the remote figures are unread. Typed: amounts sum in 128 bits as data,
 -- reserves sum as capacity."
 use Prim.Native.Nat.{ℕ, _+_, _^_}

@@ -1,4 +1,4 @@
--- Holds on cells (01-scope.md, "Holds and exclusions"): a table means the list of its records, and each call is a definition on such lists.
+-- Holds on cells (docs/RULES.md, "Holds and exclusions"): a table means the list of its records, and each call is a definition on such lists.
 use Prim.Native.Nat.{ℕ, _+_}
 use mathlib.Core.Bool.{Bool, true, false, not, cond}
 use mathlib.Core.List.{List, [], _∷_, _++_, map}

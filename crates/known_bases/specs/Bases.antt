@@ -1,4 +1,4 @@
--- Worked base transactions (01-scope.md, "Our own side", and its table): for each answer of `build_base` lent bytes that reach it, as one table of what the definitions
+-- Worked base transactions (docs/RULES.md, "Our own side", and its table): for each answer of `build_base` lent bytes that reach it, as one table of what the definitions
 -- compute and what the paper says. proofs/KnownBases.antt proves all rows at once.
 use Prim.Native.Nat.{ℕ, _-_, _^_}
 use mathlib.Core.List.{List, [], _∷_, _++_}

@@ -1,4 +1,4 @@
--- The calls on a lent exclusion map worked through, from the definitions of their contracts and with lent bytes: what 01-scope.md stars, and an example of each
+-- The calls on a lent exclusion map worked through, from the definitions of their contracts and with lent bytes: what docs/RULES.md stars, and an example of each
 -- other answer. proofs/KnownExclusions.antt proves all rows.
 use Prim.Native.Nat.{ℕ, _+_, _-_, _*_, _^_}
 use mathlib.Core.List.{List, [], _∷_, _++_, map}

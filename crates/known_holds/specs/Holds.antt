@@ -1,4 +1,4 @@
--- The calls on the table of holds by value worked through: an example of each answer and of each sentence of 01-scope.md ("Holds and exclusions") about them, with the whole table
+-- The calls on the table of holds by value worked through: an example of each answer and of each sentence of docs/RULES.md ("Holds and exclusions") about them, with the whole table
 -- and the whole buffers after the call. proofs/KnownHolds.antt proves all rows.
 use Prim.Native.Nat.{ℕ, _-_, _^_}
 use mathlib.Core.List.{List, [], _∷_, _++_}

@@ -1,4 +1,4 @@
--- Cases on which readings of the papers differ (docs/DECISIONS.md, "A peer's update"; 01-scope.md, "What the peer put in" and "Where an account goes
+-- Cases on which readings of the papers differ (docs/DECISIONS.md, "A peer's update"; docs/RULES.md, "What the peer put in" and "Where an account goes
 -- wrong"), as a table like that of specs/Outcomes.antt.
 use Prim.Native.Nat.{ℕ, _-_, _/_, _^_}
 use mathlib.Core.List.{List, [], _∷_, _++_}

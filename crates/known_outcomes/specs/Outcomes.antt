@@ -1,4 +1,4 @@
--- The known outcomes (01-scope.md, "Case file and known outcomes", the starred ones), as one table: what the definitions compute, and what the
+-- The known outcomes (docs/RULES.md, "Case file and known outcomes", the starred ones), as one table: what the definitions compute, and what the
 -- paper says. proofs/KnownOutcomes.antt proves all rows at once.
 use Prim.Native.Nat.{ℕ, _+_, _-_, _*_, _^_}
 use mathlib.Core.List.{List, [], _∷_, _++_}

@@ -1,4 +1,4 @@
--- Lists of byte strings compared as 01-scope.md, row "comparison", says.
+-- Lists of byte strings compared as docs/RULES.md, row "comparison", says.
 use Prim.Native.Nat.{ℕ}
 use mathlib.Core.List.{List, [], _∷_}
 use mathlib.Core.Bool.{Bool, true, false, _&&_, cond}

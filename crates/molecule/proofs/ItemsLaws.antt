@@ -287,22 +287,3 @@ short-flatten n (x ∷ xs) h = (omega (arith, length-flatten x xs), short-flatte
 
 pub short-join : (n : ℕ) (xs : List (List ℕ)) → length (join xs) < n → All (λ x. length x < n) xs
 short-join n xs h = short-flatten n xs (omega (arith, length-join xs))
-
-pub bytes-append : (a b : List ℕ) → AllBytes a → AllBytes b → AllBytes (a ++ b)
-bytes-append [] b h k i = k i
-bytes-append (x ∷ a) b h k zero = h 0
-bytes-append (x ∷ a) b h k (suc i) = bytes-append a b (λ j. h (suc j)) k i
-
-pub bytes-unwords : (ns : List ℕ) → AllBytes (unwords ns)
-unfolding unwords
-bytes-unwords [] i = omega arith
-bytes-unwords (n ∷ ns) i = bytes-append (toLe 4 n) (unwords ns) (bytes-toLe 4 n) (bytes-unwords ns) i
-
-pub flatten-bytes : (xs : List (List ℕ)) → All AllBytes xs → AllBytes (flatten xs)
-unfolding flatten
-flatten-bytes [] h i = omega arith
-flatten-bytes (x ∷ xs) h i = bytes-append x (flatten xs) (h .0) (flatten-bytes xs (h .1)) i
-
-pub bytes-join : (xs : List (List ℕ)) → All AllBytes xs → AllBytes (join xs)
-unfolding join
-bytes-join xs h = bytes-append (unwords _) (flatten xs) (bytes-unwords _) (flatten-bytes xs h)

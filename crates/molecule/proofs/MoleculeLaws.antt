@@ -18,7 +18,7 @@ use Rattle.molecule.specs.Items.{join, split}
 use Rattle.molecule.specs.Molecule.{Ty, byte, array, struct, fixvec, dynvec, table, option, Fields, end, _&_, Value, Values, size, sizes, encode, encodes, chunks, pieces, oneByte, decode, decodes, Good, Goods}
 use Rattle.molecule.proofs.Valid.{fixed, allFixed, hasBytes, valid, allValid}
 use Rattle.molecule.proofs.PartialLaws.{only-yes, only-some, both-some, bind-some, length-each, each-all, map-each, each-map, all-map}
-use Rattle.molecule.proofs.ItemsLaws.{word-back, bytes-drop, join-split, split-join, split-bytes, length-join, length-flatten, short-flatten, short-join, bytes-append, flatten-bytes, bytes-join}
+use Rattle.molecule.proofs.ItemsLaws.{word-back, bytes-drop, join-split, split-join, split-bytes, length-join, length-flatten, short-flatten, short-join}
 use Rattle.molecule.proofs.ChunksLaws.{Long, length-chunks, bytes-chunks, bytes-pieces, length-all, flatten-chunks, chunks-flatten, flatten-pieces}
 
 -- ---- which types
@@ -290,30 +290,6 @@ mutual
       let c = both-some _ _ _ e in
       subst (λ (r : Values (t & ts)). Goods (t & ts) r) (c .is-both)
       (decode-good t x (c .left) (b .0) (c .is-left), decodes-good ts xs (c .right) (b .1) (c .is-right))
-
--- ---- a value's bytes are bytes
-
-bytes-one : (b : ℕ) → b < 256 → AllBytes (b ∷ [])
-bytes-one b h zero = h
-bytes-one b h (suc i) = lit< tt
-
-mutual
-  unfolding encode
-
-  pub bytes-encode : (t : Ty) (v : Value t) → Good t v → AllBytes (encode t v)
-  bytes-encode byte v g = bytes-one v g
-  bytes-encode (array t n) v g = flatten-bytes _ (all-map (λ x. Good t x) AllBytes (λ x. encode t x) (λ x g. bytes-encode t x g) v (g .1))
-  bytes-encode (struct ts) v g = flatten-bytes _ (bytes-encodes ts v g)
-  bytes-encode (fixvec t) v g =
-      bytes-append (toLe 4 (length v)) _ (bytes-toLe 4 _) (flatten-bytes _ (all-map (λ x. Good t x) AllBytes (λ x. encode t x) (λ x g. bytes-encode t x g) v g))
-  bytes-encode (dynvec t) v g = bytes-join _ (all-map (λ x. Good t x) AllBytes (λ x. encode t x) (λ x g. bytes-encode t x g) v g)
-  bytes-encode (table ts) v g = bytes-join _ (bytes-encodes ts v g)
-  bytes-encode (option t) none g = λ i. lit< tt
-  bytes-encode (option t) (some v) g = bytes-encode t v g
-
-  pub bytes-encodes : (ts : Fields) (v : Values ts) → Goods ts v → All AllBytes (encodes ts v)
-  bytes-encodes end v g = tt
-  bytes-encodes (t & ts) v g = (bytes-encode t (v .0) (g .0), bytes-encodes ts (v .1) (g .1))
 
 -- ---- so what is accepted is exactly what is written
 

@@ -1,4 +1,4 @@
--- Out points and lists of them, in bytes (01-scope.md, "The bytes underneath": an out point is a hash of 32 bytes and an index of 4; a list of
+-- Out points and lists of them, in bytes (docs/RULES.md, "The bytes underneath": an out point is a hash of 32 bytes and an index of 4; a list of
 -- sized items is its count, then the items).
 use Prim.Native.Nat.{ℕ, _+_, _^_, _<_}
 use mathlib.Core.List.{List, [], _∷_, _++_}

@@ -1,4 +1,4 @@
--- What the tables of cells share (01-scope.md, "Holds and exclusions"): holds (crate hold_records) and excluded transactions (crate exclusion_entries).
+-- What the tables of cells share (docs/RULES.md, "Holds and exclusions"): holds (crate hold_records) and excluded transactions (crate exclusion_entries).
 use Prim.Native.Nat.{ℕ}
 use mathlib.Core.Bool.{Bool, cond}
 use mathlib.Core.List.{List, [], _∷_, _++_}

@@ -18,7 +18,7 @@ ghost use Rattle.out_points.specs.OutPoints.{pointOf, points, bytesOf};
 ghost use Rattle.out_points.specs.Tables.{told, hasRoom, written};
 ghost use Rattle.hold_records.specs.Holds.{recordsOf, cellsOf, isBusy, firsts};
 ghost use Rattle.hold_records.specs.Rules.{putIf};
-ghost use Rattle.picks.specs.Places.{isAmong, marked, Marks, asked, isFirst, select, Tallied, headIs, unmatched, takeFrom};
+ghost use Rattle.picks.specs.Places.{isAmong, marked, Marks, asked, isFirst, select, Tallied, unmatched, takeFrom};
 
 // How many bytes the list of a table's cells has at most: a count and 256 out points.
 const CELLS_BYTES: usize = 9220;

@@ -71,15 +71,3 @@ pub given-fine : {A : Type 0} (n : ℕ) (o : Option A) (a : A) → given n o ≡
 unfolding given
 given-fine n none a e = absurd (never n [] a e)
 given-fine n (some x) a e = ap some (fine-inj e)
-
--- ---- the other way: what a proof of the program uses, check by check
-
-pub checkWith-yes : {B : Type 0} (n : ℕ) (l : List ℕ) (t : Bool) (r : Outcome B) → T t → (checkWith n l t >> r) ≡ r
-unfolding _>>_ checkWith
-checkWith-yes n l true r h = refl
-checkWith-yes n l false r h = absurd h
-
-pub checkWith-no : {B : Type 0} (n : ℕ) (l : List ℕ) (t : Bool) (r : Outcome B) → T (not t) → (checkWith n l t >> r) ≡ refused n l
-unfolding _>>_ checkWith
-checkWith-no n l true r h = absurd h
-checkWith-no n l false r h = refl

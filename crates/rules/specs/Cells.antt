@@ -1,4 +1,4 @@
--- Outputs with their data, and the lent records (01-scope.md, "A peer's update arrives").
+-- Outputs with their data, and the lent records (docs/RULES.md, "A peer's update arrives").
 use Prim.Native.Nat.{ℕ}
 use mathlib.Core.Bool.{cond}
 use mathlib.Core.List.{List, [], _∷_}

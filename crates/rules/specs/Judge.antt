@@ -1,6 +1,6 @@
--- update_for_peer: the checks of 01-scope.md, "A peer's update arrives", a line for each, in table order and within a row as written.
+-- update_for_peer: the checks of docs/RULES.md, "A peer's update arrives", a line for each, in table order and within a row as written.
 use Prim.Native.Nat.{ℕ, suc, _+_, _-_, _^_, min}
-use mathlib.Core.Bool.{Bool, true, false, cond, not, _&&_, _||_}
+use mathlib.Core.Bool.{Bool, true, cond, not, _&&_, _||_}
 use mathlib.Core.List.{List, [], _∷_}
 use mathlib.Core.Option.{Option, none, some, Option·getD}
 use lib.ListN.{length, drop}

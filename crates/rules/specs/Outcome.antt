@@ -1,7 +1,7 @@
 -- An answer, or a refusal with its number and the numbers listed. Checks are written one after another in a `do` block.
 use Prim.Native.Nat.{ℕ}
 use mathlib.Core.Bool.{Bool, true, false}
-use mathlib.Core.List.{List, [], _∷_}
+use mathlib.Core.List.{List, []}
 use mathlib.Core.Option.{Option, none, some}
 
 pub data Outcome (A : Type 0) : Type 0 where

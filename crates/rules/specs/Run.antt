@@ -1,12 +1,11 @@
 -- A list of calls: each is judged against the transaction in force that the one before left.
-use Prim.Native.Nat.{ℕ, zero, suc, _+_}
+use Prim.Native.Nat.{ℕ, _+_}
 use mathlib.Core.Path.{_≡_}
 use mathlib.Core.List.{List, [], _∷_, _++_, map}
 use lib.ListN.{length, drop}
 use mathlib.Core.Option.{Option, none, some}
 use lib.IntN.{ℤ, pos}
 use Rattle.rules.specs.Outcome.{Outcome, fine, refused}
-use Rattle.transaction.specs.Tx.{Tx}
 use Rattle.rules.specs.Cells.{Cell, readRecords}
 use Rattle.molecule.specs.Partial.{All}
 use Rattle.rules.specs.Surplus.{Measure, surplus}

@@ -1,5 +1,5 @@
 -- What the peer put in: figures of cells, added outputs, and the surplus in whole numbers.
-use Prim.Native.Nat.{ℕ, zero, suc, _+_, _-_, _*_, max}
+use Prim.Native.Nat.{ℕ, _+_, _-_, max}
 use mathlib.Core.Bool.{Bool, true, false, cond}
 use mathlib.Core.List.{List, [], _∷_}
 use lib.ListN.{length, take, drop}

@@ -1,4 +1,4 @@
--- The paper's number and values for each answer (01-scope.md, "The form each place takes").
+-- The paper's number and values for each answer (docs/RULES.md, "The form each place takes").
 use Rattle.units.specs.Units.{shannonCount, tokenCount}
 use Rattle.error.specs.declared.Refusal.{Refusal}
 use Rattle.error.specs.Refusal.{number, values}

@@ -1,5 +1,5 @@
 -- "RFC 0008, 0019 and 0025 fix the bytes and amounts: a string is read exactly if they allow it without extra fields, and writing its fields,
--- within 01's limit, yields it again" (00-request.md, demand 2): `read-exactly` and `written-again`, of every type that the code tests.
+-- within the rules' limit, yields it again" (docs/RULES.md, demand 2): `read-exactly` and `written-again`, of every type that the code tests.
 use mathlib.Core.Path.{_≡_, sym, _∙_}
 use Prim.Native.Nat.{ℕ, _^_, _<_}
 use native.Mathlib.Omega.{arith}

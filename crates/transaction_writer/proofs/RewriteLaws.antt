@@ -1,4 +1,4 @@
--- Writing the fields of a readable transaction yields it again (00-request.md, demand 2: "writing its fields, within 01's limit, yields it again").
+-- Writing the fields of a readable transaction yields it again (docs/RULES.md, demand 2: "writing its fields, within the rules' limit, yields it again").
 use mathlib.Core.Path.{_≡_, refl, sym, ap, ap₂, _∙_, subst}
 use Prim.Native.Nat.{ℕ, _+_, _≤_, _<_}
 use mathlib.Core.Bool.{Bool, true, false, not, _&&_, and-eq-true-iff}

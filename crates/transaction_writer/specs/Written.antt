@@ -1,5 +1,5 @@
 -- Writing a transaction from its fields (RFC 0019): the version, and each list in its list form; and what a call that writes answers and leaves
--- in the lent buffer (01-scope.md: 3 for a list that is not in its form, 13 over the lent buffer or 133,116 bytes).
+-- in the lent buffer (docs/RULES.md: 3 for a list that is not in its form, 13 over the lent buffer or 133,116 bytes).
 use Prim.Native.Nat.{ℕ, _+_}
 use mathlib.Core.Bool.{Bool, _&&_, cond}
 use mathlib.Core.List.{List, [], _∷_, _++_}

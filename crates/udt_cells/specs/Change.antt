@@ -1,4 +1,4 @@
--- The change of the pick (01-scope.md, "Our own side"): "A remainder makes one change output with our lock, the type and 16 data bytes; its capacity is
+-- The change of the pick (docs/RULES.md, "Our own side"): "A remainder makes one change output with our lock, the type and 16 data bytes; its capacity is
 -- 100,000,000 shannons times (8 + 33 + lock args + 33 + type args + 16)." And what the call answers and leaves in the lent buffer.
 use Prim.Native.Nat.{ℕ, min}
 use mathlib.Core.Bool.{cond}

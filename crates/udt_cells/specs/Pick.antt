@@ -1,4 +1,4 @@
--- The token pick (01-scope.md, "Our own side"): "Token pick, for a typed request with local amount above 0: cells in list order until the total reaches it;
+-- The token pick (docs/RULES.md, "Our own side"): "Token pick, for a typed request with local amount above 0: cells in list order until the total reaches it;
 -- later cells are unread." Its row of the table: "by cell: data under 16 bytes (12); total 2^128 or more (10); list ended short (9)".
 use Prim.Native.Nat.{ℕ, _+_, _-_, _^_}
 use mathlib.Core.Bool.{cond}

@@ -1,4 +1,4 @@
--- The required fee and the capacity of token change (01-scope.md, "What the peer put in" and "Our own side").
+-- The required fee and the capacity of token change (docs/RULES.md, "What the peer put in" and "Our own side").
 use Prim.Native.Nat.{ℕ, _+_, _-_, _*_, _/_, _^_, min}
 use mathlib.Core.Bool.{cond}
 use lib.Dec.{ltb}

@@ -1,4 +1,4 @@
--- Shannons, tokens, milliseconds, block numbers (01-scope.md, "The bytes underneath", and "Holds and exclusions" for the last two).
+-- Shannons, tokens, milliseconds, block numbers (docs/RULES.md, "The bytes underneath", and "Holds and exclusions" for the last two).
 use Prim.Native.Nat.{ℕ, _+_, _-_, _^_, min}
 use mathlib.Core.Bool.{Bool}
 use lib.Dec.{ltb, leb}

@@ -1,4 +1,4 @@
--- The line that the check program prints (01-scope.md, "Case file and known outcomes"): 0 and the capacity surplus as 32 lowercase hex digits, or the
+-- The line that the check program prints (docs/RULES.md, "Case file and known outcomes"): 0 and the capacity surplus as 32 lowercase hex digits, or the
 -- refusal's number and its decimals; then a newline. All of it is ASCII.
 use Prim.Native.Nat.{ℕ, zero, suc, _+_, _/_, _%_}
 use mathlib.Core.Bool.{cond}
