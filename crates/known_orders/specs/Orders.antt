@@ -96,7 +96,7 @@ comparison =
     (answer (untyped (ofVersion 1) (offer (ofVersion 1) [])) gives 0 ∷ 0 ∷ 0 ∷ [])
     -- a header dep more; not 5, as if none could be added
     ∷ (answer (untyped usual (offer (withHeaders (header 1 ∷ [])) [])) gives 0 ∷ 0 ∷ 0 ∷ [])
-    -- a header dep behind ours
+    -- a header dep behind one of ours; not 5, as if ours had to be all
     ∷ (answer (untyped (withHeaders (header 0 ∷ [])) (offer (withHeaders (header 0 ∷ header 1 ∷ [])) [])) gives 0 ∷ 0 ∷ 0 ∷ [])
     -- two header deps swapped; not accepted, as if they were a set
     ∷ (answer (untyped (withHeaders (header 0 ∷ header 1 ∷ [])) (offer (withHeaders (header 1 ∷ header 0 ∷ [])) [])) gives 5 ∷ [])
@@ -122,9 +122,9 @@ abbrev amounts : List (Row (List ℕ))
 amounts =
     -- 17 bytes of data: the first 16 are the amount; not 5, as if there had to be 16, or all were the amount
     (answer (typed (holding 5) (offer (spending (inputs 1) (token 100 ∷ []) ((amount 5 ++ (1 ∷ [])) ∷ [])) [])) gives 0 ∷ 0 ∷ 0 ∷ [])
-    -- 15 bytes; not accepted
+    -- 15 bytes; not accepted, as if they were enough
     ∷ (answer (typed [] (offer (spending (inputs 1) (token 100 ∷ []) (toLe 15 5 ∷ [])) (cell (token 1000) (amount 5) ∷ []))) gives 5 ∷ [])
-    -- 2^128 - 1 come in, for a growth of 1 and an output of 2^128 - 2; not 7, as if less were too much
+    -- 2^128 - 1 come in, for a growth of 1 and an output of 2^128 - 2; not 7, as if less than 2^128 were too much
     ∷ (answer (typed (holding 5) (offer (spending (inputs 2) (token 100 ∷ token 7 ∷ []) (amount 6 ∷ amount (2 ^ 128 - 2) ∷ [])) (cell (token 7) (amount (2 ^ 128 - 1)) ∷ []))) gives 0 ∷ 0 ∷ 0 ∷ [])
     -- ours has an input and no outputs, or no outputs and a short entry; not 5, as if our amount were read by inputs, or by entries
     ∷ (answer (typed (bare 1) (offer (spending (inputs 2) (token 100 ∷ []) (amount 5 ∷ [])) (cell (token 100) (amount 5) ∷ []))) gives 0 ∷ 0 ∷ 0 ∷ [])
