@@ -79,6 +79,7 @@ pub fn read_held(s: &[u8]) -> Held
 // The records of the lent table that `rule` keeps, in order: no other place is read.
 pub fn read_kept(s: &[u8], rule: Rule) -> Held
     ensures { λ r. ⌜ recordsOf r ≡ keep (isKept rule) (recordsOf (heldOf (now (s .entry)))) ⌝ }
+    ensures { λ r. ⌜ r .count ≤ 256 ⌝ }
 {
     let mut g = hold_records::empty();
     let count = molecule::fix_count(s) as usize;

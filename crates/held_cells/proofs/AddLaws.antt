@@ -48,3 +48,6 @@ module _ {hold : OutPoint → Hold} {s : List ℕ} {h g : Held} {n i : ℕ} (k :
 
   pub add-end : n ≤ i → recordsOf g ≡ recordsOf h ++ map hold (points s)
   add-end l = sym (append-nil (recordsOf g)) ∙ sym (ap (λ (ps : List OutPoint). recordsOf g ++ map hold ps) (span-end (pointOf s) i n l)) ∙ k .added
+
+  pub add-count : n ≤ i → g .count ≤ 256
+  add-count l = let r = k .room in omega arith

@@ -13,6 +13,7 @@ use units::Millis;
 ghost use mathlib.Core.Path.{_≡_};
 ghost use mathlib.Core.List.{_++_, map};
 ghost use Prim.Native.Nat.{_+_, _-_, _<_, _≤_};
+ghost use Rattle.error.specs.declared.{Answer.Answer};
 ghost use Rattle.error.specs.Refusal.{answered};
 ghost use Rattle.molecule.specs.Layout.{fixCount};
 ghost use Rattle.out_points.specs.OutPoints.{points};
@@ -27,6 +28,7 @@ pub const WATCHTOWER_PICK_HOLD_MS: u64 = 60_000;
 fn append(h: Held, holder: u64, cells: &[u8], n: usize) -> Held
     requires { ⌜ (h .count + n ≤ 256) × (n ≡ fixCount (now cells)) ⌝ }
     ensures { λ r. ⌜ recordsOf r ≡ recordsOf h ++ map (heldBy (Owner.Funding holder)) (points (now (cells .entry))) ⌝ }
+    ensures { λ r. ⌜ r .count ≤ 256 ⌝ }
 {
     let mut g = h;
     let mut i: usize = 0;
@@ -58,6 +60,7 @@ fn owner_for(taker: Taker, time: Millis) -> Owner
 // The funding inputs that `holder` holds now, in place of the ones that it held before.
 pub fn hold_funding(held: Held, holder: u64, cells: &[u8]) -> Holds
     ensures { λ r. ⌜ told recordsOf (r .answer) (r .held) ≡ holdFunding held holder (now (cells .entry)) ⌝ }
+    ensures { λ r. ⌜ (r .answer ≡ Answer.Done → r .held .count ≤ 256) ⌝ }
 {
     if !transaction::is_out_points(cells) {
         return hold_records::refuse(held, Refusal::LentBytesUnreadable);
@@ -76,6 +79,7 @@ pub fn hold_funding(held: Held, holder: u64, cells: &[u8]) -> Holds
 // Every cell that is held, for a collector to pick none of them. The watchtower's cells past their hold are let go first.
 pub fn lock_held(held: Held, time: Millis, out: &mut [u8]) -> Holds
     ensures { λ r. ⌜ (told recordsOf (r .answer) (r .held), now (out .exit)) ≡ lockHeld held time (now (out .entry)) ⌝ }
+    ensures { λ r. ⌜ (r .answer ≡ Answer.Done → r .held .count ≤ 256) ⌝ }
 {
     let rule = Rule::Live(time);
     let left = hold_records::keep(held, rule);
@@ -115,6 +119,7 @@ pub fn take(
     refused: &mut [u8],
 ) -> Holds
     ensures { λ r. ⌜ (told recordsOf (r .answer) (r .held), now (taken .exit), now (refused .exit)) ≡ takeCells held (now (picked .entry)) (now (spent .entry)) taker time (now (taken .entry)) (now (refused .entry)) ⌝ }
+    ensures { λ r. ⌜ (r .answer ≡ Answer.Done → r .held .count ≤ 256) ⌝ }
 {
     if !transaction::is_out_points(picked) {
         return hold_records::refuse(held, Refusal::LentBytesUnreadable);

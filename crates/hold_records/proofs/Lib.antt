@@ -1,3 +1,4 @@
+pub mod CountLaws
 pub mod LimitLaws
 pub mod ListLaws
 pub mod LoopLaws

@@ -42,6 +42,9 @@ module _ {owner : Owner} {l : List OutPoint} {h g : Held} {c : ℕ} (t : Tallied
       ∙ ap cellsOf (drop-front (recordsOf h) (map (heldBy owner) l) from (stands h (t .whole) ∙ sym ef))
       ∙ cells-held owner l
 
+  pub take-count : g .count ≤ 256
+  take-count = let e = t .stands (omega arith) in omega arith
+
 -- ---- the picks that pass a test f: the code selects them by index, the definition has `firsts`
 
 module _ (f : OutPoint → Bool) (picked : List ℕ) where

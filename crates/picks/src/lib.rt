@@ -12,6 +12,7 @@ ghost use mathlib.Core.Bool.{true, false};
 ghost use mathlib.Core.List.{[]};
 ghost use Prim.Native.Nat.{_+_, _*_, _%_, _≤_, _<_};
 ghost use lib.ListN.{length, drop, set};
+ghost use Rattle.error.specs.declared.{Answer.Answer};
 ghost use Rattle.molecule.specs.Layout.{fixCount};
 ghost use Rattle.molecule.specs.Write.{Put};
 ghost use Rattle.out_points.specs.OutPoints.{pointOf, points, bytesOf};
@@ -265,6 +266,7 @@ fn take_free(
 ) -> Holds
     requires { ⌜ Marks (points (now cells)) (points (now spent)) (now marks) ⌝ }
     ensures { λ r. ⌜ (told recordsOf (r .answer) (r .held), now (taken .exit), now (refused .exit)) ≡ takeFrom held (recordsOf live) (points (now (cells .entry))) (points (now (picked .entry))) (points (now (spent .entry))) owner (now (taken .entry)) (now (refused .entry)) ⌝ }
+    ensures { λ r. ⌜ (r .answer ≡ Answer.Done → r .held .count ≤ 256) ⌝ }
 {
     let t = tally(live, cells, picked, spent, marks, owner);
     let count = t.count;
@@ -296,6 +298,7 @@ pub fn take_from(
     refused: &mut [u8],
 ) -> Holds
     ensures { λ r. ⌜ (told recordsOf (r .answer) (r .held), now (taken .exit), now (refused .exit)) ≡ takeFrom held (recordsOf live) (cellsOf (recordsOf live)) (points (now (picked .entry))) (points (now (spent .entry))) owner (now (taken .entry)) (now (refused .entry)) ⌝ }
+    ensures { λ r. ⌜ (r .answer ≡ Answer.Done → r .held .count ≤ 256) ⌝ }
 {
     let mut cells = [0u8; CELLS_BYTES];
     hold_records::list_cells(live, &mut cells);

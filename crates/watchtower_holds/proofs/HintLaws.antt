@@ -231,6 +231,9 @@ module _ {t : Millis} {s : List ℕ} {h g : Held} {n i : ℕ} {m₀ m : List ℕ
   pub go-below : {j : ℕ} → j < g .count → j < 256
   go-below l = let a = k .renewing .most in omega arith
 
+  pub go-count : g .count ≤ 256
+  go-count = k .renewing .most
+
   pub go-end : n ≤ i → recordsOf g ≡ renewAll t (recordsOf h) (points s)
   go-end l = renew-end (k .renewing) l
 

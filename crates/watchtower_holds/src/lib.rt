@@ -13,6 +13,7 @@ ghost use mathlib.Core.Bool.{true, false};
 ghost use mathlib.Core.List.{[]};
 ghost use Prim.Native.Nat.{_+_, _-_, _%_, _<_, _≤_};
 ghost use lib.ListN.{length, getD};
+ghost use Rattle.error.specs.declared.{Answer.Answer};
 ghost use Rattle.out_points.specs.OutPoints.{has, points};
 ghost use Rattle.out_points.specs.Tables.{keep, told};
 ghost use Rattle.hold_records.specs.declared.{Owner.Owner};
@@ -93,6 +94,7 @@ fn unnamed(r: Hold, cells: &[u8], hints: &[u8]) -> bool
 fn without(h: Held, cells: &[u8], hints: &[u8]) -> Held
     requires { ⌜ Hints (now hints) (towersOn (points (now cells))) ⌝ }
     ensures { λ r. ⌜ recordsOf r ≡ keep (isUnnamed (points (now (cells .entry)))) (recordsOf h) ⌝ }
+    ensures { λ r. ⌜ r .count ≤ 256 ⌝ }
 {
     let n = hold_records::used(h.count);
     let mut g = h;
@@ -181,6 +183,7 @@ fn hint_all(h: Held, hints: &mut [u8])
 fn renew_from(h: Held, from: Held, cells: &[u8], end: Millis, hints: &mut [u8]) -> Holds
     requires { ⌜ (recordsOf from ≡ recordsOf h) × (from .count ≤ 256) × Hints (now hints) (recordsOf from) ⌝ }
     ensures { λ r. ⌜ told recordsOf (r .answer) (r .held) ≡ atMost256 h (renewAll end (recordsOf h) (points (now (cells .entry)))) ⌝ }
+    ensures { λ r. ⌜ (r .answer ≡ Answer.Done → r .held .count ≤ 256) ⌝ }
 {
     let n = molecule::fix_count(cells) as usize;
     let mut g = from;
@@ -216,6 +219,7 @@ fn renew_from(h: Held, from: Held, cells: &[u8], end: Millis, hints: &mut [u8]) 
 
 fn renew_all(h: Held, cells: &[u8], end: Millis) -> Holds
     ensures { λ r. ⌜ told recordsOf (r .answer) (r .held) ≡ atMost256 h (renewAll end (recordsOf h) (points (now (cells .entry)))) ⌝ }
+    ensures { λ r. ⌜ (r .answer ≡ Answer.Done → r .held .count ≤ 256) ⌝ }
 {
     let g = trimmed(h);
     let mut hints = [255u8; HINTS];
@@ -226,6 +230,7 @@ fn renew_all(h: Held, cells: &[u8], end: Millis) -> Holds
 // The cells of a transaction that the watchtower could not send are free again.
 pub fn release_for_watchtower(held: Held, cells: &[u8]) -> Holds
     ensures { λ r. ⌜ told recordsOf (r .answer) (r .held) ≡ releaseForWatchtower held (now (cells .entry)) ⌝ }
+    ensures { λ r. ⌜ (r .answer ≡ Answer.Done → r .held .count ≤ 256) ⌝ }
 {
     if !transaction::is_out_points(cells) {
         return hold_records::refuse(held, Refusal::LentBytesUnreadable);
@@ -239,6 +244,7 @@ pub fn release_for_watchtower(held: Held, cells: &[u8]) -> Holds
 // The cells of a transaction that the watchtower sent are held until `WATCHTOWER_HOLD_MS` after `time`.
 pub fn hold_for_watchtower(held: Held, cells: &[u8], time: Millis) -> Holds
     ensures { λ r. ⌜ told recordsOf (r .answer) (r .held) ≡ holdForWatchtower held (now (cells .entry)) time ⌝ }
+    ensures { λ r. ⌜ (r .answer ≡ Answer.Done → r .held .count ≤ 256) ⌝ }
 {
     if !transaction::is_out_points(cells) {
         return hold_records::refuse(held, Refusal::LentBytesUnreadable);

@@ -1,3 +1,6 @@
+use borrow.Author.Needs.{needs}
+use Rattle.hold_records.proofs.CountLaws.{done-count}
+use Rattle.picks.proofs.TakenLaws.{take-count}
 use Rattle.picks.proofs.Ways.{ways}
 use Rattle.picks.proofs.take_free.Statement.{statement}
 use Rattle.picks.proofs.take_free.Tie as tie
@@ -28,4 +31,4 @@ take-free-spec =
     (λ c κs. search ways)  -- done-requires
     (λ c. search ways)  -- same-length
     (λ c. search ways)  -- same-length-2
-    (λ c. search ways))  -- returns-4
+    (λ c. (search ways, search (needs, done-count, take-count))))  -- returns-4

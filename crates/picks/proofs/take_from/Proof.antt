@@ -18,4 +18,4 @@ take-from-spec =
     (λ c κs. search ways)  -- take-free-requires
     (λ c. search ways)  -- same-length
     (λ c. search ways)  -- same-length-2
-    (λ c. take-among _ _ _ _ _ _ _ _ (c .before .before .before .before .before .before .before .before .before .before .before .before .before .before .list-cells .ensures .1) (omega arith) (c .before .before .before .before .take-free .ensures)))  -- returns
+    (λ c. (take-among _ _ _ _ _ _ _ _ (c .before .before .before .before .before .before .before .before .before .before .before .before .before .before .list-cells .ensures .1) (omega arith) (c .before .before .before .before .take-free .ensures .0), c .before .before .before .before .take-free .ensures .1)))  -- returns
