@@ -60,7 +60,7 @@ module _ (type o p s : List ℕ) (rate : ℕ) where
     contribution-is u h k = rw (← ed, h) k
 
 -- the same of slices that were taken anew
-whole : (s : List ℕ) → take (length s - 0) (drop 0 s) ≡ s
+pub whole : (s : List ℕ) → take (length s - 0) (drop 0 s) ≡ s
 whole s = take-all (length s - 0) s (omega arith)
 
 pub contribution-whole : (type o p s : List ℕ) (rate : ℕ) {v : Outcome Figures}
