@@ -1,8 +1,10 @@
 -- Laws of both accounts together, one for each way out of the functions.
 use mathlib.Core.Path.{_≡_, refl, sym, ap, ap₂, _∙_}
-use Prim.Native.Nat.{ℕ, _+_}
+use Prim.Native.Nat.{ℕ, _+_, _-_, _≤_}
+use native.Mathlib.Omega.{arith}
 use mathlib.Core.List.{List, [], _∷_}
-use lib.ListN.{length}
+use lib.ListN.{length, take, drop}
+use lib.Seq.{take-all}
 use Rattle.units.specs.declared.{Shannons.Shannons, Tokens.Tokens}
 use Rattle.units.specs.Units.{shannonCount, tokenCount}
 use Rattle.transaction.specs.Tx.{txAt}
@@ -12,7 +14,7 @@ use Rattle.rules.specs.declared.Update.{Update}
 use Rattle.rules.specs.Outcome.{Outcome, fine, refused, _>>=_}
 use Rattle.rules.specs.Cells.{recordCells}
 use Rattle.rules.specs.Surplus.{total, added, capacityOf}
-use Rattle.rules.specs.Judge.{unfunded, covered, tokenAccount, fundingOutputDelta, accounts, contribution}
+use Rattle.rules.specs.Judge.{Figures, unfunded, covered, tokenAccount, fundingOutputDelta, accounts, contribution}
 use Rattle.rules.specs.Told.{refusal, told}
 use Rattle.accounts.specs.declared.capacity.CapacitySurplus.{CapacitySurplus}
 use Rattle.accounts.specs.declared.token.TokenSum.{TokenSum}
@@ -56,3 +58,12 @@ module _ (type o p s : List ℕ) (rate : ℕ) where
         → told u ≡ contribution type (txAt o) (txAt p) (recordCells s) rate (length p + 4)
     unfolding contribution _>>=_
     contribution-is u h k = rw (← ed, h) k
+
+-- the same of slices that were taken anew
+pub whole : (s : List ℕ) → take (length s - 0) (drop 0 s) ≡ s
+whole s = take-all (length s - 0) s (omega arith)
+
+pub contribution-whole : (type o p s : List ℕ) (rate : ℕ) {v : Outcome Figures}
+    → v ≡ contribution (take (length type - 0) (drop 0 type)) (txAt (take (length o - 0) (drop 0 o))) (txAt (take (length p - 0) (drop 0 p))) (recordCells (take (length s - 0) (drop 0 s))) rate (length (take (length p - 0) (drop 0 p)) + 4)
+    → v ≡ contribution type (txAt o) (txAt p) (recordCells s) rate (length p + 4)
+contribution-whole type o p s rate h = rw (whole type, whole o, whole p, whole s) at h

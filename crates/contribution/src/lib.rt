@@ -142,6 +142,11 @@ pub fn verify_peer_funding_contribution(
 ) -> Update
     ensures { λ r. ⌜ told r ≡ contribution (now (udt .entry)) (txAt (now (ours .entry))) (txAt (now (peer .entry))) (recordCells (now (records .entry))) rate (length (now (peer .entry)) + 4) ⌝ }
 {
+    // taken anew, a slice comes in as its two words, and not by way of memory
+    let ours = &ours[0..ours.len()];
+    let peer = &peer[0..peer.len()];
+    let udt = &udt[0..udt.len()];
+    let records = &records[0..records.len()];
     match funding_output_delta(ours, peer, udt) {
         OutputDelta::Grows { capacity, token } => surpluses(
             ours,

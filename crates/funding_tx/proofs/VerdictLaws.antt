@@ -1,10 +1,10 @@
 -- Laws of the verdict, one for each way out of the functions.
 use mathlib.Core.Path.{_≡_, refl, sym, ap, ap₂, _∙_}
-use Prim.Native.Nat.{ℕ, _+_}
+use Prim.Native.Nat.{ℕ, _+_, _-_}
 use mathlib.Core.List.{List, [], _∷_}
 use mathlib.Core.Bool.{Bool, true, false, not}
 use borrow.Author.Tests.{not-true, not-false}
-use lib.ListN.{length}
+use lib.ListN.{length, take, drop}
 use Rattle.molecule.specs.Molecule.{option, readable}
 use Rattle.transaction.specs.Ckb.{Script, Transaction}
 use Rattle.transaction.specs.Tx.{txAt, readTx}
@@ -13,11 +13,12 @@ use Rattle.error.specs.Refusal.{number, values}
 use Rattle.rules.specs.declared.Update.{Update}
 use Rattle.rules.specs.Outcome.{Outcome, fine, refused, check, checkWith, given, _>>_, _>>=_}
 use Rattle.rules.specs.Cells.{readOurs, readRecords, recordCells}
-use Rattle.rules.specs.Judge.{scripts, limits, comparison, spent, contribution, judge}
+use Rattle.rules.specs.Judge.{Figures, scripts, limits, comparison, spent, contribution, judge}
 use Rattle.rules.specs.Told.{told, inForceOf}
 use Rattle.rules.specs.Run.{handedBack, next, updateForPeer}
 use Rattle.rules.proofs.Checks.{skip, fail, pass, last-is}
 use Rattle.rules.proofs.CellLaws.{read-yes, read-no, ours-yes, ours-no}
+use Rattle.contribution.proofs.AccountLaws.{whole}
 use Rattle.records.specs.declared.Resolved.{Resolved}
 use Rattle.records.specs.Resolved.{resolved}
 use Rattle.funding_tx.proofs.Demand3.{hands}
@@ -97,3 +98,10 @@ pub next-reference {ℓ} : {A : Type ℓ} (lock type o p s source : List ℕ) (r
     → told u ≡ judge lock type o (record { peer = p; records = s; source = source; rate = rate }) → r ≡ inForceOf u x y
     → r ≡ handedBack (judge lock type o (record { peer = p; records = s; source = source; rate = rate })) x y
 next-reference lock type o p s source rate u x y e h = h ∙ hands (judge lock type o (record { peer = p; records = s; source = source; rate = rate })) u x y e
+
+-- ---- of slices that were taken anew
+
+pub judge-whole : (lock type o p s source : List ℕ) (rate : ℕ) {v : Outcome Figures}
+    → v ≡ judge (take (length lock - 0) (drop 0 lock)) (take (length type - 0) (drop 0 type)) (take (length o - 0) (drop 0 o)) (record { peer = take (length p - 0) (drop 0 p); records = take (length s - 0) (drop 0 s); source = take (length source - 0) (drop 0 source); rate = rate })
+    → v ≡ judge lock type o (record { peer = p; records = s; source = source; rate = rate })
+judge-whole lock type o p s source rate h = rw (whole lock, whole type, whole o, whole p, whole s, whole source) at h

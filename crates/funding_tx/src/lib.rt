@@ -34,6 +34,13 @@ pub fn update_for_peer(
 ) -> Update
     ensures { λ r. ⌜ told r ≡ judge (now (lock .entry)) (now (udt .entry)) (now (ours .entry)) (record { peer = now (peer .entry); records = now (records .entry); source = now (source .entry); rate = rate }) ⌝ }
 {
+    // taken anew, a slice comes in as its two words, and not by way of memory
+    let ours = &ours[0..ours.len()];
+    let peer = &peer[0..peer.len()];
+    let lock = &lock[0..lock.len()];
+    let udt = &udt[0..udt.len()];
+    let source = &source[0..source.len()];
+    let records = &records[0..records.len()];
     if !transaction::is_optional_transaction(ours) {
         return Update::Refused(Refusal::OurTransactionUnreadable);
     }

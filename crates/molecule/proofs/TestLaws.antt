@@ -2,15 +2,15 @@
 use mathlib.Core.Path.{_≡_, refl, sym, ap, _∙_}
 use Prim.Native.Nat.{ℕ, zero, suc, _+_, _-_, _*_, _/_, _^_, _≤_, _<_}
 use mathlib.Core.List.{List}
-use mathlib.Core.Bool.{Bool, true, false, not, _&&_, and-false}
+use mathlib.Core.Bool.{Bool, true, false, not, _&&_, and-false, and-eq-true-iff}
 use native.Mathlib.Numerals.{add-one}
 use native.Mathlib.Omega.{arith}
-use borrow.Author.Tests.{le-leb, lt-leb, lt-ltb, le-ltb, eq-eqb, ne-eqb, not-true, not-false}
+use borrow.Author.Tests.{le-leb, lt-leb, lt-ltb, le-ltb, eq-eqb, ne-eqb, ltb-true, eqb-true, not-true, not-false}
 use lib.Dec.{T}
 use lib.ListN.{length}
 use Rattle.molecule.specs.Molecule.{Ty, byte, array, fixvec, dynvec, size, readable}
 use Rattle.molecule.proofs.Valid.{fixed}
-use Rattle.molecule.specs.Layout.{part, word, start, hasItems, fieldOf, itemCount, itemOf}
+use Rattle.molecule.specs.Layout.{part, word, start, hasHeader, hasItems, fieldOf, itemCount, itemOf}
 use Rattle.molecule.proofs.Offsets.{upTo, inOrder, offsetsOk, up-stop}
 use Rattle.molecule.proofs.LayoutLaws.{field-is, item-is}
 use Rattle.molecule.proofs.HeaderLaws.{offsets-has, dynvec-readable, fixvec-readable}
@@ -18,31 +18,41 @@ use Rattle.molecule.proofs.HeaderLaws.{offsets-has, dynvec-readable, fi
 -- ---- a header of n items
 
 module _ (s : List ℕ) (n : ℕ) where
-  pub items-room : length s / 4 ≤ n → false ≡ hasItems s n
-  unfolding offsetsOk
-  items-room h = sym (sym (offsets-has s n) ∙ simp (le-ltb n (length s / 4) h))
+  pub header-room : length s / 4 ≤ n → false ≡ hasHeader s n
+  unfolding hasHeader
+  header-room h = sym (simp (le-ltb n (length s / 4) h))
 
   -- w is the first word, and a the first start
-  pub items-size : {w : ℕ} → w ≡ word s 0 → (w ≡ length s → ⊥) → false ≡ hasItems s n
-  unfolding offsetsOk
-  items-size e h = sym (sym (offsets-has s n) ∙ simp (← e, ne-eqb _ _ h, and-false))
+  pub header-size : {w : ℕ} → w ≡ word s 0 → (w ≡ length s → ⊥) → false ≡ hasHeader s n
+  unfolding hasHeader
+  header-size e h = sym (simp (← e, ne-eqb _ _ h, and-false))
 
-  pub items-first : {a : ℕ} → a ≡ start s n 0 → (a ≡ 4 + 4 * n → ⊥) → false ≡ hasItems s n
-  unfolding offsetsOk
-  items-first e h = sym (sym (offsets-has s n) ∙ simp (← e, ne-eqb _ _ h, and-false))
+  pub header-first : {a : ℕ} → a ≡ start s n 0 → (a ≡ 4 + 4 * n → ⊥) → false ≡ hasHeader s n
+  unfolding hasHeader
+  header-first e h = sym (simp (← e, ne-eqb _ _ h, and-false))
+
+  pub header-is : {w a : ℕ} → n < length s / 4 → w ≡ word s 0 → w ≡ length s → a ≡ start s n 0 → a ≡ 4 + 4 * n → true ≡ hasHeader s n
+  unfolding hasHeader
+  header-is l ew hw ea ha = sym (simp (lt-ltb n (length s / 4) l, ← ew, eq-eqb _ _ hw, ← ea, eq-eqb _ _ ha))
+
+  -- the items of a header are in order
+  has-order : hasItems s n ≡ (hasHeader s n && upTo (inOrder s n) n)
+  unfolding offsetsOk hasHeader
+  has-order = sym (offsets-has s n)
+
+  pub items-header : {r : Bool} → r ≡ hasHeader s n → not r ≡ true → false ≡ hasItems s n
+  items-header e q = sym (has-order ∙ simp (sym e ∙ not-true _ q))
 
 -- the first i items are in order, and the next one starts at `from`
 pub record Ordered (s : List ℕ) (n i from : ℕ) : Type 0 where
-  pub room : n < length s / 4
-  pub whole : word s 0 ≡ length s
-  pub first : start s n 0 ≡ 4 + 4 * n
+  pub head : hasHeader s n ≡ true
   pub within : i ≤ n
   pub here : from ≡ start s n i
   pub all : upTo (inOrder s n) i ≡ true
 
-pub ordered-none : (s : List ℕ) (n : ℕ) {w a : ℕ} → n < length s / 4 → w ≡ word s 0 → w ≡ length s → a ≡ start s n 0 → a ≡ 4 + 4 * n → Ordered s n 0 a
+pub ordered-none : (s : List ℕ) (n : ℕ) {a : ℕ} {r : Bool} → r ≡ hasHeader s n → not r ≡ false → a ≡ start s n 0 → Ordered s n 0 a
 unfolding upTo
-ordered-none s n l ew hw ea ha = record { room = l; whole = sym ew ∙ hw; first = sym ea ∙ ha; within = omega arith; here = ea; all = refl }
+ordered-none s n e q ea = record { head = sym e ∙ not-false _ q; within = omega arith; here = ea; all = refl }
 
 module _ {s : List ℕ} {n i from : ℕ} (o : Ordered s n i from) where
   pub ordered-more : {to : ℕ} → i < n → to ≡ start s n (i + 1) → from ≤ to → Ordered s n (i + 1) to
@@ -50,25 +60,20 @@ module _ {s : List ℕ} {n i from : ℕ} (o : Ordered s n i from) where
   ordered-more {to} l e h =
       let k : start s n i ≤ start s n (i + 1) = rw (← e, ← o .here) h in
       record {
-        room = o .room;
-        whole = o .whole;
-        first = o .first;
+        head = o .head;
         within = omega arith;
         here = e;
         all = rw (add-one, o .all) (le-leb (start s n i) (start s n (i + 1)) k);
       }
 
   pub ordered-stop : {to : ℕ} → i < n → to ≡ start s n (i + 1) → to < from → false ≡ hasItems s n
-  unfolding offsetsOk inOrder
+  unfolding inOrder
   ordered-stop l e h =
       let k : start s n (i + 1) < start s n i = rw (← e, ← o .here) h in
-      sym (sym (offsets-has s n) ∙ simp (up-stop (inOrder s n) i n l (lt-leb (start s n i) (start s n (i + 1)) k), and-false))
+      sym (has-order s n ∙ simp (up-stop (inOrder s n) i n l (lt-leb (start s n i) (start s n (i + 1)) k), and-false))
 
   pub ordered-end : n ≤ i → true ≡ hasItems s n
-  unfolding offsetsOk
-  ordered-end l =
-      let q : i ≡ n = omega arith in
-      sym (sym (offsets-has s n) ∙ simp (lt-ltb n (length s / 4) (o .room), eq-eqb (word s 0) (length s) (o .whole), eq-eqb (start s n 0) (4 + 4 * n) (o .first), rw q at (o .all)))
+  ordered-end l = let q : i ≡ n = omega arith in sym (has-order s n ∙ simp (o .head, rw q at (o .all)))
 
 -- ---- a fixvec of items of k bytes
 
@@ -149,21 +154,45 @@ module _ {t : Ty} {s : List ℕ} {n i : ℕ} (g : Reading t s n i) {f : List ℕ
   pub field-stop : not r ≡ true → false ≡ readable (dynvec t) s
   field-stop q = reading-stop g l (item-is s i (g .count) e) h q
 
--- the same, and the next item starts at `from`
-pub record ReadingFrom (t : Ty) (s : List ℕ) (n i from : ℕ) : Type 0 where
-  pub read : Reading t s n i
-  pub here : from ≡ start s n i
+-- ---- both at once: the first i of n are in order and are read as t, and the next one starts at `from`
 
-pub from-none : (t : Ty) (s : List ℕ) {n a : ℕ} {r : Bool} → n ≡ itemCount s → r ≡ hasItems s n → not r ≡ false → a ≡ start s n 0 → ReadingFrom t s n 0 a
-from-none t s e h q ea = record { read = reading-none t s e h q; here = ea }
+pub record Walked (t : Ty) (s : List ℕ) (n i from : ℕ) : Type 0 where
+  pub count : n ≡ itemCount s
+  pub order : Ordered s n i from
+  pub all : upTo (itemIs t s) i ≡ true
 
-module _ {t : Ty} {s : List ℕ} {n i from : ℕ} (g : ReadingFrom t s n i from) where
+-- where the items are not in order nothing is read
+disordered : (t : Ty) (s : List ℕ) {n : ℕ} → n ≡ itemCount s → false ≡ hasItems s n → false ≡ readable (dynvec t) s
+disordered t s e h = sym (dynvec-readable t s ∙ rw (← e) (simp (sym h)))
+
+module _ (t : Ty) (s : List ℕ) {n : ℕ} {r : Bool} (e : n ≡ itemCount s) (h : r ≡ hasHeader s n) where
+  pub walked-no : not r ≡ true → false ≡ readable (dynvec t) s
+  walked-no q = disordered t s e (items-header s n h q)
+
+  pub walked-none : {a : ℕ} → not r ≡ false → a ≡ start s n 0 → Walked t s n 0 a
+  unfolding upTo
+  walked-none q ea = record { count = e; order = ordered-none s n h q ea; all = refl }
+
+module _ {t : Ty} {s : List ℕ} {n i from : ℕ} (g : Walked t s n i from) where
+  pub walked-falls : {to : ℕ} → i < n → to ≡ start s n (i + 1) → to < from → false ≡ readable (dynvec t) s
+  walked-falls l e h = disordered t s (g .count) (ordered-stop (g .order) l e h)
+
   module _ {to : ℕ} {f : List ℕ} {r : Bool} (l : i < n) (e : to ≡ start s n (i + 1)) (k : f ≡ part s from to) (h : r ≡ readable t f) where
-    pub from-more : not r ≡ false → ReadingFrom t s n (i + 1) to
-    from-more q = record { read = field-more (g .read) l (field-is s n i (g .here) e k) h q; here = e }
+    this : f ≡ itemOf s i
+    this = item-is s i (g .count) (field-is s n i (g .order .here) e k)
 
-    pub from-stop : not r ≡ true → false ≡ readable (dynvec t) s
-    from-stop q = field-stop (g .read) l (field-is s n i (g .here) e k) h q
+    pub walked-more : from ≤ to → not r ≡ false → Walked t s n (i + 1) to
+    unfolding upTo itemIs
+    walked-more m q = record { count = g .count; order = ordered-more (g .order) l e m; all = rw (add-one, g .all, ← this) (sym h ∙ not-false _ q) }
 
-  pub from-end : n ≤ i → true ≡ readable (dynvec t) s
-  from-end l = reading-end (g .read) l
+    pub walked-stop : not r ≡ true → false ≡ readable (dynvec t) s
+    unfolding itemIs
+    walked-stop q =
+        let x : readable t (itemOf s i) ≡ false = rw (← this) (sym h ∙ not-true _ q) in
+        sym (dynvec-readable t s ∙ rw (← g .count) (simp (up-stop (λ j. readable t (itemOf s j)) i n l x, and-false)))
+
+  pub walked-end : n ≤ i → true ≡ readable (dynvec t) s
+  unfolding itemIs
+  walked-end l =
+      let q : i ≡ n = omega (arith, g .order .within) in
+      sym (dynvec-readable t s ∙ rw (← g .count) (simp (sym (ordered-end (g .order) l), rw q at (g .all))))

@@ -2,7 +2,7 @@
 -- what the readers answer.
 use Prim.Native.Nat.{ℕ, zero, suc, _+_, _-_, _*_, _/_, min}
 use mathlib.Core.List.{List, [], _∷_}
-use mathlib.Core.Bool.{Bool, false, cond}
+use mathlib.Core.Bool.{Bool, false, cond, _&&_}
 use mathlib.Core.Option.{Option, none, some}
 use lib.ListN.{length, take, drop}
 use lib.Dec.{ltb, eqb}
@@ -43,6 +43,10 @@ hasItems s n = splitsInto (split s) n
 -- where item i of n starts, which is where the one before it ends; the last ends with the bytes
 unfoldable pub start : List ℕ → ℕ → ℕ → ℕ
 start s n i = cond (ltb i n) (word s (i + 1)) (length s)
+
+-- a header of n items: its size, and n starts, of which the first follows the header
+unfoldable pub hasHeader : List ℕ → ℕ → Bool
+hasHeader s n = ltb n (length s / 4) && eqb (word s 0) (length s) && eqb (start s n 0) (4 + 4 * n)
 
 unfoldable pub fieldOf : List ℕ → ℕ → ℕ → List ℕ
 fieldOf s n i = part s (start s n i) (start s n (i + 1))

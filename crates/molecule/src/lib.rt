@@ -8,7 +8,7 @@ ghost use mathlib.Core.Path.{_≡_};
 ghost use Prim.Native.Nat.{_+_, min};
 ghost use lib.ListN.{length};
 ghost use Rattle.molecule.specs.Molecule.{readable, fixvec, dynvec, array, byte};
-ghost use Rattle.molecule.specs.Layout.{part, partStart, inside, word, start, hasItems, fieldOf, fieldStart, itemCount, itemOf, itemStart, fixCount, fixItem, fixStart, content, contentStart, entryOf, entryStart};
+ghost use Rattle.molecule.specs.Layout.{part, partStart, inside, word, start, hasHeader, hasItems, fieldOf, fieldStart, itemCount, itemOf, itemStart, fixCount, fixItem, fixStart, content, contentStart, entryOf, entryStart};
 
 // The bytes from `from` up to `to`, as many of them as there are.
 pub fn part(s: &[u8], from: usize, to: usize) -> &[u8]
@@ -28,7 +28,7 @@ pub fn word(s: &[u8], i: usize) -> u32
 }
 
 // Where item i of n starts, and the end for i = n.
-fn start(s: &[u8], n: usize, i: usize) -> usize
+pub fn start(s: &[u8], n: usize, i: usize) -> usize
     ensures { λ r. ⌜ r ≡ start (now (s .entry)) n i ⌝ }
 {
     if i < n {
@@ -37,9 +37,9 @@ fn start(s: &[u8], n: usize, i: usize) -> usize
     s.len()
 }
 
-// Whether s is a header and n items without gaps: a table of n fields, or a dynvec of n items.
-pub fn has_items(s: &[u8], n: usize) -> bool
-    ensures { λ r. ⌜ r ≡ hasItems (now (s .entry)) n ⌝ }
+// Whether s has a header of n items: its size, and n starts, of which the first follows the header.
+pub fn has_header(s: &[u8], n: usize) -> bool
+    ensures { λ r. ⌜ r ≡ hasHeader (now (s .entry)) n ⌝ }
 {
     if s.len() / 4 <= n {
         return false;
@@ -47,10 +47,20 @@ pub fn has_items(s: &[u8], n: usize) -> bool
     if word(s, 0) as usize != s.len() {
         return false;
     }
-    let mut from = start(s, n, 0);
-    if from != 4 + 4 * n {
+    if start(s, n, 0) != 4 + 4 * n {
         return false;
     }
+    true
+}
+
+// Whether s is a header and n items without gaps: a table of n fields, or a dynvec of n items.
+pub fn has_items(s: &[u8], n: usize) -> bool
+    ensures { λ r. ⌜ r ≡ hasItems (now (s .entry)) n ⌝ }
+{
+    if !has_header(s, n) {
+        return false;
+    }
+    let mut from = start(s, n, 0);
     let mut i = 0;
     while i < n {
         i += 1;
@@ -162,12 +172,12 @@ pub fn content(s: &[u8]) -> &[u8]
     part(s, 4, s.len())
 }
 
-// Whether s is a dynvec of fixvecs of bytes. Each item starts where the one before it ends.
+// Whether s is a dynvec of fixvecs of bytes. Each item starts where the one before it ends: one walk tests their order and each of them.
 pub fn is_bytes_vec(s: &[u8]) -> bool
     ensures { λ r. ⌜ r ≡ readable (dynvec (fixvec byte)) (now (s .entry)) ⌝ }
 {
     let n = item_count(s) as usize;
-    if !has_items(s, n) {
+    if !has_header(s, n) {
         return false;
     }
     let mut from = start(s, n, 0);
@@ -175,6 +185,9 @@ pub fn is_bytes_vec(s: &[u8]) -> bool
     while i < n {
         i += 1;
         let to = start(s, n, i);
+        if from > to {
+            return false;
+        }
         let x = part(s, from, to);
         if !is_bytes(x) {
             return false;

@@ -14,7 +14,7 @@ use Rattle.molecule.specs.Layout.{part, word, start, hasItems, fieldOf}
 use Rattle.molecule.proofs.Offsets.{inOrder, up-all, start-in, start-out, offsets-parts}
 use Rattle.molecule.proofs.HeaderLaws.{offsets-has}
 use Rattle.molecule.proofs.LayoutLaws.{part-none}
-use Rattle.molecule.proofs.TestLaws.{ordered-none, ordered-more, ordered-end, bytes-are, fix-short}
+use Rattle.molecule.proofs.TestLaws.{header-is, ordered-none, ordered-more, ordered-end, bytes-are, fix-short}
 use Rattle.transaction.specs.Ckb.{Bytes, Script, CellOutput}
 use Rattle.transaction.proofs.TableLaws.{script-fields, output-fields}
 
@@ -80,7 +80,7 @@ module _ (s : List ℕ) where
       let g : 16 ≤ length s = t .room in
       let r : 3 < length s / 4 = omega arith in
       let p : start s 3 0 ≤ word s 2 = omega (arith, start-0, t .first, t .second) in
-      sym (ordered-end (ordered-more (ordered-more (ordered-more (ordered-none s 3 r refl (t .whole) refl (start-0 ∙ t .first)) (omega arith) (sym start-1) p) (omega arith) (sym start-2) (t .third)) (omega arith) (sym start-3) (t .last)) (omega arith))
+      sym (ordered-end (ordered-more (ordered-more (ordered-more (ordered-none s 3 (header-is s 3 r refl (t .whole) refl (start-0 ∙ t .first)) refl refl) (omega arith) (sym start-1) p) (omega arith) (sym start-2) (t .third)) (omega arith) (sym start-3) (t .last)) (omega arith))
 
   length-0 : Three s → length (fieldOf s 3 0) ≡ word s 2 - word s 1
   length-0 t = ap length field-0 ∙ length-part s (word s 1) (word s 2) (omega (arith, t .first, t .second)) (omega (arith, t .third, t .last))

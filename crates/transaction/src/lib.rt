@@ -92,21 +92,27 @@ pub fn is_inputs(s: &[u8]) -> bool
     molecule::is_fixvec(s, 44)
 }
 
-// Whether s is a list of outputs.
+// Whether s is a list of outputs. One walk tests the order of the items and each of them.
 pub fn is_outputs(s: &[u8]) -> bool
     ensures { λ r. ⌜ r ≡ readable (dynvec CellOutput) (now (s .entry)) ⌝ }
 {
     let n = molecule::item_count(s) as usize;
-    if !molecule::has_items(s, n) {
+    if !molecule::has_header(s, n) {
         return false;
     }
+    let mut from = molecule::start(s, n, 0);
     let mut i = 0;
     while i < n {
-        let x = molecule::field(s, n, i);
+        i += 1;
+        let to = molecule::start(s, n, i);
+        if to < from {
+            return false;
+        }
+        let x = molecule::part(s, from, to);
         if !is_output(x) {
             return false;
         }
-        i += 1;
+        from = to;
     }
     true
 }
@@ -214,21 +220,27 @@ pub fn is_optional_record(s: &[u8]) -> bool
     is_record(s)
 }
 
-// Whether s is a list of these.
+// Whether s is a list of these. It is gone over like a list of outputs.
 pub fn is_records(s: &[u8]) -> bool
     ensures { λ r. ⌜ r ≡ readable Records (now (s .entry)) ⌝ }
 {
     let n = molecule::item_count(s) as usize;
-    if !molecule::has_items(s, n) {
+    if !molecule::has_header(s, n) {
         return false;
     }
+    let mut from = molecule::start(s, n, 0);
     let mut i = 0;
     while i < n {
-        let x = molecule::field(s, n, i);
+        i += 1;
+        let to = molecule::start(s, n, i);
+        if to < from {
+            return false;
+        }
+        let x = molecule::part(s, from, to);
         if !is_optional_record(x) {
             return false;
         }
-        i += 1;
+        from = to;
     }
     true
 }

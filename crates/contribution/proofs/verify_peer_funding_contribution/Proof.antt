@@ -1,3 +1,4 @@
+use Rattle.contribution.proofs.AccountLaws.{contribution-whole}
 use Rattle.contribution.proofs.Ways.{ways}
 use Rattle.contribution.proofs.verify_peer_funding_contribution.Statement.{statement}
 use Rattle.contribution.proofs.verify_peer_funding_contribution.Tie as tie
@@ -6,9 +7,21 @@ pub verify-peer-funding-contribution-spec : {M : Type 1} → statement M
 verify-peer-funding-contribution-spec =
     tie.close
     (tie.spec
+    (λ c. search ways)  -- sub-ours
+    (λ c. search ways)  -- part-ours-start
+    (λ c. search ways)  -- part-ours-end
+    (λ c. search ways)  -- sub-peer
+    (λ c. search ways)  -- part-peer-start
+    (λ c. search ways)  -- part-peer-end
+    (λ c. search ways)  -- sub-udt
+    (λ c. search ways)  -- part-udt-start
+    (λ c. search ways)  -- part-udt-end
+    (λ c. search ways)  -- sub-records
+    (λ c. search ways)  -- part-records-start
+    (λ c. search ways)  -- part-records-end
     (λ c κs. search ways)  -- funding-output-delta-requires
     (λ c. search ways)  -- enum-known-capacity
     (λ c κs. search ways)  -- surpluses-requires
     (λ c. search ways)  -- enum-told
-    (λ c. search ways)  -- returns
-    (λ c. search ways))  -- returns-2
+    (λ c. contribution-whole _ _ _ _ _ (search ways))  -- returns
+    (λ c. contribution-whole _ _ _ _ _ (search ways)))  -- returns-2

@@ -1,5 +1,5 @@
 use Prim.Native.Nat.{_-_}
-use Rattle.molecule.proofs.TestLaws.{Ordered, ordered-none}
+use Rattle.molecule.proofs.TestLaws.{Ordered}
 use Rattle.molecule.proofs.Ways.{ways}
 use Rattle.molecule.proofs.has_items.Statement.{statement}
 use Rattle.molecule.proofs.has_items.Tie as tie
@@ -16,18 +16,13 @@ has-items-spec =
     (tie.spec
     Inv-loop
     μ-loop
+    (λ c κs. search ways)  -- has-header-requires
     (λ c. search ways)  -- returns
-    (λ c κs. search ways)  -- word-requires
-    (λ c. search ways)  -- cast-if2
-    (λ c. search ways)  -- returns-2
     (λ c κs. search ways)  -- start-requires
-    (λ c. search ways)  -- mul-if3
-    (λ c. search ways)  -- add-if3
-    (λ c. search ways)  -- returns-3
-    (λ c. let d = c .before .before .before .before in ordered-none _ _ (d .if1 .left) (c .before .before .before .word .ensures) (c .before .before .if2 .left) (c .before .start .ensures) (c .if3 .left))  -- loop-holds
+    (λ c. search ways)  -- loop-holds
     (λ c. search ways)  -- add-i
     (λ c κs. search ways)  -- start-requires-2
-    (λ c. search ways)  -- returns-4
+    (λ c. search ways)  -- returns-2
     (λ c. search ways)  -- loop-less
     (λ c. search ways)  -- loop-again
-    (λ c. search ways))  -- returns-5
+    (λ c. search ways))  -- returns-3
