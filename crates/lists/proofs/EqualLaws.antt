@@ -8,8 +8,8 @@ use native.Mathlib.Numerals.{add-one}
 use native.Mathlib.Omega.{arith}
 use borrow.Author.Tests.{eq-eqb, ne-eqb, eqb-true}
 use lib.Dec.{eqb}
-use lib.ListN.{length, drop, getD, drop-of-length-le}
-use lib.Seq.{drop-cons}
+use lib.ListN.{length, take, drop, getD, drop-of-length-le}
+use lib.Seq.{drop-cons, take-all}
 use Rattle.lists.specs.Lists.{eqBytes}
 
 pub not-so : (b : Bool) → (b ≡ true → ⊥) → b ≡ false
@@ -79,3 +79,10 @@ module _ {a b : List ℕ} {ok : Bool} {i : ℕ} (r : Flagged a b ok i) where
 -- two items, each what a call gave
 pub eq-items : (a b : List ℕ) {x y : List ℕ} {r : Bool} → x ≡ a → y ≡ b → r ≡ eqBytes x y → r ≡ eqBytes a b
 eq-items a b e f h = rw (e, f) at h
+
+-- of slices that were taken anew
+pub whole : (s : List ℕ) → take (length s - 0) (drop 0 s) ≡ s
+whole s = take-all (length s - 0) s (omega arith)
+
+pub eq-whole : (a b : List ℕ) {r : Bool} → r ≡ eqBytes (take (length a - 0) (drop 0 a)) (take (length b - 0) (drop 0 b)) → r ≡ eqBytes a b
+eq-whole a b h = rw (whole a, whole b) at h

@@ -11,7 +11,10 @@ const FIRST_OUTPUT: usize = 1;
 // So may its data.
 const FIRST_ENTRY: usize = 1;
 
-// How many bytes are compared at a time: a script has one such block or two, a long run is compared at the speed of memory.
+// How many bytes are compared at a time: an input or a cell dep has a few short blocks, a script one block or two, and a long run is compared at the speed of
+// memory.
+const SHORT_BLOCK: usize = 16;
+
 const BLOCK: usize = 64;
 
 const TWO_BLOCKS: usize = 128;
@@ -43,6 +46,23 @@ fn same_block(a: &[u8], b: &[u8], at: usize) -> bool
     let mut ok = true;
     let mut i = 0;
     while i < BLOCK {
+        if a[at + i] != b[at + i] {
+            ok = false;
+        }
+        i += 1;
+    }
+    ok
+}
+
+// A short block.
+fn same_short_block(a: &[u8], b: &[u8], at: usize) -> bool
+    requires { ⌜ at + 16 ≤ length (now a) ⌝ }
+    requires { ⌜ at + 16 ≤ length (now b) ⌝ }
+    ensures { λ r. ⌜ r ≡ eqBytes (take 16 (drop at (now (a .entry)))) (take 16 (drop at (now (b .entry)))) ⌝ }
+{
+    let mut ok = true;
+    let mut i = 0;
+    while i < SHORT_BLOCK {
         if a[at + i] != b[at + i] {
             ok = false;
         }
@@ -85,6 +105,23 @@ fn same_by_blocks(a: &[u8], b: &[u8]) -> bool
     same_block(a, b, last)
 }
 
+// The same by short blocks.
+fn same_by_short_blocks(a: &[u8], b: &[u8]) -> bool
+    requires { ⌜ length (now a) ≡ length (now b) ⌝ }
+    requires { ⌜ 16 ≤ length (now a) ⌝ }
+    ensures { λ r. ⌜ r ≡ eqBytes (now (a .entry)) (now (b .entry)) ⌝ }
+{
+    let last = a.len() - SHORT_BLOCK;
+    let mut i = 0;
+    while i < last {
+        if !same_short_block(a, b, i) {
+            return false;
+        }
+        i += SHORT_BLOCK;
+    }
+    same_short_block(a, b, last)
+}
+
 // The same by long blocks.
 fn same_by_long_blocks(a: &[u8], b: &[u8]) -> bool
     requires { ⌜ length (now a) ≡ length (now b) ⌝ }
@@ -106,11 +143,17 @@ fn same_by_long_blocks(a: &[u8], b: &[u8]) -> bool
 pub fn same(a: &[u8], b: &[u8]) -> bool
     ensures { λ r. ⌜ r ≡ eqBytes (now (a .entry)) (now (b .entry)) ⌝ }
 {
+    // taken anew, a slice comes in as its two words, and not by way of memory
+    let a = &a[0..a.len()];
+    let b = &b[0..b.len()];
     if a.len() != b.len() {
         return false;
     }
-    if a.len() < BLOCK {
+    if a.len() < SHORT_BLOCK {
         return same_run(a, b);
+    }
+    if a.len() < BLOCK {
+        return same_by_short_blocks(a, b);
     }
     if a.len() < LONG_BLOCK {
         return same_by_blocks(a, b);
