@@ -16,32 +16,31 @@ use Rattle.units.specs.declared.{Shannons.Shannons, CheckedShannons.CheckedShan
 use Rattle.units.specs.Units.{inShannons, shannonCount, checkedShannons, cappedSum}
 use Rattle.units.specs.Fee.{feeShannons, requiredFee}
 use Rattle.units.proofs.CountLaws.{shannons-of, capped-near, shannons-left, shannons-enough, shannons-lacking}
-use Rattle.molecule.specs.Layout.{span, fixCount, itemCount, itemOf}
-use Rattle.molecule.proofs.Offsets.{span-length}
-use Rattle.lists.proofs.SpanLaws.{span-on, span-end, span-whole}
-use Rattle.transaction.specs.Tx.{Tx, txAt, rawField, firstOf}
+use Rattle.molecule.specs.Layout.{span, itemCount, itemOf}
+use Rattle.lists.proofs.SpanLaws.{span-on, span-end}
+use Rattle.transaction.specs.Tx.{firstOf}
 use Rattle.transaction.specs.Tx as tx
 use Rattle.error.specs.declared.Refusal.{Refusal}
 use Rattle.error.specs.Refusal.{number, values}
 use Rattle.rules.specs.Outcome.{Outcome, fine, refused, check, checkWith, _>>_}
-use Rattle.rules.specs.Cells.{Cell, cellAt, recordCellAt, recordCells}
-use Rattle.rules.specs.Surplus.{isEmpty, total, added, capacityOf}
-use Rattle.rules.specs.Judge.{unfunded, covered}
-use Rattle.rules.proofs.CellLaws.{empty-is, added-is}
+use Rattle.rules.specs.Cells.{Cell, recordCell}
+use Rattle.rules.specs.Surplus.{total, capacityOf}
+use Rattle.rules.specs.Judge.{covered}
 use Rattle.accounts.specs.declared.capacity.CapacitySurplus.{CapacitySurplus}
+use Rattle.accounts.specs.Added.{cellIn, cellsFrom}
 use Rattle.accounts.specs.Answers.{inCapacity}
 
 -- ---- the capacity of one cell
 
-pub record-capacity : (s : List ℕ) (i : ℕ) {x o : List ℕ} {r : Shannons} → x ≡ itemOf s i → o ≡ firstOf x → r ≡ inShannons (amount.amountOf (tx.capacityOf o))
-    → shannonCount r ≡ capacityOf (recordCellAt s i)
-unfolding recordCellAt capacityOf
-record-capacity s i {x} {o} ex eo er = ap shannonCount er ∙ shannons-of (tx.capacityOf o) ∙ ap tx.capacityOf (eo ∙ ap firstOf ex)
+pub record-capacity : (x : List ℕ) {o : List ℕ} {r : Shannons} → o ≡ firstOf x → r ≡ inShannons (amount.amountOf (tx.capacityOf o))
+    → shannonCount r ≡ capacityOf (recordCell x)
+unfolding capacityOf
+record-capacity x {o} eo er = ap shannonCount er ∙ shannons-of (tx.capacityOf o) ∙ ap tx.capacityOf eo
 
-pub output-capacity : (s : List ℕ) (i : ℕ) {f o : List ℕ} {r : Shannons} → f ≡ rawField s 4 → o ≡ itemOf f i → r ≡ inShannons (amount.amountOf (tx.capacityOf o))
-    → shannonCount r ≡ capacityOf (cellAt s i)
-unfolding cellAt capacityOf
-output-capacity s i {f} {o} ef eo er = ap shannonCount er ∙ shannons-of (tx.capacityOf o) ∙ ap tx.capacityOf (eo ∙ ap (λ (l : List ℕ). itemOf l i) ef)
+pub output-capacity : (f : List ℕ) (i : ℕ) {o : List ℕ} {r : Shannons} → o ≡ itemOf f i → r ≡ inShannons (amount.amountOf (tx.capacityOf o))
+    → shannonCount r ≡ capacityOf (cellIn f [] i)
+unfolding cellIn capacityOf
+output-capacity f i {o} eo er = ap shannonCount er ∙ shannons-of (tx.capacityOf o) ∙ ap tx.capacityOf eo
 
 -- ---- sums over cells
 
@@ -50,17 +49,9 @@ pub record Sums (f : ℕ → Cell) (n i : ℕ) (sum : Shannons) (R : ℕ) : Type
   pub rest : shannonCount sum + total capacityOf (span f i (n - i)) ≡ R
   pub far : shannonCount sum ≤ 2 ^ 64 * i
 
-pub sums-records : (s : List ℕ) {n : ℕ} → n ≡ itemCount s → Sums (recordCellAt s) n 0 (inShannons (halves 0 0)) (total capacityOf (recordCells s))
+pub sums-from : (f : List ℕ) (k : ℕ) {n : ℕ} → n ≡ itemCount f → Sums (cellIn f []) n k (inShannons (halves 0 0)) (total capacityOf (cellsFrom f [] k))
 unfolding shannonCount
-sums-records s {n} e = record { rest = rw (← e) (zero-add _ ∙ ap (total capacityOf) (sym (span-whole (recordCellAt s) n))); far = omega arith }
-
-pub sums-added : (o p : List ℕ) {f : List ℕ} {n k : ℕ} → f ≡ rawField p 4 → n ≡ itemCount f → k ≡ max 1 (length (txAt o .outputs))
-    → Sums (cellAt p) n k (inShannons (halves 0 0)) (total capacityOf (added (txAt o) (txAt p)))
-unfolding shannonCount
-sums-added o p {f} {n} {k} ef en g = let e : n ≡ itemCount (rawField p 4) = en ∙ ap itemCount ef in record {
-  rest = zero-add _ ∙ sym (ap (total capacityOf) (added-is o p g) ∙ ap (λ (m : ℕ). total capacityOf (span (cellAt p) k (m - k))) (sym e));
-  far = omega arith;
-}
+sums-from f k {n} e = record { rest = zero-add _ ∙ ap (λ (m : ℕ). total capacityOf (span (cellIn f []) k (m - k))) e; far = omega arith }
 
 -- far from 2^128, since fewer than 2^32 cells are summed
 turns : (q i n : ℕ) → i < n → q * i + q ≤ q * n
@@ -108,19 +99,6 @@ module _ {f : ℕ → Cell} {n i : ℕ} {sum : Shannons} {R : ℕ} (h : Sums f n
 -- a turn less: said as a law, since `omega` stops where amounts are in reach
 pub turn-less : (n i : ℕ) → i < n → n - (i + 1) < n - i
 turn-less n i h = omega arith
-
--- ---- ours has no inputs and no outputs
-
-module _ (o : List ℕ) {m : ℕ} (em : m ≡ fixCount (rawField o 3)) where
-  empty-inputs : (b : Bool) → eqb m 0 ≡ b → isEmpty (txAt o .inputs) ≡ b
-  empty-inputs b h = empty-is (txAt o .inputs) ∙ ap (λ (k : ℕ). eqb k 0) (span-length _ 0 _ ∙ sym em) ∙ h
-
-  pub funded-inputs : (m ≡ 0 → ⊥) → false ≡ unfunded (txAt o)
-  funded-inputs h = sym (rw (empty-inputs false (ne-eqb m 0 h)))
-
-  pub unfunded-is : {n : ℕ} → m ≡ 0 → n ≡ itemCount (rawField o 4) → eqb n 0 ≡ unfunded (txAt o)
-  unfunded-is {n} h en =
-      sym (rw (empty-inputs true (eq-eqb m 0 h)) (empty-is (txAt o .outputs) ∙ ap (λ (k : ℕ). eqb k 0) (span-length _ 0 _ ∙ sym en)))
 
 -- ---- what is left
 
@@ -218,8 +196,7 @@ module _ (b : Bool) (g n p : Shannons) (rate size : ℕ) {r : CheckedShannons} (
             fee : v ≡ feeShannons rate size
             fee = ev ∙ cap (value (f .0)) (feeShannons rate size) (fee-count rate size ef) (fee-small rate size)
 
-pub surplus-is : (o p s : List ℕ) (rate size : ℕ) (q : CapacitySurplus) (g n u : Shannons) {b : Bool} → b ≡ unfunded (txAt o)
-    → shannonCount g ≡ total capacityOf (recordCells s) → shannonCount u ≡ total capacityOf (added (txAt o) (txAt p))
-    → inCapacity q ≡ covered b (shannonCount g) (shannonCount n + shannonCount u) rate size
-    → inCapacity q ≡ covered (unfunded (txAt o)) (total capacityOf (recordCells s)) (shannonCount n + total capacityOf (added (txAt o) (txAt p))) rate size
-surplus-is o p s rate size q g n u eb eg eu h = rw (← eb, ← eg, ← eu) h
+pub surplus-is : (opening : Bool) (f : List ℕ) (k rate size : ℕ) (q : CapacitySurplus) (g n u : Shannons) → shannonCount u ≡ total capacityOf (cellsFrom f [] k)
+    → inCapacity q ≡ covered opening (shannonCount g) (shannonCount n + shannonCount u) rate size
+    → inCapacity q ≡ covered opening (shannonCount g) (shannonCount n + total capacityOf (cellsFrom f [] k)) rate size
+surplus-is opening f k rate size q g n u eu h = rw (← eu) h

@@ -1,4 +1,3 @@
-pub mod AddedLaws
 pub mod CapacityLaws
 pub mod TokenLaws
 pub mod Ways

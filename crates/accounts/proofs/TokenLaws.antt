@@ -10,22 +10,29 @@ use Rattle.arithmetic.specs.Amount.{halves, sum, difference, amountAt}
 use Rattle.units.specs.declared.{Tokens.Tokens, CheckedTokens.CheckedTokens, TokensRead.TokensRead}
 use Rattle.units.specs.Units.{tokenCount, checkedTokens, tokensRead}
 use Rattle.units.specs.Units as units
-use Rattle.units.proofs.CountLaws.{tokens-sum, tokens-below, tokens-over, tokens-left, tokens-enough, tokens-lacking, tokens-long, tokens-under}
+use Rattle.units.proofs.CountLaws.{tokens-sum, tokens-below, tokens-over, tokens-left, tokens-enough, tokens-lacking, tokens-there, tokens-long, tokens-under}
 use Rattle.molecule.specs.Layout.{span, itemCount, itemOf, entryOf}
 use Rattle.lists.specs.Lists.{eqBytes}
-use Rattle.lists.proofs.SpanLaws.{span-on, span-end, span-whole}
-use Rattle.transaction.specs.Tx.{txAt, rawField, typeOf, firstOf, dataOf}
+use Rattle.lists.proofs.SpanLaws.{span-on, span-end}
+use Rattle.transaction.specs.Tx.{typeOf, firstOf, dataOf}
 use Rattle.rules.specs.Outcome.{Outcome, fine, refused, check, checkWith, _>>_, _>>=_}
-use Rattle.rules.specs.Cells.{Cell, recordCell, cellAt, recordCellAt, recordCells}
-use Rattle.rules.specs.Surplus.{isEmpty, added, isOf, hasAmount, amountOf}
+use Rattle.rules.specs.Cells.{Cell, recordCell}
+use Rattle.rules.specs.Surplus.{isEmpty, isOf, hasAmount, amountOf}
 use Rattle.rules.specs.Step.{with-data}
-use Rattle.rules.specs.Judge.{counted, tally, settled, account, tokenAccount}
-use Rattle.rules.proofs.CellLaws.{empty-is, added-is}
+use Rattle.rules.specs.Judge.{counted, tally, settled}
+use Rattle.rules.proofs.CellLaws.{empty-is}
 use Rattle.accounts.specs.declared.token.TokenSum.{TokenSum}
+use Rattle.accounts.specs.Added.{cellIn, cellsFrom}
 use Rattle.accounts.specs.Answers.{inTokens}
-use Rattle.accounts.proofs.AddedLaws.{amount-there}
+use Rattle.accounts.specs.Paid.{andCell, tokensLeft}
 
 -- ---- one cell
+
+-- an amount that was read, or not
+pub amount-there : (o d : List ℕ) {r : TokensRead} {t : Tokens} → r ≡ tokensRead (amountAt d) → r ≡ TokensRead.Tokens t
+    → tokenCount t ≡ amountOf (record { output = o; cellData = d })
+unfolding amountOf hasAmount
+amount-there o d e f = tokens-there d e f ∙ rw (le-leb 16 (length d) (tokens-long d e f))
 
 -- of the type that is asked for, whatever that is
 module _ (d : List ℕ) (s : Tokens) {g : TokensRead} (eg : g ≡ tokensRead (amountAt d)) where
@@ -61,49 +68,50 @@ module _ (type o : List ℕ) (n : Tokens) {k : List ℕ} {r : Bool} (ek : k ≡ 
   unfolding counted
   other d t = rw (of-type d, not-true r t)
 
-  module _ (s : List ℕ) (i : ℕ) {x : List ℕ} (ex : x ≡ itemOf s i) (eo : o ≡ firstOf x) where
-    record-cell : (d : List ℕ) → d ≡ dataOf x → counted type (tokenCount n) (with-data o d) ≡ counted type (tokenCount n) (recordCellAt s i)
-    unfolding recordCellAt
-    record-cell d ed = ap₂ (λ (a b : List ℕ). counted type (tokenCount n) (with-data a b)) eo ed ∙ ap (λ (y : List ℕ). counted type (tokenCount n) (recordCell y)) ex
+  module _ (x : List ℕ) (paid : TokenSum) (ep : paid ≡ TokenSum.Is n) (eo : o ≡ firstOf x) where
+    record-cell : (d : List ℕ) → d ≡ dataOf x → counted type (tokenCount n) (with-data o d) ≡ andCell type (inTokens paid) (recordCell x)
+    unfolding andCell _>>=_
+    record-cell d ed = ap₂ (λ (a b : List ℕ). counted type (tokenCount n) (with-data a b)) eo ed ∙ sym (rw ep)
 
-    pub record-other : not r ≡ true → inTokens (TokenSum.Is n) ≡ counted type (tokenCount n) (recordCellAt s i)
+    pub record-other : not r ≡ true → inTokens (TokenSum.Is n) ≡ andCell type (inTokens paid) (recordCell x)
     record-other t = other (dataOf x) t ∙ record-cell (dataOf x) refl
 
     pub record-amount : {d : List ℕ} (q : TokenSum) → not r ≡ false → d ≡ dataOf x
         → ((type o : List ℕ) → isOf type (record { output = o; cellData = d }) ≡ true → inTokens q ≡ counted type (tokenCount n) (record { output = o; cellData = d }))
-        → inTokens q ≡ counted type (tokenCount n) (recordCellAt s i)
+        → inTokens q ≡ andCell type (inTokens paid) (recordCell x)
     record-amount {d} q t ed h = h type o (of-type d ∙ not-false r t) ∙ record-cell d ed
 
   module _ (f g : List ℕ) (i : ℕ) (eo : o ≡ itemOf f i) where
-    item-cell : (d : List ℕ) → d ≡ entryOf g i → counted type (tokenCount n) (with-data o d) ≡ counted type (tokenCount n) (with-data (itemOf f i) (entryOf g i))
+    item-cell : (d : List ℕ) → d ≡ entryOf g i → counted type (tokenCount n) (with-data o d) ≡ counted type (tokenCount n) (cellIn f g i)
+    unfolding cellIn
     item-cell d ed = ap₂ (λ (a b : List ℕ). counted type (tokenCount n) (with-data a b)) eo ed
 
-    pub item-other : not r ≡ true → inTokens (TokenSum.Is n) ≡ counted type (tokenCount n) (record { output = itemOf f i; cellData = entryOf g i })
+    pub item-other : not r ≡ true → inTokens (TokenSum.Is n) ≡ counted type (tokenCount n) (cellIn f g i)
     item-other t = other (entryOf g i) t ∙ item-cell (entryOf g i) refl
 
     pub item-amount : {d : List ℕ} (q : TokenSum) → not r ≡ false → d ≡ entryOf g i
         → ((type o : List ℕ) → isOf type (record { output = o; cellData = d }) ≡ true → inTokens q ≡ counted type (tokenCount n) (record { output = o; cellData = d }))
-        → inTokens q ≡ counted type (tokenCount n) (record { output = itemOf f i; cellData = entryOf g i })
+        → inTokens q ≡ counted type (tokenCount n) (cellIn f g i)
     item-amount {d} q t ed h = h type o (of-type d ∙ not-false r t) ∙ item-cell d ed
 
-pub token-output : (type s : List ℕ) (i : ℕ) (n : Tokens) (q : TokenSum) {f g : List ℕ} → f ≡ rawField s 4 → g ≡ rawField s 5
-    → inTokens q ≡ counted type (tokenCount n) (record { output = itemOf f i; cellData = entryOf g i }) → inTokens q ≡ counted type (tokenCount n) (cellAt s i)
-unfolding cellAt
-token-output type s i n q ef eg h = h ∙ ap₂ (λ (a b : List ℕ). counted type (tokenCount n) (with-data (itemOf a i) (entryOf b i))) ef eg
+-- where there is no sum so far
+pub record-short : (type x : List ℕ) (paid : TokenSum) → paid ≡ TokenSum.Invalid → inTokens TokenSum.Invalid ≡ andCell type (inTokens paid) (recordCell x)
+unfolding andCell _>>=_
+record-short type x paid e = sym (rw e)
+
+pub record-wide : (type x : List ℕ) (paid : TokenSum) → paid ≡ TokenSum.Overflow → inTokens TokenSum.Overflow ≡ andCell type (inTokens paid) (recordCell x)
+unfolding andCell _>>=_
+record-wide type x paid e = sym (rw e)
 
 -- ---- the tally: R is the answer, the cells from i on decide
 
 pub record Tally (type : List ℕ) (f : ℕ → Cell) (n i : ℕ) (sum : Tokens) (R : Outcome ℕ) : Type 0 where
   pub rest : R ≡ tally type (tokenCount sum) (span f i (n - i))
 
-pub tally-records : (type s : List ℕ) {n : ℕ} → n ≡ itemCount s → Tally type (recordCellAt s) n 0 (units.inTokens (halves 0 0)) (tally type 0 (recordCells s))
+pub tally-from : (type f g : List ℕ) (k : ℕ) {n : ℕ} → n ≡ itemCount f
+    → Tally type (cellIn f g) n k (units.inTokens (halves 0 0)) (tally type 0 (cellsFrom f g k))
 unfolding tokenCount
-tally-records type s {n} e = record { rest = rw (← e) (ap (tally type 0) (span-whole (recordCellAt s) n)) }
-
-pub tally-added : (type o p : List ℕ) {f : List ℕ} {n k : ℕ} → f ≡ rawField p 4 → n ≡ itemCount f → k ≡ max 1 (length (txAt o .outputs))
-    → Tally type (cellAt p) n k (units.inTokens (halves 0 0)) (tally type 0 (added (txAt o) (txAt p)))
-unfolding tokenCount
-tally-added type o p {f} {n} {k} ef en g = let e : n ≡ itemCount (rawField p 4) = en ∙ ap itemCount ef in record { rest = ap (tally type 0) (added-is o p g ∙ ap (λ (m : ℕ). span (cellAt p) k (m - k)) (sym e)) }
+tally-from type f g k {n} e = record { rest = ap (λ (m : ℕ). tally type 0 (span (cellIn f g) k (m - k))) (sym e) }
 
 module _ {type : List ℕ} {f : ℕ → Cell} {n i : ℕ} {sum : Tokens} {R : Outcome ℕ} (h : Tally type f n i sum R) where
   pub tally-end : n ≤ i → inTokens (TokenSum.Is sum) ≡ R
@@ -147,30 +155,30 @@ module _ (g s n : Tokens) {q : CheckedTokens} (eq : q ≡ checkedTokens (sum (g 
 some-type : (type : List ℕ) → (length type ≡ 0 → ⊥) → isEmpty type ≡ false
 some-type type z = empty-is type ∙ ne-eqb (length type) 0 z
 
-module _ (type o p s : List ℕ) (g : Tokens) where
-  pub tokens-none : length type ≡ 0 → inTokens (TokenSum.Is (units.inTokens (halves 0 0))) ≡ tokenAccount type (tokenCount g) (recordCells s) (added (txAt o) (txAt p))
-  unfolding tokenAccount tokenCount
+module _ (type : List ℕ) (paid : TokenSum) (g : Tokens) (f d : List ℕ) (i : ℕ) where
+  pub tokens-none : length type ≡ 0 → inTokens (TokenSum.Is (units.inTokens (halves 0 0))) ≡ tokensLeft type (tokenCount g) (inTokens paid) (cellsFrom f d i)
+  unfolding tokensLeft tokenCount
   tokens-none h = rw (empty-is type, eq-eqb (length type) 0 h)
 
-  module _ (z : length type ≡ 0 → ⊥) (q : TokenSum) (eq : inTokens q ≡ tally type 0 (recordCells s)) where
-    pub tokens-records-short : q ≡ TokenSum.Invalid → inTokens TokenSum.Invalid ≡ tokenAccount type (tokenCount g) (recordCells s) (added (txAt o) (txAt p))
-    unfolding tokenAccount account _>>=_
-    tokens-records-short k = rw (some-type type z, ← eq, k)
+  module _ (z : length type ≡ 0 → ⊥) where
+    pub tokens-paid-short : paid ≡ TokenSum.Invalid → inTokens TokenSum.Invalid ≡ tokensLeft type (tokenCount g) (inTokens paid) (cellsFrom f d i)
+    unfolding tokensLeft _>>=_
+    tokens-paid-short k = rw (some-type type z, k)
 
-    pub tokens-records-wide : q ≡ TokenSum.Overflow → inTokens TokenSum.Overflow ≡ tokenAccount type (tokenCount g) (recordCells s) (added (txAt o) (txAt p))
-    unfolding tokenAccount account _>>=_
-    tokens-records-wide k = rw (some-type type z, ← eq, k)
+    pub tokens-paid-wide : paid ≡ TokenSum.Overflow → inTokens TokenSum.Overflow ≡ tokensLeft type (tokenCount g) (inTokens paid) (cellsFrom f d i)
+    unfolding tokensLeft _>>=_
+    tokens-paid-wide k = rw (some-type type z, k)
 
-    module _ {a : Tokens} (k : q ≡ TokenSum.Is a) (r : TokenSum) (er : inTokens r ≡ tally type 0 (added (txAt o) (txAt p))) where
-      pub tokens-added-short : r ≡ TokenSum.Invalid → inTokens TokenSum.Invalid ≡ tokenAccount type (tokenCount g) (recordCells s) (added (txAt o) (txAt p))
-      unfolding tokenAccount account _>>=_
-      tokens-added-short l = rw (some-type type z, ← eq, k, ← er, l)
+    module _ {a : Tokens} (k : paid ≡ TokenSum.Is a) (r : TokenSum) (er : inTokens r ≡ tally type 0 (cellsFrom f d i)) where
+      pub tokens-added-short : r ≡ TokenSum.Invalid → inTokens TokenSum.Invalid ≡ tokensLeft type (tokenCount g) (inTokens paid) (cellsFrom f d i)
+      unfolding tokensLeft _>>=_
+      tokens-added-short l = rw (some-type type z, k, ← er, l)
 
-      pub tokens-added-wide : r ≡ TokenSum.Overflow → inTokens TokenSum.Overflow ≡ tokenAccount type (tokenCount g) (recordCells s) (added (txAt o) (txAt p))
-      unfolding tokenAccount account _>>=_
-      tokens-added-wide l = rw (some-type type z, ← eq, k, ← er, l)
+      pub tokens-added-wide : r ≡ TokenSum.Overflow → inTokens TokenSum.Overflow ≡ tokensLeft type (tokenCount g) (inTokens paid) (cellsFrom f d i)
+      unfolding tokensLeft _>>=_
+      tokens-added-wide l = rw (some-type type z, k, ← er, l)
 
       pub tokens-settled : {b : Tokens} (v : TokenSum) → r ≡ TokenSum.Is b → inTokens v ≡ settled (tokenCount g) (tokenCount b) (tokenCount a)
-          → inTokens v ≡ tokenAccount type (tokenCount g) (recordCells s) (added (txAt o) (txAt p))
-      unfolding tokenAccount account _>>=_
-      tokens-settled v l h = rw (some-type type z, ← eq, k, ← er, l) h
+          → inTokens v ≡ tokensLeft type (tokenCount g) (inTokens paid) (cellsFrom f d i)
+      unfolding tokensLeft _>>=_
+      tokens-settled v l h = rw (some-type type z, k, ← er, l) h

@@ -1,1 +1,3 @@
+pub mod Added
 pub mod Answers
+pub mod Paid

@@ -4,12 +4,13 @@ use transaction::fields;
 use units::CheckedShannons;
 use units::Shannons;
 ghost use mathlib.Core.Path.{_≡_};
+ghost use mathlib.Core.List.{[]};
 ghost use Prim.Native.Nat.{_+_, _^_, _<_};
 ghost use Rattle.units.specs.Units.{shannonCount};
-ghost use Rattle.transaction.specs.Tx.{txAt};
-ghost use Rattle.rules.specs.Cells.{recordCellAt, recordCells};
-ghost use Rattle.rules.specs.Surplus.{total, added, capacityOf};
-ghost use Rattle.rules.specs.Judge.{unfunded, covered};
+ghost use Rattle.rules.specs.Cells.{recordCell};
+ghost use Rattle.rules.specs.Surplus.{total, capacityOf};
+ghost use Rattle.rules.specs.Judge.{covered};
+ghost use Rattle.accounts.specs.Added.{cellsFrom};
 ghost use Rattle.accounts.specs.Answers.{inCapacity};
 
 // What is left in capacity, or why the update is refused.
@@ -18,37 +19,22 @@ pub enum CapacitySurplus {
     Refused(Refusal),
 }
 
-fn record_capacity(records: &[u8], i: usize) -> Shannons
-    ensures { λ r. ⌜ shannonCount r ≡ capacityOf (recordCellAt (now (records .entry)) i) ⌝ }
+// The capacity of a record's cell.
+pub fn record_capacity(resolved: &[u8]) -> Shannons
+    ensures { λ r. ⌜ shannonCount r ≡ capacityOf (recordCell (now (resolved .entry))) ⌝ }
     ensures { λ r. ⌜ shannonCount r < 2 ^ 64 ⌝ }
 {
-    let x = molecule::item(records, i);
-    let o = fields::record_output(x);
+    let o = fields::record_output(resolved);
     fields::capacity(o)
 }
 
-// All records. A sum of fewer than 2^32 capacities is far from the greatest amount.
-fn records_capacity(records: &[u8]) -> Shannons
-    ensures { λ r. ⌜ shannonCount r ≡ total capacityOf (recordCells (now (records .entry))) ⌝ }
+// That of the outputs from index `first` on; their data counts nothing. A sum of fewer than 2^32 capacities is far from the greatest amount.
+fn added_capacity(outputs: &[u8], first: usize) -> Shannons
+    ensures { λ r. ⌜ shannonCount r ≡ total capacityOf (cellsFrom (now (outputs .entry)) [] first) ⌝ }
 {
-    let n = molecule::item_count(records) as usize;
-    let mut sum = Shannons::ZERO;
-    let mut i = 0;
-    while i < n {
-        let x = record_capacity(records, i);
-        sum = sum.saturating_add(x);
-        i += 1;
-    }
-    sum
-}
-
-fn added_capacity(ours: &[u8], peer: &[u8]) -> Shannons
-    ensures { λ r. ⌜ shannonCount r ≡ total capacityOf (added (txAt (now (ours .entry))) (txAt (now (peer .entry)))) ⌝ }
-{
-    let outputs = fields::outputs(peer);
     let n = molecule::item_count(outputs) as usize;
     let mut sum = Shannons::ZERO;
-    let mut i = crate::added_peer_outputs(ours);
+    let mut i = first;
     while i < n {
         let o = molecule::item(outputs, i);
         let x = fields::capacity(o);
@@ -56,16 +42,6 @@ fn added_capacity(ours: &[u8], peer: &[u8]) -> Shannons
         i += 1;
     }
     sum
-}
-
-// Ours has no inputs and no outputs.
-fn is_unfunded(ours: &[u8]) -> bool
-    ensures { λ r. ⌜ r ≡ unfunded (txAt (now (ours .entry))) ⌝ }
-{
-    if fields::input_count(ours) != 0 {
-        return false;
-    }
-    fields::output_count(ours) == 0
 }
 
 // What is left of what the records brought in over growth and added outputs, which pays the fee where ours is still empty.
@@ -102,19 +78,18 @@ fn cover(
     CapacitySurplus::Is(left)
 }
 
-// The surplus in capacity, with output 0 grown by so much.
+// The surplus in capacity of what was gained, with output 0 grown by so much and the outputs from index `first` on added.
 pub fn surplus(
-    ours: &[u8],
-    peer: &[u8],
-    records: &[u8],
+    opening: bool,
+    gained: Shannons,
     grown: Shannons,
+    outputs: &[u8],
+    first: usize,
     rate: u64,
     size: u64,
 ) -> CapacitySurplus
-    ensures { λ r. ⌜ inCapacity r ≡ covered (unfunded (txAt (now (ours .entry)))) (total capacityOf (recordCells (now (records .entry)))) (shannonCount grown + total capacityOf (added (txAt (now (ours .entry))) (txAt (now (peer .entry))))) rate size ⌝ }
+    ensures { λ r. ⌜ inCapacity r ≡ covered opening (shannonCount gained) (shannonCount grown + total capacityOf (cellsFrom (now (outputs .entry)) [] first)) rate size ⌝ }
 {
-    let opening = is_unfunded(ours);
-    let gained = records_capacity(records);
-    let put = added_capacity(ours, peer);
+    let put = added_capacity(outputs, first);
     cover(opening, gained, grown, put, rate, size)
 }

@@ -1,17 +1,15 @@
-// The two accounts of an update, in capacity and in the expected token: what the cells that the peer's added inputs spend bring in over the growth of output 0 and the
-// outputs that it added.
+// The two accounts of an update, in capacity and in the expected token: what is left of what the peer's added inputs bring in over the growth of output 0 and
+// the outputs that it added.
 pub mod capacity;
 pub mod token;
 
-use transaction::fields;
 use units::Tokens;
 use units::TokensRead;
 ghost use mathlib.Core.Path.{_≡_};
 ghost use Prim.Native.Nat.{max};
-ghost use lib.ListN.{length};
 ghost use Rattle.arithmetic.specs.Amount.{amountAt};
 ghost use Rattle.units.specs.Units.{tokensRead};
-ghost use Rattle.transaction.specs.Tx.{txAt};
+ghost use Rattle.molecule.specs.Layout.{itemCount};
 
 // The token amount that a cell's data begins with (RFC 0025).
 pub fn read_udt_amount(d: &[u8]) -> TokensRead
@@ -20,11 +18,11 @@ pub fn read_udt_amount(d: &[u8]) -> TokensRead
     Tokens::from_le_bytes(d)
 }
 
-// The index of the first output that the peer added: from our output count on, never 0.
+// The index of the first output that the peer added, by the list of our outputs: from their count on, never 0.
 pub fn added_peer_outputs(ours: &[u8]) -> usize
-    ensures { λ r. ⌜ r ≡ max 1 (length (txAt (now (ours .entry)) .outputs)) ⌝ }
+    ensures { λ r. ⌜ r ≡ max 1 (itemCount (now (ours .entry))) ⌝ }
 {
-    let n = fields::output_count(ours) as usize;
+    let n = molecule::item_count(ours) as usize;
     if n == 0 {
         return 1;
     }

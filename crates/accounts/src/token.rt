@@ -8,12 +8,12 @@ ghost use mathlib.Core.Bool.{true};
 ghost use mathlib.Core.List.{List};
 ghost use Prim.Native.Nat.{ℕ};
 ghost use Rattle.units.specs.Units.{tokenCount};
-ghost use Rattle.molecule.specs.Layout.{itemOf, entryOf};
-ghost use Rattle.transaction.specs.Tx.{txAt};
-ghost use Rattle.rules.specs.Cells.{recordCellAt, recordCells};
-ghost use Rattle.rules.specs.Surplus.{added, isOf};
-ghost use Rattle.rules.specs.Judge.{counted, tally, settled, tokenAccount};
+ghost use Rattle.rules.specs.Cells.{recordCell};
+ghost use Rattle.rules.specs.Surplus.{isOf};
+ghost use Rattle.rules.specs.Judge.{counted, tally, settled};
+ghost use Rattle.accounts.specs.Added.{cellIn, cellsFrom};
 ghost use Rattle.accounts.specs.Answers.{inTokens};
+ghost use Rattle.accounts.specs.Paid.{andCell, tokensLeft};
 
 // A sum of tokens. `Invalid` is the refusal 5, for an amount under 16 bytes or too few tokens brought in; `Overflow` is 7.
 pub enum TokenSum {
@@ -36,64 +36,44 @@ fn add_amount(d: &[u8], sum: Tokens) -> TokenSum
     }
 }
 
-// A sum with the tokens of record i; a cell of another type may hold any data.
-fn add_record(udt: &[u8], records: &[u8], i: usize, sum: Tokens) -> TokenSum
-    ensures { λ r. ⌜ inTokens r ≡ counted (now (udt .entry)) (tokenCount sum) (recordCellAt (now (records .entry)) i) ⌝ }
+// A sum, if there is one so far, with the tokens of a record; a cell of another type may hold any data.
+pub fn add_record(udt: &[u8], resolved: &[u8], paid: TokenSum) -> TokenSum
+    ensures { λ r. ⌜ inTokens r ≡ andCell (now (udt .entry)) (inTokens paid) (recordCell (now (resolved .entry))) ⌝ }
 {
-    let x = molecule::item(records, i);
-    let o = fields::record_output(x);
+    let sum = match paid {
+        TokenSum::Is(sum) => sum,
+        TokenSum::Invalid => return TokenSum::Invalid,
+        TokenSum::Overflow => return TokenSum::Overflow,
+    };
+    let o = fields::record_output(resolved);
     let t = fields::type_script(o);
     if !lists::same_script(udt, t) {
         return TokenSum::Is(sum);
     }
-    let d = fields::record_data(x);
+    let d = fields::record_data(resolved);
     add_amount(d, sum)
 }
 
-// The same for output i of a list of outputs, with its entry in a list of data.
+// A sum with the tokens of output i of a list of outputs, whose entry stands in a list of data.
 fn add_output(udt: &[u8], outputs: &[u8], entries: &[u8], i: usize, sum: Tokens) -> TokenSum
-    ensures { λ r. ⌜ inTokens r ≡ counted (now (udt .entry)) (tokenCount sum) (record { output = itemOf (now (outputs .entry)) i; cellData = entryOf (now (entries .entry)) i }) ⌝ }
+    ensures { λ r. ⌜ inTokens r ≡ counted (now (udt .entry)) (tokenCount sum) (cellIn (now (outputs .entry)) (now (entries .entry)) i) ⌝ }
 {
     let o = molecule::item(outputs, i);
     let t = fields::type_script(o);
-    if !lists::same(udt, t) {
+    if !lists::same_script(udt, t) {
         return TokenSum::Is(sum);
     }
     let d = molecule::entry(entries, i);
     add_amount(d, sum)
 }
 
-fn records_tokens(udt: &[u8], records: &[u8]) -> TokenSum
-    ensures { λ r. ⌜ inTokens r ≡ tally (now (udt .entry)) 0 (recordCells (now (records .entry))) ⌝ }
+// The tokens of the outputs from index `first` on.
+fn added_tokens(udt: &[u8], outputs: &[u8], entries: &[u8], first: usize) -> TokenSum
+    ensures { λ r. ⌜ inTokens r ≡ tally (now (udt .entry)) 0 (cellsFrom (now (outputs .entry)) (now (entries .entry)) first) ⌝ }
 {
-    let n = molecule::item_count(records) as usize;
-    let mut sum = Tokens::ZERO;
-    let mut i = 0;
-    while i < n {
-        match add_record(udt, records, i, sum) {
-            TokenSum::Is(total) => {
-                sum = total;
-            }
-            TokenSum::Invalid => {
-                return TokenSum::Invalid;
-            }
-            TokenSum::Overflow => {
-                return TokenSum::Overflow;
-            }
-        }
-        i += 1;
-    }
-    TokenSum::Is(sum)
-}
-
-fn added_tokens(udt: &[u8], ours: &[u8], peer: &[u8]) -> TokenSum
-    ensures { λ r. ⌜ inTokens r ≡ tally (now (udt .entry)) 0 (added (txAt (now (ours .entry))) (txAt (now (peer .entry)))) ⌝ }
-{
-    let outputs = fields::outputs(peer);
-    let entries = fields::outputs_data(peer);
     let n = molecule::item_count(outputs) as usize;
     let mut sum = Tokens::ZERO;
-    let mut i = crate::added_peer_outputs(ours);
+    let mut i = first;
     while i < n {
         match add_output(udt, outputs, entries, i, sum) {
             TokenSum::Is(total) => {
@@ -125,19 +105,26 @@ fn settle(grown: Tokens, put: Tokens, gained: Tokens) -> TokenSum
     }
 }
 
-// The surplus in tokens, with output 0 grown by so much; 0 when untyped.
-pub fn surplus(ours: &[u8], peer: &[u8], udt: &[u8], records: &[u8], grown: Tokens) -> TokenSum
-    ensures { λ r. ⌜ inTokens r ≡ tokenAccount (now (udt .entry)) (tokenCount grown) (recordCells (now (records .entry))) (added (txAt (now (ours .entry))) (txAt (now (peer .entry)))) ⌝ }
+// The surplus in tokens of what the records brought in, with output 0 grown by so much and the outputs from index `first` on added; 0 when untyped.
+pub fn surplus(
+    udt: &[u8],
+    paid: TokenSum,
+    grown: Tokens,
+    outputs: &[u8],
+    entries: &[u8],
+    first: usize,
+) -> TokenSum
+    ensures { λ r. ⌜ inTokens r ≡ tokensLeft (now (udt .entry)) (tokenCount grown) (inTokens paid) (cellsFrom (now (outputs .entry)) (now (entries .entry)) first) ⌝ }
 {
     if udt.len() == 0 {
         return TokenSum::Is(Tokens::ZERO);
     }
-    let gained = match records_tokens(udt, records) {
+    let gained = match paid {
         TokenSum::Is(gained) => gained,
         TokenSum::Invalid => return TokenSum::Invalid,
         TokenSum::Overflow => return TokenSum::Overflow,
     };
-    let put = match added_tokens(udt, ours, peer) {
+    let put = match added_tokens(udt, outputs, entries, first) {
         TokenSum::Is(put) => put,
         TokenSum::Invalid => return TokenSum::Invalid,
         TokenSum::Overflow => return TokenSum::Overflow,

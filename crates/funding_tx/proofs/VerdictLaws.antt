@@ -3,24 +3,33 @@ use mathlib.Core.Path.{_≡_, refl, sym, ap, ap₂, _∙_}
 use Prim.Native.Nat.{ℕ, _+_, _-_}
 use mathlib.Core.List.{List, [], _∷_}
 use mathlib.Core.Bool.{Bool, true, false, not}
+use mathlib.Core.Option.{Option}
 use borrow.Author.Tests.{not-true, not-false}
 use lib.ListN.{length, take, drop}
 use Rattle.molecule.specs.Molecule.{option, readable}
 use Rattle.transaction.specs.Ckb.{Script, Transaction}
-use Rattle.transaction.specs.Tx.{txAt, readTx}
+use Rattle.transaction.specs.Tx.{Tx, txAt, readTx}
+use Rattle.units.specs.declared.{Shannons.Shannons}
+use Rattle.units.specs.Units.{shannonCount}
 use Rattle.error.specs.declared.Refusal.{Refusal}
 use Rattle.error.specs.Refusal.{number, values}
 use Rattle.rules.specs.declared.Update.{Update}
 use Rattle.rules.specs.Outcome.{Outcome, fine, refused, check, checkWith, given, _>>_, _>>=_}
-use Rattle.rules.specs.Cells.{readOurs, readRecords, recordCells}
-use Rattle.rules.specs.Judge.{Figures, scripts, limits, comparison, spent, contribution, judge}
+use Rattle.rules.specs.Cells.{Cell, readOurs, readRecords}
+use Rattle.rules.specs.Surplus.{total, capacityOf}
+use Rattle.rules.specs.Judge.{Figures, scripts, limits, comparison, spent, tally, account, tokenAccount, accounts, contribution, judge}
 use Rattle.rules.specs.Told.{told, inForceOf}
 use Rattle.rules.specs.Run.{handedBack, next, updateForPeer}
 use Rattle.rules.proofs.Checks.{skip, fail, pass, last-is}
 use Rattle.rules.proofs.CellLaws.{read-yes, read-no, ours-yes, ours-no}
-use Rattle.contribution.proofs.AccountLaws.{whole}
+use Rattle.rules.proofs.Tests.{never, fine-inj, bind-fine}
+use Rattle.accounts.specs.declared.token.TokenSum.{TokenSum}
+use Rattle.accounts.specs.Answers.{inTokens}
+use Rattle.accounts.specs.Paid.{tokensLeft}
+use Rattle.contribution.specs.Contributed.{accountsOver, contributed}
+use Rattle.lists.proofs.EqualLaws.{whole}
 use Rattle.records.specs.declared.Resolved.{Resolved}
-use Rattle.records.specs.Resolved.{resolved}
+use Rattle.records.specs.Resolved.{Brought, brought, resolved, brings}
 use Rattle.funding_tx.proofs.Demand3.{hands}
 
 -- ---- the scripts
@@ -38,6 +47,30 @@ module _ (lock type source : List ℕ) where
       → check 3 r ≡ scripts lock type source
   unfolding scripts
   scripts-source ea ha eb hb e = pass 3 (sym ea ∙ not-false _ ha) (pass 3 (sym eb ∙ not-false _ hb) (last-is 3 e))
+
+-- ---- what the records bring in
+
+-- the rules' contribution is that of what they bring
+over : (type : List ℕ) (ours peer : Tx) (cells : List Cell) (rate size : ℕ)
+    → contribution type ours peer cells rate size ≡ contributed type ours peer (total capacityOf cells) (tally type 0 cells) rate size
+unfolding contribution accounts tokenAccount account contributed accountsOver tokensLeft
+over type ours peer cells rate size = refl
+
+refused-inj : {A : Type 0} {n m : ℕ} {l k : List ℕ} → _≡_ {A = Outcome A} (refused n l) (refused m k) → (n ≡ m) × (l ≡ k)
+refused-inj e = (cc, cc)
+
+module _ (source type : List ℕ) (ours peer : Tx) (lent : Option (List (Option Cell))) where
+  not-spent : (n : ℕ) (l : List ℕ) → brings source type ours peer lent ≡ refused n l → spent source ours peer lent ≡ refused n l
+  unfolding brings _>>=_
+  not-spent n l e = by (spent source ours peer lent) e
+    where
+      by : (v : Outcome (List Cell)) → (v >>= (λ (cs : List Cell). fine (brought type cs))) ≡ refused n l → v ≡ refused n l
+      by (fine cs) e = absurd (never n l (brought type cs) (sym e))
+      by (refused m k) e = let (a, b) = refused-inj e in rw (a, b)
+
+  is-spent : (b : Brought) → brings source type ours peer lent ≡ fine b → (cs : List Cell) × (spent source ours peer lent ≡ fine cs) × (brought type cs ≡ b)
+  unfolding brings
+  is-spent b e = let (cs, q, f) = bind-fine (spent source ours peer lent) (λ (cs : List Cell). fine (brought type cs)) b e in (cs, q, fine-inj f)
 
 -- ---- the whole
 
@@ -74,18 +107,21 @@ module _ (lock type o p s source : List ℕ) (rate : ℕ) where
             judge-comparison t =
                 rw (ours-yes o (sym e₁ ∙ not-false r₁ t₁), read-yes p (sym e₂ ∙ not-false r₂ t₂), ← e₃, not-false r₃ t₃, ← e₄, not-false r₄ t₄, ← e₅, not-true r₅ t)
 
-            module _ (t₅ : not r₅ ≡ false) (c : Resolved) (ec : resolved c (recordCells s) ≡ spent source (txAt o) (txAt p) (readRecords s)) where
+            module _ (t₅ : not r₅ ≡ false) (c : Resolved) (ec : resolved c ≡ brings source type (txAt o) (txAt p) (readRecords s)) where
               pub judge-records : {x : Refusal} → c ≡ Resolved.Refused x
                   → told (Update.Refused x) ≡ judge lock type o (record { peer = p; records = s; source = source; rate = rate })
               unfolding judge given _>>=_ _>>_ check checkWith
-              judge-records k =
-                  rw (ours-yes o (sym e₁ ∙ not-false r₁ t₁), read-yes p (sym e₂ ∙ not-false r₂ t₂), ← e₃, not-false r₃ t₃, ← e₄, not-false r₄ t₄, ← e₅, not-false r₅ t₅, ← ec, k)
+              judge-records {x} k =
+                  rw (ours-yes o (sym e₁ ∙ not-false r₁ t₁), read-yes p (sym e₂ ∙ not-false r₂ t₂), ← e₃, not-false r₃ t₃, ← e₄, not-false r₄ t₄, ← e₅, not-false r₅ t₅, not-spent source type (txAt o) (txAt p) (readRecords s) _ _ (sym (rw k at ec)))
 
-              pub judge-is : (u : Update) → c ≡ Resolved.Live → told u ≡ contribution type (txAt o) (txAt p) (recordCells s) rate (length p + 4)
+              pub judge-is : (u : Update) {g : Shannons} {t : TokenSum} → c ≡ Resolved.Live g t
+                  → told u ≡ contributed type (txAt o) (txAt p) (shannonCount g) (inTokens t) rate (length p + 4)
                   → told u ≡ judge lock type o (record { peer = p; records = s; source = source; rate = rate })
               unfolding judge given _>>=_ _>>_ check checkWith
-              judge-is u k h =
-                  rw (ours-yes o (sym e₁ ∙ not-false r₁ t₁), read-yes p (sym e₂ ∙ not-false r₂ t₂), ← e₃, not-false r₃ t₃, ← e₄, not-false r₄ t₄, ← e₅, not-false r₅ t₅, ← ec, k) h
+              judge-is u {g} {t} k h =
+                  let (cells, q, b) = is-spent source type (txAt o) (txAt p) (readRecords s) (record { capacity = shannonCount g; token = inTokens t }) (sym (rw k at ec)) in
+                  h ∙ sym (rw (ours-yes o (sym e₁ ∙ not-false r₁ t₁), read-yes p (sym e₂ ∙ not-false r₂ t₂), ← e₃, not-false r₃ t₃, ← e₄, not-false r₄ t₄, ← e₅, not-false r₅ t₅, q)
+                  (over type (txAt o) (txAt p) cells rate (length p + 4) ∙ ap (λ (x : Brought). contributed type (txAt o) (txAt p) (x .capacity) (x .token) rate (length p + 4)) b))
 
 -- ---- a whole call
 

@@ -56,13 +56,14 @@ pub fn update_for_peer(
     if !comparison::keeps_ours(ours, peer, lock, udt) {
         return Update::Refused(Refusal::InvalidPeerFundingTx);
     }
-    match records::resolve(ours, peer, source, records) {
-        Resolved::Live => contribution::verify_peer_funding_contribution(
+    match records::resolve(ours, peer, source, udt, records) {
+        Resolved::Live { capacity, token } => contribution::verify_peer_funding_contribution(
             ours,
             peer,
             udt,
             rate,
-            records,
+            capacity,
+            token,
         ),
         Resolved::Refused(e) => Update::Refused(e),
     }

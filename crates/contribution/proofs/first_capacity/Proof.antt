@@ -6,7 +6,6 @@ pub first-capacity-spec : {M : Type 1} → statement M
 first-capacity-spec =
     tie.close
     (tie.spec
-    (λ c κs. search ways)  -- outputs-requires
     (λ c κs. search ways)  -- item-count-requires
     (λ c. search ways)  -- returns
     (λ c κs. search ways)  -- item-requires

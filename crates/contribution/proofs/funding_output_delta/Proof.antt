@@ -6,9 +6,9 @@ pub funding-output-delta-spec : {M : Type 1} → statement M
 funding-output-delta-spec =
     tie.close
     (tie.spec
-    (λ c κs. search ways)  -- output-count-requires
+    (λ c κs. search ways)  -- item-count-requires
     (λ c. search ways)  -- returns
-    (λ c κs. search ways)  -- output-data-count-requires
+    (λ c κs. search ways)  -- item-count-requires-2
     (λ c. search ways)  -- returns-2
     (λ c κs. search ways)  -- first-capacity-requires
     (λ c κs. search ways)  -- first-capacity-requires-2

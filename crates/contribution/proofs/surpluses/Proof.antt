@@ -6,7 +6,6 @@ pub surpluses-spec : {M : Type 1} → statement M
 surpluses-spec =
     tie.close
     (tie.spec
-    (λ c κs. search ways)  -- serialized-size-in-block-requires
     (λ c κs. search ways)  -- surplus-requires
     (λ c. search ways)  -- enum-known-c
     (λ c. search ways)  -- enum-known-e

@@ -7,11 +7,11 @@ token-delta-spec =
     tie.close
     (tie.spec
     (λ c κs. search ways)  -- first-amount-requires
-    (λ c. search ways)  -- enum-known-before
+    (λ c. search ways)  -- enum-known-a
     (λ c. search ways)  -- enum-told
     (λ c. search ways)  -- returns
     (λ c κs. search ways)  -- first-amount-requires-2
-    (λ c. search ways)  -- enum-known-after
+    (λ c. search ways)  -- enum-known-b
     (λ c. search ways)  -- enum-told-2
     (λ c. search ways)  -- returns-2
     (λ c κs. search ways)  -- checked-sub-requires

@@ -36,7 +36,7 @@ update-for-peer-spec =
     (λ c κs. search ways)  -- keeps-ours-requires
     (λ c. judge-whole _ _ _ _ _ _ _ (search ways))  -- returns-5
     (λ c κs. search ways)  -- resolve-requires
-    (λ c. search ways)  -- enum-told
+    (λ c. search ways)  -- enum-known-capacity
     (λ c κs. search ways)  -- verify-peer-funding-contribution-requires
     (λ c. search ways)  -- enum-known-e
     (λ c. judge-whole _ _ _ _ _ _ _ (search ways))  -- returns-6

@@ -6,11 +6,9 @@ pub resolve-spec : {M : Type 1} → statement M
 resolve-spec =
     tie.close
     (tie.spec
-    (λ c κs. search ways)  -- is-records-requires
-    (λ c. search ways)  -- returns
     (λ c κs. search ways)  -- item-count-requires
     (λ c κs. search ways)  -- added-inputs-requires
-    (λ c. search ways)  -- returns-2
+    (λ c. search ways)  -- returns
     (λ c κs. search ways)  -- input-count-requires
-    (λ c κs. search ways)  -- all-live-requires
-    (λ c. search ways))  -- returns-3
+    (λ c κs. search ways)  -- gather-requires
+    (λ c. search ways))  -- returns-2

@@ -1,17 +1,17 @@
 use Prim.Native.Nat.{_-_}
-use Rattle.transaction.specs.Tx.{txAt}
-use Rattle.rules.specs.Cells.{cellAt}
-use Rattle.rules.specs.Surplus.{total, added, capacityOf}
+use mathlib.Core.List.{[]}
+use Rattle.rules.specs.Surplus.{total, capacityOf}
+use Rattle.accounts.specs.Added.{cellIn, cellsFrom}
 use Rattle.accounts.proofs.CapacityLaws.{Sums}
 use Rattle.accounts.proofs.Ways.{ways}
 use Rattle.accounts.proofs.capacity.added_capacity.Statement.{statement}
 use Rattle.accounts.proofs.capacity.added_capacity.Tie as tie
 
 abbrev Inv-loop : tie.InvT-loop
-Inv-loop ours peer outputs n sum₀ i₀ sum i = Sums (cellAt peer) n i sum (total capacityOf (added (txAt ours) (txAt peer)))
+Inv-loop outputs first n sum₀ i₀ sum i = Sums (cellIn outputs []) n i sum (total capacityOf (cellsFrom outputs [] first))
 
 abbrev μ-loop : tie.MeasureT-loop
-μ-loop ours peer outputs n sum₀ i₀ sum i = n - i
+μ-loop outputs first n sum₀ i₀ sum i = n - i
 
 pub added-capacity-spec : {M : Type 1} → statement M
 added-capacity-spec =
@@ -19,10 +19,8 @@ added-capacity-spec =
     (tie.spec
     Inv-loop
     μ-loop
-    (λ c κs. search ways)  -- outputs-requires
     (λ c κs. search ways)  -- item-count-requires
     (λ c. search ways)  -- cast-n
-    (λ c κs. search ways)  -- added-peer-outputs-requires
     (λ c. search ways)  -- loop-holds
     (λ c κs. search ways)  -- item-requires
     (λ c κs. search ways)  -- capacity-requires

@@ -6,7 +6,6 @@ pub record-capacity-spec : {M : Type 1} → statement M
 record-capacity-spec =
     tie.close
     (tie.spec
-    (λ c κs. search ways)  -- item-requires
     (λ c κs. search ways)  -- record-output-requires
     (λ c κs. search ways)  -- capacity-requires
     (λ c. search ways))  -- returns

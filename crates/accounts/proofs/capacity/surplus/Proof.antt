@@ -6,8 +6,6 @@ pub surplus-spec : {M : Type 1} → statement M
 surplus-spec =
     tie.close
     (tie.spec
-    (λ c κs. search ways)  -- is-unfunded-requires
-    (λ c κs. search ways)  -- records-capacity-requires
     (λ c κs. search ways)  -- added-capacity-requires
     (λ c κs. search ways)  -- cover-requires
     (λ c. search ways))  -- returns

@@ -10,7 +10,7 @@ add-output-spec =
     (tie.spec
     (λ c κs. search ways)  -- item-requires
     (λ c κs. search ways)  -- type-script-requires
-    (λ c κs. search ways)  -- same-requires
+    (λ c κs. search ways)  -- same-script-requires
     (λ c. search (needs, item-other))  -- returns
     (λ c κs. search ways)  -- entry-requires
     (λ c κs. search ways)  -- add-amount-requires

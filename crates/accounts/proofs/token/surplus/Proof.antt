@@ -7,8 +7,7 @@ surplus-spec =
     tie.close
     (tie.spec
     (λ c. search ways)  -- returns
-    (λ c κs. search ways)  -- records-tokens-requires
-    (λ c. search ways)  -- enum-known-gained
+    (λ c. search ways)  -- enum-known-paid
     (λ c. search ways)  -- enum-told
     (λ c. search ways)  -- returns-2
     (λ c. search ways)  -- enum-told-2
