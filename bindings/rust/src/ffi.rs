@@ -196,28 +196,42 @@ mod c {
 }
 
 /// Calls a function of the archive, with a variable that is a slice of bytes, or one that is a buffer to write to, as its pointer and its length. Every argument
-/// is evaluated outside of the `unsafe` block, which has the call alone.
+/// is evaluated outside of the `unsafe` block, which has the call alone. Each slice stays borrowed until the call has returned, so that one that is written to
+/// can't be lent twice: `call!(f(buffer x, bytes x))` doesn't compile.
 macro_rules! call {
     ($name:ident ( $($arguments:tt)* )) => {
-        call!(@spread $name () $($arguments)*,)
+        call!(@spread $name () () $($arguments)*,)
     };
-    (@spread $name:ident ($($done:ident,)*) bytes $slice:ident, $($rest:tt)*) => {{
-        let (start, length) = ($slice.as_ptr(), $slice.len());
-        call!(@spread $name ($($done,)* start, length,) $($rest)*)
+    (@spread $name:ident ($($done:ident,)*) ($($lent:ident,)*) bytes $slice:ident, $($rest:tt)*) => {{
+        let lent: &[_] = &$slice[..];
+        let (start, length) = (lent.as_ptr(), lent.len());
+        call!(@spread $name ($($done,)* start, length,) ($($lent,)* lent,) $($rest)*)
     }};
-    (@spread $name:ident ($($done:ident,)*) buffer $slice:ident, $($rest:tt)*) => {{
-        let length = $slice.len();
-        let start = $slice.as_mut_ptr();
-        call!(@spread $name ($($done,)* start, length,) $($rest)*)
+    (@spread $name:ident ($($done:ident,)*) ($($lent:ident,)*) buffer $slice:ident, $($rest:tt)*) => {{
+        let lent: &mut [_] = &mut $slice[..];
+        let length = lent.len();
+        let start = lent.as_mut_ptr();
+        call!(@spread $name ($($done,)* start, length,) ($($lent,)* lent,) $($rest)*)
     }};
-    (@spread $name:ident ($($done:ident,)*) number $number:expr, $($rest:tt)*) => {{
+    (@spread $name:ident ($($done:ident,)*) ($($lent:ident,)*) number $number:expr, $($rest:tt)*) => {{
         let number = $number;
-        call!(@spread $name ($($done,)* number,) $($rest)*)
+        call!(@spread $name ($($done,)* number,) ($($lent,)*) $($rest)*)
     }};
-    // SAFETY: as the head of this module says: pointers with lengths of lent slices, and only `&mut` slices are written to.
-    (@spread $name:ident ($($done:ident,)*)) => {
-        unsafe { c::$name($($done),*) }
-    };
+    (@spread $name:ident ($($done:ident,)*) ($($lent:ident,)*)) => {{
+        // SAFETY: as the head of this module says: pointers with lengths of lent slices, and only `&mut` slices are written to.
+        let told = unsafe { c::$name($($done),*) };
+        // the borrows end here
+        let _ = ($($lent,)*);
+        told
+    }};
+}
+
+// lengths and counts cross as 64 bits
+const _: () = assert!(usize::BITS == 64);
+
+/// A count or length that the library tells.
+pub(crate) fn size(n: u64) -> usize {
+    usize::try_from(n).expect("usize has 64 bits, which is asserted where this is compiled")
 }
 
 /// The values of an answer of 0, or the refusal of its number.
