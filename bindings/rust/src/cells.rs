@@ -1,5 +1,5 @@
 //! Cells and the parts of a transaction (RFC 0019), as Rust values.
-use crate::molecule;
+use crate::{ffi, molecule};
 use std::fmt;
 
 /// Which output of which transaction: the name of a cell.
@@ -282,6 +282,6 @@ pub(crate) fn write_out_points(points: &[OutPoint]) -> Vec<u8> {
 /// The out points of a list at the start of a buffer.
 pub(crate) fn read_out_points(buffer: &[u8]) -> Vec<OutPoint> {
     let Some((count, rest)) = buffer.split_first_chunk::<4>() else { return Vec::new() };
-    let count = usize::try_from(u32::from_le_bytes(*count)).unwrap_or(usize::MAX);
+    let count = ffi::size(u32::from_le_bytes(*count).into());
     rest.chunks_exact(36).take(count).filter_map(OutPoint::from_bytes).collect()
 }
