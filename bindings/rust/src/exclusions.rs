@@ -8,7 +8,7 @@ const TRANSACTIONS: usize = 64;
 const OUT_POINTS: usize = 512;
 
 /// How many bytes the map has: a count of 4, 48 for each transaction, 36 for each out point.
-const EXCLUSIONS_BYTES: usize = 4 + 48 * TRANSACTIONS + 36 * OUT_POINTS;
+pub const EXCLUSIONS_BYTES: usize = 4 + 48 * TRANSACTIONS + 36 * OUT_POINTS;
 
 /// The cells that transactions of ours spend, by the hash of the transaction: at most 64 transactions and 512 out points. A transaction is pending until it
 /// is committed, and dropped 13 blocks after that.

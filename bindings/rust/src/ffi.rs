@@ -226,6 +226,9 @@ macro_rules! call {
     }};
 }
 
+/// How many words a call sets that has more to tell than a number.
+const VALUES: usize = 4;
+
 // lengths and counts cross as 64 bits
 const _: () = assert!(usize::BITS == 64);
 
@@ -238,7 +241,7 @@ pub(crate) fn size(n: u64) -> usize {
 ///
 /// # Panics
 /// On a number above 15: the archive is then of another version than this crate, which no lent bytes can bring about.
-pub(crate) fn answer(number: u32, values: [u64; 4]) -> Result<[u64; 4], Refusal> {
+pub(crate) fn answer(number: u32, values: [u64; VALUES]) -> Result<[u64; VALUES], Refusal> {
     if number == 0 {
         return Ok(values);
     }
@@ -263,7 +266,7 @@ pub(crate) fn unrefused<T>(answer: Result<T, Refusal>) -> T {
 
 /// The same as `answer` for a call without values.
 fn done(number: u32) -> Result<(), Refusal> {
-    answer(number, [0; 4]).map(|_| ())
+    answer(number, [0; VALUES]).map(|_| ())
 }
 
 pub(crate) fn is_transaction(s: &[u8]) -> bool {
@@ -290,8 +293,8 @@ pub(crate) fn update_for_peer(
     source: &[u8],
     rate: u64,
     records: &[u8],
-) -> Result<[u64; 4], Refusal> {
-    let mut values = [0; 4];
+) -> Result<[u64; VALUES], Refusal> {
+    let mut values = [0; VALUES];
     let number = call!(basinpantry_update_for_peer(
         bytes ours, bytes peer, bytes lock, bytes udt, bytes source, number rate, bytes records, buffer values
     ));
@@ -299,8 +302,8 @@ pub(crate) fn update_for_peer(
 }
 
 /// `figures` are local low, high, reserved, then remote low, high, reserved.
-pub(crate) fn build_funding_cell(ours: &[u8], udt: &[u8], figures: [u64; 6]) -> Result<[u64; 4], Refusal> {
-    let mut values = [0; 4];
+pub(crate) fn build_funding_cell(ours: &[u8], udt: &[u8], figures: [u64; 6]) -> Result<[u64; VALUES], Refusal> {
+    let mut values = [0; VALUES];
     let number = call!(basinpantry_build_funding_cell(
         bytes ours, bytes udt, number figures[0], number figures[1], number figures[2], number figures[3], number figures[4],
         number figures[5], buffer values
@@ -314,8 +317,8 @@ pub(crate) fn build_udt_inputs_outputs(
     source: &[u8],
     wanted: [u64; 2],
     out: &mut [u8],
-) -> Result<[u64; 4], Refusal> {
-    let mut values = [0; 4];
+) -> Result<[u64; VALUES], Refusal> {
+    let mut values = [0; VALUES];
     let number = call!(basinpantry_build_udt_inputs_outputs(
         bytes cells, bytes udt, bytes source, number wanted[0], number wanted[1], buffer out, buffer values
     ));
@@ -323,9 +326,9 @@ pub(crate) fn build_udt_inputs_outputs(
 }
 
 /// `lent` are ours, lock, udt, source, cells, the token's deps, the lock's dep and extra deps; `figures` as for `build_funding_cell`.
-pub(crate) fn build_base(lent: [&[u8]; 8], figures: [u64; 6], out: &mut [u8]) -> Result<[u64; 4], Refusal> {
+pub(crate) fn build_base(lent: [&[u8]; 8], figures: [u64; 6], out: &mut [u8]) -> Result<[u64; VALUES], Refusal> {
     let [ours, lock, udt, source, cells, udt_deps, lock_dep, extra_deps] = lent;
-    let mut values = [0; 4];
+    let mut values = [0; VALUES];
     let number = call!(basinpantry_build_base(
         bytes ours, bytes lock, bytes udt, bytes source, bytes cells, bytes udt_deps, bytes lock_dep, bytes extra_deps,
         number figures[0], number figures[1], number figures[2], number figures[3], number figures[4], number figures[5],
@@ -343,16 +346,16 @@ pub(crate) fn item_count(tx: &[u8], list: u32) -> u32 {
 }
 
 /// How many bytes item i has, which are written to the start of `out`.
-pub(crate) fn item(tx: &[u8], list: u32, i: usize, out: &mut [u8]) -> Result<[u64; 4], Refusal> {
-    let mut values = [0; 4];
+pub(crate) fn item(tx: &[u8], list: u32, i: usize, out: &mut [u8]) -> Result<[u64; VALUES], Refusal> {
+    let mut values = [0; VALUES];
     let number = call!(basinpantry_item(bytes tx, number list, number i, buffer out, buffer values));
     answer(number, values)
 }
 
 /// `lists` are the cell deps, header deps, inputs, outputs, outputs data and witnesses.
-pub(crate) fn write_transaction(version: u32, lists: [&[u8]; 6], out: &mut [u8]) -> Result<[u64; 4], Refusal> {
+pub(crate) fn write_transaction(version: u32, lists: [&[u8]; 6], out: &mut [u8]) -> Result<[u64; VALUES], Refusal> {
     let [cell_deps, header_deps, inputs, outputs, outputs_data, witnesses] = lists;
-    let mut values = [0; 4];
+    let mut values = [0; VALUES];
     let number = call!(basinpantry_write_transaction(
         number version, bytes cell_deps, bytes header_deps, bytes inputs, bytes outputs, bytes outputs_data, bytes witnesses,
         buffer out, buffer values
@@ -360,14 +363,14 @@ pub(crate) fn write_transaction(version: u32, lists: [&[u8]; 6], out: &mut [u8])
     answer(number, values)
 }
 
-pub(crate) fn rewrite(tx: &[u8], out: &mut [u8]) -> Result<[u64; 4], Refusal> {
-    let mut values = [0; 4];
+pub(crate) fn rewrite(tx: &[u8], out: &mut [u8]) -> Result<[u64; VALUES], Refusal> {
+    let mut values = [0; VALUES];
     let number = call!(basinpantry_rewrite(bytes tx, buffer out, buffer values));
     answer(number, values)
 }
 
-pub(crate) fn replay(start: &[u8], lock: &[u8], udt: &[u8], updates: &[u8], answers: &mut [u64]) -> Result<[u64; 4], Refusal> {
-    let mut values = [0; 4];
+pub(crate) fn replay(start: &[u8], lock: &[u8], udt: &[u8], updates: &[u8], answers: &mut [u64]) -> Result<[u64; VALUES], Refusal> {
+    let mut values = [0; VALUES];
     let number = call!(basinpantry_replay(bytes start, bytes lock, bytes udt, bytes updates, buffer answers, buffer values));
     answer(number, values)
 }

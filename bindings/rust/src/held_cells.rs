@@ -3,8 +3,11 @@ use crate::cells::{OutPoint, read_out_points, write_out_points};
 use crate::ffi;
 use crate::refusal::Refusal;
 
+/// How many hold records a table has room for.
+const PLACES: usize = 256;
+
 /// How many bytes the table of holds has: a count of 4, and 256 places of 48.
-const HELD_BYTES: usize = 12_292;
+pub const HELD_BYTES: usize = 4 + 48 * PLACES;
 
 /// Room for a list of so many out points.
 fn room(points: usize) -> Vec<u8> {
@@ -155,7 +158,7 @@ impl HeldCells {
     /// ```
     pub fn lock_held(&mut self, time: u64) -> Vec<OutPoint> {
         // the table has its length, and there is room for every record
-        let mut out = room(256);
+        let mut out = room(PLACES);
         ffi::unrefused(ffi::lock_held(&mut self.table, time, &mut out));
         read_out_points(&out)
     }
