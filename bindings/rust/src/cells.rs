@@ -279,9 +279,16 @@ pub(crate) fn write_out_points(points: &[OutPoint]) -> Vec<u8> {
     molecule::fixvec(points.iter().map(OutPoint::to_bytes))
 }
 
+/// The count that a table or a list of sized items begins with.
+///
+/// # Panics
+/// On fewer than four bytes, which no table and no buffer for a list has.
+pub(crate) fn count_of(s: &[u8]) -> usize {
+    let count = s.first_chunk().expect("a table and a buffer for a list have four bytes for the count");
+    ffi::size(u32::from_le_bytes(*count).into())
+}
+
 /// The out points of a list at the start of a buffer.
 pub(crate) fn read_out_points(buffer: &[u8]) -> Vec<OutPoint> {
-    let Some((count, rest)) = buffer.split_first_chunk::<4>() else { return Vec::new() };
-    let count = ffi::size(u32::from_le_bytes(*count).into());
-    rest.chunks_exact(36).take(count).filter_map(OutPoint::from_bytes).collect()
+    buffer[4..].chunks_exact(36).take(count_of(buffer)).filter_map(OutPoint::from_bytes).collect()
 }

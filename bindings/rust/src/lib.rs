@@ -40,11 +40,11 @@ mod update;
 
 pub use case_file::{CaseError, CaseFile, CaseRecord, MAX_CASE_BYTES, check_case};
 pub use cells::{CellDep, CellInput, CellOutput, OutPoint, ResolvedCell, Script, write_records};
-pub use exclusions::{EXCLUSIONS_BYTES, LiveCellsExclusionMap};
+pub use exclusions::{EXCLUSIONS_BYTES, LiveCellsExclusion, LiveCellsExclusionMap};
 pub use funding::{
     BaseRequest, FundingCell, FundingRequest, TokenCell, TokenPick, build_base, build_funding_cell, build_udt_inputs_outputs,
 };
-pub use held_cells::{HELD_BYTES, HeldCells, Taken, Taker};
+pub use held_cells::{HELD_BYTES, HeldCells, Hold, Owner, Taken, Taker};
 pub use refusal::Refusal;
 pub use replay::{Replay, replay};
 pub use total::Total;
