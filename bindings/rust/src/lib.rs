@@ -39,7 +39,7 @@ mod transaction;
 mod update;
 
 pub use case_file::{CaseError, CaseFile, CaseRecord, MAX_CASE_BYTES, check_case};
-pub use cells::{CellDep, CellInput, CellOutput, OutPoint, ResolvedCell, Script, write_records};
+pub use cells::{CellDep, CellInput, CellOutput, OutPoint, ParseOutPointError, ResolvedCell, Script, write_records};
 pub use exclusions::{EXCLUSIONS_BYTES, LiveCellsExclusion, LiveCellsExclusionMap};
 pub use funding::{
     BaseRequest, FundingCell, FundingRequest, TokenCell, TokenPick, build_base, build_funding_cell, build_udt_inputs_outputs,
@@ -47,7 +47,7 @@ pub use funding::{
 pub use held_cells::{HELD_BYTES, HeldCells, Hold, Owner, Taken, Taker};
 pub use refusal::Refusal;
 pub use replay::{Replay, replay};
-pub use total::Total;
+pub use total::{Total, TotalTooWide};
 pub use transaction::{
     List, MAX_TRANSACTION_BYTES, Transaction, is_out_points, is_records, is_script, is_transaction, item, item_count, rewrite, version,
     write_transaction,

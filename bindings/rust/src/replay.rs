@@ -19,9 +19,9 @@ pub struct Replay {
     pub answers: Vec<Result<Accepted, Refusal>>,
     /// Which update's transaction is then in force; none: the one at the start, if there was one.
     pub in_force: Option<usize>,
-    /// The sum of the capacity surpluses, in shannons.
+    /// The sum of the capacity surpluses, in shannons, added here in plain Rust.
     pub capacity: Total,
-    /// The sum of the token surpluses.
+    /// The sum of the token surpluses, likewise.
     pub token: Total,
 }
 

@@ -268,7 +268,7 @@ fn what_stands_in_a_table() {
     map.remove(&[2; 32]);
     assert_ne!(map.as_bytes(), LiveCellsExclusionMap::new().as_bytes());
     assert_eq!(map, LiveCellsExclusionMap::new());
-    assert!(map.is_empty() && map.len() == 0);
+    assert!(map.is_empty());
 }
 
 /// Numbers that look random and are the same in each run.
