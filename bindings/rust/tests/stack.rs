@@ -63,14 +63,43 @@ fn call_exclusions() {
     assert!(map.apply().is_empty());
 }
 
-fn call_other_holds() {
+/// A table that the watchtower or a funding has filled.
+fn full(fill: impl FnOnce(&mut HeldCells)) -> HeldCells {
     let mut held = HeldCells::new();
-    held.hold_for_watchtower(&points(256), 0).expect("room");
+    fill(&mut held);
+    assert_eq!(held.len(), 256);
+    held
+}
+
+fn call_hold_funding() {
+    full(|held| held.hold_funding(1, &points(256)).expect("room"));
+}
+
+fn call_hold_for_watchtower() {
+    full(|held| held.hold_for_watchtower(&points(256), 0).expect("room"));
+}
+
+/// A table without a record: the call has its whole frame all the same.
+fn call_release_for_watchtower() {
+    HeldCells::new().release_for_watchtower(&points(256)).expect("a table");
+}
+
+fn call_lock_held() {
+    assert!(HeldCells::new().lock_held(0).is_empty());
+}
+
+fn call_unavailable() {
+    assert_eq!(HeldCells::new().unavailable(&points(256), &points(256), 5).expect("a table").len(), 256);
+}
+
+/// The same three on full tables.
+fn call_on_full_tables() {
+    let mut held = full(|held| held.hold_for_watchtower(&points(256), 0).expect("room"));
     held.hold_for_watchtower(&points(256), 1).expect("room");
     assert_eq!(held.unavailable(&points(256), &points(256), 5).expect("a table").len(), 256);
-    held.release_for_watchtower(&points(256)).expect("a table");
-    held.hold_funding(1, &points(256)).expect("room");
     assert_eq!(held.lock_held(0).len(), 256);
+    held.release_for_watchtower(&points(256)).expect("a table");
+    assert!(held.is_empty());
 }
 
 fn call_updates() {
@@ -83,6 +112,22 @@ fn call_updates() {
     assert_eq!(rewrite(&tx), Ok(tx.clone()));
 }
 
+type Call = (&'static str, fn());
+
+/// The calls that have frames of many pages, and those that have not.
+const LARGE: [Call; 9] = [
+    ("check_case", call_check_case),
+    ("take", call_take),
+    ("build_base", call_build_base),
+    ("hold_funding", call_hold_funding),
+    ("hold_for_watchtower", call_hold_for_watchtower),
+    ("release_for_watchtower", call_release_for_watchtower),
+    ("lock_held", call_lock_held),
+    ("unavailable", call_unavailable),
+    ("full tables", call_on_full_tables),
+];
+const SMALL: [Call; 2] = [("exclusions", call_exclusions), ("updates", call_updates)];
+
 #[test]
 fn half_a_megabyte_is_enough() {
     with_stack(HALF_A_MEGABYTE, || {
@@ -90,7 +135,7 @@ fn half_a_megabyte_is_enough() {
             assert_eq!(check_case(&bytes), line, "{path:?}");
         }
     });
-    for call in [call_check_case, call_take, call_build_base, call_exclusions, call_other_holds, call_updates] {
+    for (_, call) in LARGE.into_iter().chain(SMALL) {
         with_stack(HALF_A_MEGABYTE, call);
     }
 }
@@ -112,15 +157,7 @@ mod too_little {
     fn child() {
         let Ok(call) = std::env::var(CALL) else { return };
         let stack = std::env::var(STACK).expect("a size").parse().expect("a number");
-        let call = match call.as_str() {
-            "check_case" => call_check_case,
-            "take" => call_take,
-            "build_base" => call_build_base,
-            "exclusions" => call_exclusions,
-            "other holds" => call_other_holds,
-            "updates" => call_updates,
-            other => panic!("{other}"),
-        };
+        let (_, call) = LARGE.into_iter().chain(SMALL).find(|(name, _)| *name == call).expect("a call of this name");
         // a thread of this size does start, and has room for what the test itself needs
         with_stack(stack, || drop(std::hint::black_box((points(3_587), spending(512), cases()))));
         println!("started");
@@ -148,19 +185,18 @@ mod too_little {
     /// `check_case` needs more than 160 KB, and no other call does.
     #[test]
     fn the_largest_call() {
-        for call in ["take", "build_base", "exclusions", "other holds", "updates"] {
-            assert!(returns(call, 160 * 1024), "{call}");
+        for (call, _) in LARGE.into_iter().chain(SMALL) {
+            assert_eq!(returns(call, 160 * 1024), call != "check_case", "{call}");
         }
-        assert!(!returns("check_case", 160 * 1024));
         assert!(returns("check_case", 256 * 1024));
     }
 
     #[test]
     fn the_guard_page_is_met() {
-        for call in ["check_case", "take", "build_base", "other holds"] {
+        for (call, _) in LARGE {
             assert!(!returns(call, 40 * 1024), "{call}");
         }
-        for call in ["exclusions", "updates"] {
+        for (call, _) in SMALL {
             assert!(returns(call, 40 * 1024), "{call}");
         }
     }
