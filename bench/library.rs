@@ -1,5 +1,5 @@
 // What the benchmarks call: functions of the C interface (bindings/c/basinpantry.h), with slices for pointers and lengths. Each reads and writes only the
-// slices that it is lent, and no two that are lent as `&mut` overlap.
+// slices that it is lent, and no two that are lent as `&mut` overlap. bindings/rust/tests/header.rs compares the declarations with the header.
 #![allow(dead_code, clippy::too_many_arguments)]
 
 type In = *const u8;

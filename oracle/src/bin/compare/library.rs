@@ -1,4 +1,5 @@
-//! The library through its C interface (bindings/c/basinpantry.h), with slices for pointers and lengths.
+//! The library through its C interface (bindings/c/basinpantry.h), with slices for pointers and lengths. bindings/rust/tests/header.rs compares the declarations
+//! with the header.
 #![allow(clippy::too_many_arguments)]
 use crate::faults;
 use crate::report::{Outcome, Source};
