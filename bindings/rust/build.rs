@@ -12,6 +12,8 @@ fn main() {
             println!("cargo:rerun-if-changed={}", folder.join(ARCHIVE).display());
             println!("cargo:rustc-link-search=native={}", folder.display());
             println!("cargo:rustc-link-lib=static=capi");
+            // for tests/c_example.rs
+            println!("cargo:rustc-env=BASINPANTRY_ARCHIVE={}", folder.join(ARCHIVE).display());
         }
         Err(why) => {
             eprintln!("{why}");
