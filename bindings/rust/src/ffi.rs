@@ -16,6 +16,7 @@
 use crate::refusal::Refusal;
 
 mod c {
+    // SAFETY: the archive has these functions with these types: tests/header.rs compares both with the header, and the header with the library.
     unsafe extern "C" {
         pub fn basinpantry_is_transaction(s: *const u8, s_len: usize) -> bool;
         pub fn basinpantry_is_script(s: *const u8, s_len: usize) -> bool;

@@ -13,7 +13,7 @@
 //!
 //! Where an item says "Refused", the numbers are those of [`Refusal`], in the order in which they are looked for: where several apply, the first is the answer.
 //!
-//! A call needs up to half a megabyte of stack.
+//! A thread that calls needs half a megabyte of stack; those of the standard library have more unless they are asked for less.
 //!
 //! ```
 //! use basinpantry::{PeerUpdate, Refusal, Script, update_for_peer, write_records};

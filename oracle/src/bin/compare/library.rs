@@ -11,7 +11,7 @@ macro_rules! interface {
         pub const FUNCTIONS: &[(&str, &[(&str, &str)])] = &[$((stringify!($symbol), &[$((stringify!($arg), stringify!($kind))),*])),*];
         $(pub fn $name($($arg: interface!(@slice $kind)),*) -> $out {
             interface!(@declare $symbol [] [$($arg: $kind,)*] $out);
-            // The function reads and writes only what it is lent.
+            // SAFETY: the function reads and writes only what it is lent, and nothing that is written to is lent twice.
             let told = interface!(@call $symbol [] [$($arg: $kind,)*]);
             $(interface!(@fault $symbol $arg $kind);)*
             faults::answer(stringify!($symbol), told)

@@ -151,7 +151,7 @@ fn contribution(case: &CaseFile, ours: &Transaction, peer: &Transaction, cells: 
         (5, format!("it puts in {gained} shannons, {short} below the growth of output 0 and the outputs that it added"))
     })?;
     if ours.inputs.is_empty() && ours.outputs.is_empty() {
-        let size = u64::try_from(case.peer.len() + 4).unwrap_or(u64::MAX);
+        let size = u64::try_from(case.peer.len() + 4).expect("a length has 64 bits at most");
         let required = case.rate.saturating_mul(size) / 1000;
         check(8, left >= Total::from(u128::from(required)), || "the fee".to_string())?;
     }
