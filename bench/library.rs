@@ -1,5 +1,7 @@
-// What the benchmarks call: functions of the C interface (bindings/c/basinpantry.h), with slices for pointers and lengths. Each reads and writes only the
-// slices that it is lent, and no two that are lent as `&mut` overlap.
+// What the benchmarks call: functions of the C interface (bindings/c/basinpantry.h), with slices for pointers and lengths.
+//
+// SAFETY, of every block here: each function reads and writes only the slices that it is lent, no two that are lent as `&mut` overlap, and the declarations are
+// those of the header, with which bindings/rust/tests/header.rs compares them.
 #![allow(dead_code, clippy::too_many_arguments)]
 
 type In = *const u8;

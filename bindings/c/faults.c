@@ -1,8 +1,8 @@
 /* Calls every function of the C interface with random, damaged and cut bytes, and looks for faults: see bindings/c/faults.
 
-   Each lent slice ends right before a page that may not be touched, or starts right after one, so that a read or write outside it stops the program. After
-   each call what must not have changed is compared with a copy: all that is lent after a refusal, what is lent to be read always, and of a buffer the
-   bytes behind those that were written. */
+   Each lent slice, of bytes or of words, ends right before a page that may not be touched, or starts right after one, so that a read or write outside it stops
+   the program. After each call what must not have changed is compared with a copy: after a refusal all that is lent but the first four values, what is lent to
+   be read always, and of a buffer what is behind the bytes or words that were written. */
 #define _GNU_SOURCE
 #include <signal.h>
 #include <stdio.h>
@@ -52,10 +52,13 @@ struct slice {
     size_t len;
 };
 
+/* What is lent to be read, a buffer to write to, or the words that a refusal sets too. */
+enum use { READ, BUFFER, VALUES };
+
 static uint8_t *slot[SLOTS];
 static uint8_t copies[SLOTS][ROOM];
 static struct slice lent[SLOTS];
-static bool is_buffer[SLOTS];
+static enum use uses[SLOTS];
 static int used;
 static bool plain;
 
@@ -70,16 +73,31 @@ static void make_slots(void) {
     }
 }
 
-/* Lends a copy of these bytes. With `plain` they are a block of their own, for valgrind to watch. */
-static struct slice lend(const uint8_t *bytes, size_t len, bool buffer) {
+/* Room for so many bytes. With `plain` it is a block of its own, for valgrind to watch. */
+static struct slice make_room(size_t len, enum use use) {
     int i = used++;
     if (i >= SLOTS || len > ROOM) fail("the driver lends too much");
     uint8_t *at = plain ? malloc(len == 0 ? 1 : len) : one_in(4) ? slot[i] : slot[i] + ROOM - len;
-    memcpy(at, bytes, len);
-    memcpy(copies[i], bytes, len);
     lent[i] = (struct slice){at, len};
-    is_buffer[i] = buffer;
+    uses[i] = use;
     return lent[i];
+}
+
+/* Lends a copy of these bytes. */
+static struct slice lend(const uint8_t *bytes, size_t len, bool buffer) {
+    struct slice s = make_room(len, buffer ? BUFFER : READ);
+    memcpy(s.at, bytes, len);
+    memcpy(copies[used - 1], bytes, len);
+    return s;
+}
+
+/* Lends so many random words; pages and blocks begin and end where a word may. */
+static uint64_t *lend_words(size_t n, enum use use) {
+    struct slice s = make_room(8 * n, use);
+    uint64_t *words = (uint64_t *)s.at;
+    for (size_t i = 0; i < n; i++) words[i] = next();
+    memcpy(copies[used - 1], s.at, s.len);
+    return words;
 }
 
 static void give_back(void) {
@@ -87,10 +105,11 @@ static void give_back(void) {
     used = 0;
 }
 
-/* Nothing that is lent to be read has changed, and no buffer beyond its first `kept[i]` bytes. */
+/* Nothing that is lent to be read has changed, no buffer beyond its first `written[i]` bytes, and of the values only the first four, where there are four. */
 static void see(bool refused, const size_t *written) {
     for (int i = 0; i < used; i++) {
-        size_t from = !is_buffer[i] || refused ? 0 : written == NULL ? lent[i].len : written[i];
+        size_t set = lent[i].len < 8 * BASINPANTRY_VALUES ? 0 : 8 * BASINPANTRY_VALUES;
+        size_t from = uses[i] == VALUES ? set : uses[i] == READ || refused ? 0 : written[i];
         if (from < lent[i].len && memcmp(lent[i].at + from, copies[i] + from, lent[i].len - from) != 0) fail("lent bytes have changed");
     }
 }
@@ -474,21 +493,31 @@ static struct slice buffer(size_t most) {
 
 /* ---- one call */
 
-static uint64_t values[5 * 64 + 4];
-static uint64_t values_before[5 * 64 + 4];
+static uint64_t *values;
 
+/* Lends words for the values, now and then too few, and answers how many. */
 static size_t value_room(void) {
-    for (size_t i = 0; i < 8; i++) values[i] = next();
-    memcpy(values_before, values, sizeof values);
-    return one_in(16) ? below(4) : 4 + below(3);
+    size_t room = one_in(16) ? below(BASINPANTRY_VALUES) : BASINPANTRY_VALUES + below(3);
+    values = lend_words(room, VALUES);
+    return room;
 }
 
-/* The numbers that a call may answer, one bit each. */
+/* The numbers that a call may answer, one bit each; which words are set is for `see` to look at, and here what a refusal sets them to. */
 static void answered(uint32_t r, uint32_t allowed, size_t room) {
     if (r > 15 || (allowed >> r & 1) == 0) fail("an answer that the header does not name");
-    if (room < 4 && r != 13) fail("fewer than four words, and not 13");
-    size_t set = room < 4 ? 0 : 4;
-    if (memcmp(values + set, values_before + set, sizeof values - 8 * set) != 0) fail("words behind the fourth have changed");
+    if (room < BASINPANTRY_VALUES && r != 13) fail("fewer than four words, and not 13");
+    if (r == 0 || room < BASINPANTRY_VALUES) return;
+    size_t carried = r == BASINPANTRY_PEER_FUNDING_FEE_TOO_LOW ? 4 : r == BASINPANTRY_PEER_INPUT_USES_OUR_FUNDING_LOCK ? 1 : 0;
+    for (size_t i = carried; i < BASINPANTRY_VALUES; i++)
+        if (values[i] != 0) fail("a word that the refusal does not carry is not 0");
+}
+
+/* How many bytes a list of out points has that was written to the start of a buffer. */
+static size_t list_bytes(struct slice s) {
+    uint32_t n;
+    memcpy(&n, s.at, 4);
+    if (n > (s.len - 4) / BASINPANTRY_OUT_POINT_BYTES) fail("a list that is longer than its buffer");
+    return 4 + (size_t)n * BASINPANTRY_OUT_POINT_BYTES;
 }
 
 #define BITS(...) bits((const int[]){__VA_ARGS__, -1})
@@ -506,7 +535,6 @@ static unsigned long long counts[CALLS], accepted[CALLS];
 static void call(size_t which) {
     uint32_t r = 0;
     size_t written[SLOTS] = {0};
-    size_t *w = written;
     switch (which) {
     case 0:
     case 1:
@@ -538,7 +566,7 @@ static void call(size_t which) {
         r = basinpantry_item(S(t), list, one_in(8) ? (size_t)next() : below(n < 8 ? n + 2 : 8), S(out), values, room);
         answered(r, BITS(1, 3, 13), room);
         if (r == 0 && values[0] > out.len) fail("more bytes than the buffer has");
-        written[1] = (size_t)values[0];
+        if (r == 0) written[1] = (size_t)values[0];
         break;
     }
     case 6: {
@@ -547,7 +575,7 @@ static void call(size_t which) {
         r = basinpantry_rewrite(S(t), S(out), values, room);
         answered(r, BITS(1, 13), room);
         if (r == 0 && (values[0] != t.len || memcmp(out.at, t.at, t.len) != 0)) fail("what is written again differs");
-        written[1] = (size_t)values[0];
+        if (r == 0) written[1] = (size_t)values[0];
         break;
     }
     case 7: {
@@ -557,13 +585,13 @@ static void call(size_t which) {
         r = basinpantry_write_transaction((uint32_t)next(), S(d), S(h), S(i), S(o), S(a), S(x), S(out), values, room);
         answered(r, BITS(3, 13), room);
         if (r == 0 && !basinpantry_is_transaction(out.at, (size_t)values[0])) fail("what is written is no transaction");
-        written[6] = (size_t)values[0];
+        if (r == 0) written[6] = (size_t)values[0];
         break;
     }
     case 8: {
         struct slice f = one_in(4) ? some(CASE, false) : fitting(FILE_OF_CASE), line = buffer(120);
         size_t n = basinpantry_check_case(S(f), S(line));
-        if (n > 105 || (line.len < 105) != (n == 0)) fail("a line of another length");
+        if (n > BASINPANTRY_LINE_BYTES || (line.len < BASINPANTRY_LINE_BYTES) != (n == 0)) fail("a line of another length");
         written[1] = n;
         break;
     }
@@ -571,10 +599,21 @@ static void call(size_t which) {
         bool fits = !one_in(4);
         struct slice t = fits ? fitting(OURS) : some(TRANSACTION, false), l = fits ? fitting(LOCK) : some(SCRIPT, false), u = fits ? fitting(TYPE) : some(SCRIPT, false),
                      up = fits ? fitting(LIST) : some(UPDATES, false);
-        size_t room = value_room();
-        static uint64_t answers[5 * 64];
-        r = basinpantry_replay(S(t), S(l), S(u), S(up), answers, one_in(4) ? below(20) : 5 * 64, values, room);
+        size_t words = one_in(4) ? below(20) : BASINPANTRY_ANSWER_WORDS * 64;
+        uint64_t *answers = lend_words(words, BUFFER);
+        size_t room = value_room(), taken = 0;
+        r = basinpantry_replay(S(t), S(l), S(u), S(up), answers, words, values, room);
         answered(r, BITS(3, 13), room);
+        if (r != 0) break;
+        if (values[0] > words / BASINPANTRY_ANSWER_WORDS) fail("more answers than there is room for");
+        for (size_t k = 0; k < values[0]; k++) {
+            uint64_t number = answers[BASINPANTRY_ANSWER_WORDS * k];
+            if (number > BASINPANTRY_PEER_FUNDING_FEE_TOO_LOW) fail("an answer that the header does not name");
+            taken += number == 0;
+        }
+        bool in_force = values[2] == 0 || (values[2] <= values[0] && answers[BASINPANTRY_ANSWER_WORDS * (values[2] - 1)] == 0);
+        if (taken != values[1] || !in_force || (values[2] == 0) != (taken == 0)) fail("what is accepted and what is in force differ");
+        written[4] = 8 * BASINPANTRY_ANSWER_WORDS * (size_t)values[0];
         break;
     }
     case 10: {
@@ -590,7 +629,8 @@ static void call(size_t which) {
         size_t room = value_room();
         r = basinpantry_build_udt_inputs_outputs(S(c), S(u), S(s), next() >> below(64), one_in(4) ? next() : 0, S(out), values, room);
         answered(r, BITS(3, 9, 10, 12, 13), room);
-        w = NULL;
+        /* the change output, where there is change */
+        if (r == 0 && values[3] != 0) written[3] = 24 + s.len + u.len;
         break;
     }
     case 12:
@@ -602,7 +642,7 @@ static void call(size_t which) {
                                    values, room);
         answered(r, BITS(1, 3, 7, 9, 10, 11, 12, 13), room);
         if (r == 0 && !basinpantry_is_transaction(out.at, (size_t)values[0])) fail("a base that is no transaction");
-        written[8] = (size_t)values[0];
+        if (r == 0) written[8] = (size_t)values[0];
         break;
     }
     default: {
@@ -634,10 +674,14 @@ static void call(size_t which) {
         uint32_t first = (which == 20 || which == 23) && x.len != 0 && !basinpantry_is_transaction(S(x)) ? 1 : 3;
         if (first == 1 && r != 1) fail("a transaction that can't be read, and not 1");
         if (t.len != (holds ? BASINPANTRY_HELD_BYTES : BASINPANTRY_EXCLUSIONS_BYTES) && r != first) fail("a table of another length, and not 3");
-        w = NULL;
+        if (r != 0) break;
+        bool reads = which == 18 || which == 25;
+        written[0] = reads ? 0 : t.len;
+        if (reads || which == 17 || which == 19) written[5] = list_bytes(o);
+        if (which == 19) written[6] = list_bytes(q);
     }
     }
-    see(r != 0 || which == 4, w);
+    see(r != 0 || which == 4, written);
     counts[which]++;
     accepted[which] += r == 0;
 }

@@ -1,5 +1,5 @@
 //! Case files: an update with everything that decides it.
-use crate::cells::record;
+use crate::cells::{ResolvedCell, record};
 use crate::ffi;
 use crate::molecule;
 use crate::refusal::Refusal;
@@ -24,6 +24,20 @@ pub struct CaseRecord {
     pub output: Vec<u8>,
     /// The data.
     pub data: Vec<u8>,
+}
+
+/// A readable cell as the record that a case file has.
+///
+/// ```
+/// use basinpantry::{CaseRecord, ResolvedCell};
+///
+/// let cell = ResolvedCell { data: vec![7], ..ResolvedCell::default() };
+/// assert_eq!(CaseRecord::from(cell.clone()), CaseRecord { output: cell.output.to_bytes(), data: vec![7] });
+/// ```
+impl From<ResolvedCell> for CaseRecord {
+    fn from(cell: ResolvedCell) -> CaseRecord {
+        CaseRecord { output: cell.output.to_bytes(), data: cell.data }
+    }
 }
 
 /// What a case file holds. The parts are any bytes: whether they are transactions and scripts is judged.
@@ -79,18 +93,31 @@ impl fmt::Display for CaseError {
 
 impl std::error::Error for CaseError {}
 
+/// The kinds of items, in the order of the file.
+mod kind {
+    pub const OURS: u32 = 1;
+    pub const PEER: u32 = 2;
+    pub const LOCK: u32 = 3;
+    pub const UDT: u32 = 4;
+    pub const SOURCE: u32 = 5;
+    pub const RATE: u32 = 6;
+    pub const OUTPUT: u32 = 7;
+    pub const DATA: u32 = 8;
+    pub const NOT_LIVE: u32 = 9;
+}
+
 /// What stands in an item of a kind.
 fn kind_name(kind: u32) -> &'static str {
     match kind {
-        1 => "our transaction",
-        2 => "the peer's transaction",
-        3 => "the expected funding lock",
-        4 => "the expected token type",
-        5 => "our source lock",
-        6 => "the fee rate",
-        7 => "the output of a cell",
-        8 => "the data of a cell",
-        9 => "a cell that is not live",
+        kind::OURS => "our transaction",
+        kind::PEER => "the peer's transaction",
+        kind::LOCK => "the expected funding lock",
+        kind::UDT => "the expected token type",
+        kind::SOURCE => "our source lock",
+        kind::RATE => "the fee rate",
+        kind::OUTPUT => "the output of a cell",
+        kind::DATA => "the data of a cell",
+        kind::NOT_LIVE => "a cell that is not live",
         _ => "no kind of item",
     }
 }
@@ -179,24 +206,24 @@ impl CaseFile {
     /// ```
     pub fn from_bytes(file: &[u8]) -> Result<CaseFile, CaseError> {
         let mut items = Items { file, at: 0 };
-        let ours = items.filled(1)?;
-        let peer = items.required(2)?.to_vec();
-        let lock = items.required(3)?.to_vec();
-        let udt = items.filled(4)?;
-        let source = items.required(5)?.to_vec();
+        let ours = items.filled(kind::OURS)?;
+        let peer = items.required(kind::PEER)?.to_vec();
+        let lock = items.required(kind::LOCK)?.to_vec();
+        let udt = items.filled(kind::UDT)?;
+        let source = items.required(kind::SOURCE)?.to_vec();
         let at = items.at;
-        let Ok(rate) = items.required(6)?.try_into() else { return items.fail(at, "the fee rate is 8 bytes") };
+        let Ok(rate) = items.required(kind::RATE)?.try_into() else { return items.fail(at, "the fee rate is 8 bytes") };
         let mut records = Vec::new();
         while items.at < file.len() {
             let at = items.at;
-            if let Some(body) = items.optional(9)? {
+            if let Some(body) = items.optional(kind::NOT_LIVE)? {
                 if !body.is_empty() {
                     return items.fail(at, "a cell that is not live has no bytes");
                 }
                 records.push(None);
             } else {
-                let output = items.required(7)?.to_vec();
-                let data = items.required(8)?.to_vec();
+                let output = items.required(kind::OUTPUT)?.to_vec();
+                let data = items.required(kind::DATA)?.to_vec();
                 records.push(Some(CaseRecord { output, data }));
             }
         }
@@ -228,19 +255,19 @@ impl CaseFile {
             }
         }
         let mut out = Vec::new();
-        put_filled(&mut out, 1, &self.ours)?;
-        put(&mut out, 2, &self.peer)?;
-        put(&mut out, 3, &self.lock)?;
-        put_filled(&mut out, 4, &self.udt)?;
-        put(&mut out, 5, &self.source)?;
-        put(&mut out, 6, &self.rate.to_le_bytes())?;
+        put_filled(&mut out, kind::OURS, &self.ours)?;
+        put(&mut out, kind::PEER, &self.peer)?;
+        put(&mut out, kind::LOCK, &self.lock)?;
+        put_filled(&mut out, kind::UDT, &self.udt)?;
+        put(&mut out, kind::SOURCE, &self.source)?;
+        put(&mut out, kind::RATE, &self.rate.to_le_bytes())?;
         for record in &self.records {
             match record {
                 Some(record) => {
-                    put(&mut out, 7, &record.output)?;
-                    put(&mut out, 8, &record.data)?;
+                    put(&mut out, kind::OUTPUT, &record.output)?;
+                    put(&mut out, kind::DATA, &record.data)?;
                 }
-                None => put(&mut out, 9, &[])?,
+                None => put(&mut out, kind::NOT_LIVE, &[])?,
             }
         }
         Some(out)

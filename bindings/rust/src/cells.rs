@@ -1,5 +1,5 @@
 //! Cells and the parts of a transaction (RFC 0019), as Rust values.
-use crate::molecule;
+use crate::{ffi, molecule};
 use std::fmt;
 
 /// Which output of which transaction: the name of a cell.
@@ -9,6 +9,7 @@ use std::fmt;
 ///
 /// let point = OutPoint { tx_hash: [0xab; 32], index: 3 };
 /// assert_eq!(point.to_string(), format!("0x{}:3", "ab".repeat(32)));
+/// assert_eq!(point.to_string().parse(), Ok(point));
 /// assert_eq!(OutPoint::from_bytes(&point.to_bytes()), Some(point));
 /// ```
 #[derive(Clone, Copy, Debug, Default, PartialEq, Eq, PartialOrd, Ord, Hash)]
@@ -52,6 +53,45 @@ impl fmt::Display for OutPoint {
             write!(f, "{b:02x}")?;
         }
         write!(f, ":{}", self.index)
+    }
+}
+
+/// A text that is no out point.
+///
+/// ```
+/// let why = "0x12:3".parse::<basinpantry::OutPoint>().unwrap_err();
+/// assert_eq!(why.to_string(), "an out point is 0x, 64 hex digits, a colon and an index below 2^32");
+/// ```
+#[derive(Clone, Copy, Debug, PartialEq, Eq, Hash)]
+#[non_exhaustive]
+pub struct ParseOutPointError;
+
+impl fmt::Display for ParseOutPointError {
+    fn fmt(&self, f: &mut fmt::Formatter<'_>) -> fmt::Result {
+        f.write_str("an out point is 0x, 64 hex digits, a colon and an index below 2^32")
+    }
+}
+
+impl std::error::Error for ParseOutPointError {}
+
+/// What `Display` writes, read back; capital hex digits are read too.
+impl std::str::FromStr for OutPoint {
+    type Err = ParseOutPointError;
+
+    fn from_str(s: &str) -> Result<OutPoint, ParseOutPointError> {
+        let read = || {
+            let (digits, index) = s.strip_prefix("0x")?.split_once(':')?;
+            if digits.len() != 64 || !index.bytes().all(|b| b.is_ascii_digit()) {
+                return None;
+            }
+            let mut tx_hash = [0; 32];
+            for (byte, pair) in tx_hash.iter_mut().zip(digits.as_bytes().chunks_exact(2)) {
+                let digit = |b: u8| char::from(b).to_digit(16);
+                *byte = u8::try_from(digit(pair[0])? << 4 | digit(pair[1])?).ok()?;
+            }
+            Some(OutPoint { tx_hash, index: index.parse().ok()? })
+        };
+        read().ok_or(ParseOutPointError)
     }
 }
 
@@ -145,7 +185,7 @@ impl CellOutput {
 /// let input = CellInput { since: 7, ..CellInput::default() };
 /// assert_eq!(CellInput::from_bytes(&input.to_bytes()), Some(input));
 /// ```
-#[derive(Clone, Copy, Debug, Default, PartialEq, Eq, Hash)]
+#[derive(Clone, Copy, Debug, Default, PartialEq, Eq, PartialOrd, Ord, Hash)]
 pub struct CellInput {
     /// Since when it may be spent (RFC 0017).
     pub since: u64,
@@ -186,7 +226,7 @@ impl CellInput {
 /// let dep = CellDep { dep_type: 1, ..CellDep::default() };
 /// assert_eq!(CellDep::from_bytes(&dep.to_bytes()), Some(dep));
 /// ```
-#[derive(Clone, Copy, Debug, Default, PartialEq, Eq, Hash)]
+#[derive(Clone, Copy, Debug, Default, PartialEq, Eq, PartialOrd, Ord, Hash)]
 pub struct CellDep {
     /// The cell.
     pub out_point: OutPoint,
@@ -257,10 +297,12 @@ pub(crate) fn amount_of(data: &[u8]) -> Option<u128> {
 /// ```
 /// assert_eq!(basinpantry::write_records(&[]), [4, 0, 0, 0]);
 /// assert_eq!(basinpantry::write_records(&[None]), [8, 0, 0, 0, 8, 0, 0, 0]);
+/// let live = std::collections::BTreeMap::from([(7, None)]);
+/// assert_eq!(basinpantry::write_records(live.values()), [8, 0, 0, 0, 8, 0, 0, 0]);
 /// ```
-pub fn write_records(cells: &[Option<ResolvedCell>]) -> Vec<u8> {
+pub fn write_records<'a>(cells: impl IntoIterator<Item = &'a Option<ResolvedCell>>) -> Vec<u8> {
     let items: Vec<Vec<u8>> = cells
-        .iter()
+        .into_iter()
         .map(|cell| match cell {
             Some(cell) => record(&cell.output.to_bytes(), &cell.data),
             None => Vec::new(),
@@ -279,9 +321,51 @@ pub(crate) fn write_out_points(points: &[OutPoint]) -> Vec<u8> {
     molecule::fixvec(points.iter().map(OutPoint::to_bytes))
 }
 
+/// The count that a table or a list of sized items begins with.
+///
+/// # Panics
+/// On fewer than four bytes, which no table and no buffer for a list has.
+pub(crate) fn count_of(s: &[u8]) -> usize {
+    let count = s.first_chunk().expect("a table and a buffer for a list have four bytes for the count");
+    ffi::size(u32::from_le_bytes(*count).into())
+}
+
 /// The out points of a list at the start of a buffer.
 pub(crate) fn read_out_points(buffer: &[u8]) -> Vec<OutPoint> {
-    let Some((count, rest)) = buffer.split_first_chunk::<4>() else { return Vec::new() };
-    let count = usize::try_from(u32::from_le_bytes(*count)).unwrap_or(usize::MAX);
-    rest.chunks_exact(36).take(count).filter_map(OutPoint::from_bytes).collect()
+    buffer[4..].chunks_exact(36).take(count_of(buffer)).filter_map(OutPoint::from_bytes).collect()
+}
+
+#[cfg(test)]
+mod tests {
+    use super::{OutPoint, ParseOutPointError};
+
+    #[test]
+    fn out_points_as_text() {
+        let mut tx_hash = [0; 32];
+        for (i, byte) in tx_hash.iter_mut().enumerate() {
+            *byte = (i as u8).wrapping_mul(37);
+        }
+        for index in [0, 9, 10, u32::MAX] {
+            let point = OutPoint { tx_hash, index };
+            assert_eq!(point.to_string().parse(), Ok(point));
+            assert_eq!(point.to_string().replace('a', "A").parse(), Ok(point));
+        }
+        let hash = "0a".repeat(32);
+        for text in [
+            String::new(),
+            "0x:0".to_string(),
+            format!("{hash}:0"),
+            format!("0x{hash}"),
+            format!("0x{hash}:"),
+            format!("0x{hash}:+1"),
+            format!("0x{hash}:1 "),
+            format!("0x{hash}:4294967296"),
+            format!("0x{}:0", &hash[1..]),
+            format!("0x0{hash}:0"),
+            format!("0x{}g:0", &hash[1..]),
+            format!("0x{}é:0", &hash[2..]),
+        ] {
+            assert_eq!(text.parse::<OutPoint>(), Err(ParseOutPointError), "{text}");
+        }
+    }
 }

@@ -1,5 +1,5 @@
 //! Cells that transactions of ours spend, and that are not to be collected for others.
-use crate::cells::{OutPoint, read_out_points};
+use crate::cells::{OutPoint, count_of, read_out_points};
 use crate::refusal::Refusal;
 use crate::{ffi, molecule};
 
@@ -8,12 +8,34 @@ const TRANSACTIONS: usize = 64;
 const OUT_POINTS: usize = 512;
 
 /// How many bytes the map has: a count of 4, 48 for each transaction, 36 for each out point.
-const EXCLUSIONS_BYTES: usize = 4 + 48 * TRANSACTIONS + 36 * OUT_POINTS;
+pub const EXCLUSIONS_BYTES: usize = 4 + 48 * TRANSACTIONS + 36 * OUT_POINTS;
+
+/// An entry of the exclusion map: a transaction of ours.
+///
+/// ```
+/// use basinpantry::{LiveCellsExclusion, LiveCellsExclusionMap, Transaction};
+///
+/// let mut map = LiveCellsExclusionMap::new();
+/// map.add(&[9; 32], Some(&Transaction::default().to_bytes())).unwrap();
+/// map.commit(&[9; 32], 100);
+/// assert!(map.entries().eq([LiveCellsExclusion { tx_hash: [9; 32], committed_block_number: Some(100), input_out_points: vec![] }]));
+/// ```
+#[derive(Clone, Debug, PartialEq, Eq, Hash)]
+pub struct LiveCellsExclusion {
+    /// The hash of the transaction.
+    pub tx_hash: [u8; 32],
+    /// The block that it was committed in; none while it is pending.
+    pub committed_block_number: Option<u64>,
+    /// The cells that it spends.
+    pub input_out_points: Vec<OutPoint>,
+}
 
 /// The cells that transactions of ours spend, by the hash of the transaction: at most 64 transactions and 512 out points. A transaction is pending until it
 /// is committed, and dropped 13 blocks after that.
 ///
 /// A refused call leaves the map as it was. Only calls that enter a transaction are ever refused.
+///
+/// Two maps are equal where the same entries stand in them in the same order; bytes behind the last entry mean nothing.
 ///
 /// ```
 /// use basinpantry::{CellInput, LiveCellsExclusionMap, OutPoint, Transaction};
@@ -28,7 +50,7 @@ const EXCLUSIONS_BYTES: usize = 4 + 48 * TRANSACTIONS + 36 * OUT_POINTS;
 /// map.truncate(113);
 /// assert!(map.apply().is_empty());
 /// ```
-#[derive(Clone, PartialEq, Eq)]
+#[derive(Clone)]
 pub struct LiveCellsExclusionMap {
     table: Box<[u8]>,
 }
@@ -66,6 +88,52 @@ impl LiveCellsExclusionMap {
     /// ```
     pub fn as_bytes(&self) -> &[u8] {
         &self.table
+    }
+
+    /// The entries that stand in the map, in their order. Nothing changes. They are read from the map's bytes in plain Rust.
+    ///
+    /// ```
+    /// use basinpantry::{LiveCellsExclusionMap, Transaction};
+    ///
+    /// let mut map = LiveCellsExclusionMap::new();
+    /// map.add(&[9; 32], Some(&Transaction::default().to_bytes())).unwrap();
+    /// assert!(map.entries().map(|entry| entry.tx_hash).eq([[9; 32]]));
+    /// ```
+    pub fn entries(&self) -> impl ExactSizeIterator<Item = LiveCellsExclusion> + '_ {
+        let mut rest = &self.table[4..];
+        let mut next = move |n: usize| {
+            let (part, behind) = rest.split_at(n);
+            rest = behind;
+            part
+        };
+        // what is kept was read by the library as a map, so that each part is there
+        (0..self.len()).map(move |_| {
+            let tx_hash = next(32).try_into().expect("32 bytes");
+            let is_committed = next(4) != [0; 4];
+            let block = u64::from_le_bytes(next(8).try_into().expect("8 bytes"));
+            let count = count_of(next(4));
+            let points = next(36 * count).chunks_exact(36);
+            let input_out_points = points.map(|s| OutPoint::from_bytes(s).expect("36 bytes are an out point")).collect();
+            LiveCellsExclusion { tx_hash, committed_block_number: is_committed.then_some(block), input_out_points }
+        })
+    }
+
+    /// How many transactions are entered.
+    ///
+    /// ```
+    /// assert_eq!(basinpantry::LiveCellsExclusionMap::new().len(), 0);
+    /// ```
+    pub fn len(&self) -> usize {
+        count_of(&self.table)
+    }
+
+    /// Whether no transaction is entered.
+    ///
+    /// ```
+    /// assert!(basinpantry::LiveCellsExclusionMap::new().is_empty());
+    /// ```
+    pub fn is_empty(&self) -> bool {
+        self.len() == 0
     }
 
     /// Enters the inputs of a transaction under its hash, in place of what was entered under it. No transaction enters nothing. Refused: 1 (the
@@ -144,11 +212,15 @@ impl LiveCellsExclusionMap {
         ffi::unrefused(ffi::exclusions_truncate(&mut self.table, tip));
     }
 
-    /// The out points of all entries, in their order. Never refused.
+    /// The out points of all entries, in their order: the cells that are not to be collected. Nothing changes. Never refused.
+    ///
+    /// The name is the original's, where the map is applied to a cell collector, so that it doesn't collect these cells.
     ///
     /// ```
     /// assert!(basinpantry::LiveCellsExclusionMap::default().apply().is_empty());
     /// ```
+    #[doc(alias = "excluded")]
+    #[doc(alias = "out_points")]
     pub fn apply(&self) -> Vec<OutPoint> {
         ffi::unrefused(self.listed())
     }
@@ -167,8 +239,17 @@ impl Default for LiveCellsExclusionMap {
     }
 }
 
+impl PartialEq for LiveCellsExclusionMap {
+    fn eq(&self, other: &LiveCellsExclusionMap) -> bool {
+        self.entries().eq(other.entries())
+    }
+}
+
+impl Eq for LiveCellsExclusionMap {}
+
 impl std::fmt::Debug for LiveCellsExclusionMap {
     fn fmt(&self, f: &mut std::fmt::Formatter<'_>) -> std::fmt::Result {
-        f.debug_struct("LiveCellsExclusionMap").field("bytes", &self.table.len()).finish_non_exhaustive()
+        f.write_str("LiveCellsExclusionMap ")?;
+        f.debug_list().entries(self.entries()).finish()
     }
 }

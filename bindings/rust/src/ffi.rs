@@ -6,15 +6,17 @@
 //! - what a call writes to is a `&mut` slice, which overlaps nothing else that is lent to the call, and any bytes or words written are valid;
 //! - the functions keep no pointer, have no state of their own, call nothing back and don't unwind; it is proved of them that on any content they
 //!   return, and read and write nothing outside the lent slices;
-//! - the stack is enough: a call needs half a megabyte at most (bench/tables and bench/base measure the largest calls, tests/stack.rs makes some in a thread of
-//!   that size), and a thread of the standard library has two unless another size is asked for. With less a call ends the process and writes nowhere else: the
-//!   archive touches its frames page by page, so that it meets the guard page below the stack;
+//! - the stack is enough: half a megabyte is asked for, and a thread of the standard library has two unless another size is asked for. Of the calls that were
+//!   measured the largest used 165 KB (`check_case`) and 129 KB (`take`); tests/stack.rs makes them all with half a megabyte, and sees that these two need
+//!   the most. With too little a call ends the process: the archive touches a frame of many pages page by page, so that it meets the guard page below the
+//!   stack, which tests/stack.rs sees of each call that has such a frame;
 //! - the types are those of the header (tests/header.rs compares them): `size_t` is `usize`, `bool` is `bool`, and a call answers 0 or 1 for one.
 //!
 //! No length has to be any particular one for that: a table of another length is refused (3), and so is a buffer that is too short (13).
 use crate::refusal::Refusal;
 
 mod c {
+    // SAFETY: the archive has these functions with these types: tests/header.rs compares both with the header, and the header with the library.
     unsafe extern "C" {
         pub fn basinpantry_is_transaction(s: *const u8, s_len: usize) -> bool;
         pub fn basinpantry_is_script(s: *const u8, s_len: usize) -> bool;
@@ -196,35 +198,52 @@ mod c {
 }
 
 /// Calls a function of the archive, with a variable that is a slice of bytes, or one that is a buffer to write to, as its pointer and its length. Every argument
-/// is evaluated outside of the `unsafe` block, which has the call alone.
+/// is evaluated outside of the `unsafe` block, which has the call alone. Each slice stays borrowed until the call has returned, so that one that is written to
+/// can't be lent twice: `call!(f(buffer x, bytes x))` doesn't compile.
 macro_rules! call {
     ($name:ident ( $($arguments:tt)* )) => {
-        call!(@spread $name () $($arguments)*,)
+        call!(@spread $name () () $($arguments)*,)
     };
-    (@spread $name:ident ($($done:ident,)*) bytes $slice:ident, $($rest:tt)*) => {{
-        let (start, length) = ($slice.as_ptr(), $slice.len());
-        call!(@spread $name ($($done,)* start, length,) $($rest)*)
+    (@spread $name:ident ($($done:ident,)*) ($($lent:ident,)*) bytes $slice:ident, $($rest:tt)*) => {{
+        let lent: &[_] = &$slice[..];
+        let (start, length) = (lent.as_ptr(), lent.len());
+        call!(@spread $name ($($done,)* start, length,) ($($lent,)* lent,) $($rest)*)
     }};
-    (@spread $name:ident ($($done:ident,)*) buffer $slice:ident, $($rest:tt)*) => {{
-        let length = $slice.len();
-        let start = $slice.as_mut_ptr();
-        call!(@spread $name ($($done,)* start, length,) $($rest)*)
+    (@spread $name:ident ($($done:ident,)*) ($($lent:ident,)*) buffer $slice:ident, $($rest:tt)*) => {{
+        let lent: &mut [_] = &mut $slice[..];
+        let length = lent.len();
+        let start = lent.as_mut_ptr();
+        call!(@spread $name ($($done,)* start, length,) ($($lent,)* lent,) $($rest)*)
     }};
-    (@spread $name:ident ($($done:ident,)*) number $number:expr, $($rest:tt)*) => {{
+    (@spread $name:ident ($($done:ident,)*) ($($lent:ident,)*) number $number:expr, $($rest:tt)*) => {{
         let number = $number;
-        call!(@spread $name ($($done,)* number,) $($rest)*)
+        call!(@spread $name ($($done,)* number,) ($($lent,)*) $($rest)*)
     }};
-    // SAFETY: as the head of this module says: pointers with lengths of lent slices, and only `&mut` slices are written to.
-    (@spread $name:ident ($($done:ident,)*)) => {
-        unsafe { c::$name($($done),*) }
-    };
+    (@spread $name:ident ($($done:ident,)*) ($($lent:ident,)*)) => {{
+        // SAFETY: as the head of this module says: pointers with lengths of lent slices, and only `&mut` slices are written to.
+        let told = unsafe { c::$name($($done),*) };
+        // the borrows end here
+        let _ = ($($lent,)*);
+        told
+    }};
+}
+
+/// How many words a call sets that has more to tell than a number.
+const VALUES: usize = 4;
+
+// lengths and counts cross as 64 bits
+const _: () = assert!(usize::BITS == 64);
+
+/// A count or length that the library tells.
+pub(crate) fn size(n: u64) -> usize {
+    usize::try_from(n).expect("usize has 64 bits, which is asserted where this is compiled")
 }
 
 /// The values of an answer of 0, or the refusal of its number.
 ///
 /// # Panics
 /// On a number above 15: the archive is then of another version than this crate, which no lent bytes can bring about.
-pub(crate) fn answer(number: u32, values: [u64; 4]) -> Result<[u64; 4], Refusal> {
+pub(crate) fn answer(number: u32, values: [u64; VALUES]) -> Result<[u64; VALUES], Refusal> {
     if number == 0 {
         return Ok(values);
     }
@@ -249,7 +268,7 @@ pub(crate) fn unrefused<T>(answer: Result<T, Refusal>) -> T {
 
 /// The same as `answer` for a call without values.
 fn done(number: u32) -> Result<(), Refusal> {
-    answer(number, [0; 4]).map(|_| ())
+    answer(number, [0; VALUES]).map(|_| ())
 }
 
 pub(crate) fn is_transaction(s: &[u8]) -> bool {
@@ -276,8 +295,8 @@ pub(crate) fn update_for_peer(
     source: &[u8],
     rate: u64,
     records: &[u8],
-) -> Result<[u64; 4], Refusal> {
-    let mut values = [0; 4];
+) -> Result<[u64; VALUES], Refusal> {
+    let mut values = [0; VALUES];
     let number = call!(basinpantry_update_for_peer(
         bytes ours, bytes peer, bytes lock, bytes udt, bytes source, number rate, bytes records, buffer values
     ));
@@ -285,8 +304,8 @@ pub(crate) fn update_for_peer(
 }
 
 /// `figures` are local low, high, reserved, then remote low, high, reserved.
-pub(crate) fn build_funding_cell(ours: &[u8], udt: &[u8], figures: [u64; 6]) -> Result<[u64; 4], Refusal> {
-    let mut values = [0; 4];
+pub(crate) fn build_funding_cell(ours: &[u8], udt: &[u8], figures: [u64; 6]) -> Result<[u64; VALUES], Refusal> {
+    let mut values = [0; VALUES];
     let number = call!(basinpantry_build_funding_cell(
         bytes ours, bytes udt, number figures[0], number figures[1], number figures[2], number figures[3], number figures[4],
         number figures[5], buffer values
@@ -300,8 +319,8 @@ pub(crate) fn build_udt_inputs_outputs(
     source: &[u8],
     wanted: [u64; 2],
     out: &mut [u8],
-) -> Result<[u64; 4], Refusal> {
-    let mut values = [0; 4];
+) -> Result<[u64; VALUES], Refusal> {
+    let mut values = [0; VALUES];
     let number = call!(basinpantry_build_udt_inputs_outputs(
         bytes cells, bytes udt, bytes source, number wanted[0], number wanted[1], buffer out, buffer values
     ));
@@ -309,9 +328,9 @@ pub(crate) fn build_udt_inputs_outputs(
 }
 
 /// `lent` are ours, lock, udt, source, cells, the token's deps, the lock's dep and extra deps; `figures` as for `build_funding_cell`.
-pub(crate) fn build_base(lent: [&[u8]; 8], figures: [u64; 6], out: &mut [u8]) -> Result<[u64; 4], Refusal> {
+pub(crate) fn build_base(lent: [&[u8]; 8], figures: [u64; 6], out: &mut [u8]) -> Result<[u64; VALUES], Refusal> {
     let [ours, lock, udt, source, cells, udt_deps, lock_dep, extra_deps] = lent;
-    let mut values = [0; 4];
+    let mut values = [0; VALUES];
     let number = call!(basinpantry_build_base(
         bytes ours, bytes lock, bytes udt, bytes source, bytes cells, bytes udt_deps, bytes lock_dep, bytes extra_deps,
         number figures[0], number figures[1], number figures[2], number figures[3], number figures[4], number figures[5],
@@ -329,16 +348,16 @@ pub(crate) fn item_count(tx: &[u8], list: u32) -> u32 {
 }
 
 /// How many bytes item i has, which are written to the start of `out`.
-pub(crate) fn item(tx: &[u8], list: u32, i: usize, out: &mut [u8]) -> Result<[u64; 4], Refusal> {
-    let mut values = [0; 4];
+pub(crate) fn item(tx: &[u8], list: u32, i: usize, out: &mut [u8]) -> Result<[u64; VALUES], Refusal> {
+    let mut values = [0; VALUES];
     let number = call!(basinpantry_item(bytes tx, number list, number i, buffer out, buffer values));
     answer(number, values)
 }
 
 /// `lists` are the cell deps, header deps, inputs, outputs, outputs data and witnesses.
-pub(crate) fn write_transaction(version: u32, lists: [&[u8]; 6], out: &mut [u8]) -> Result<[u64; 4], Refusal> {
+pub(crate) fn write_transaction(version: u32, lists: [&[u8]; 6], out: &mut [u8]) -> Result<[u64; VALUES], Refusal> {
     let [cell_deps, header_deps, inputs, outputs, outputs_data, witnesses] = lists;
-    let mut values = [0; 4];
+    let mut values = [0; VALUES];
     let number = call!(basinpantry_write_transaction(
         number version, bytes cell_deps, bytes header_deps, bytes inputs, bytes outputs, bytes outputs_data, bytes witnesses,
         buffer out, buffer values
@@ -346,14 +365,14 @@ pub(crate) fn write_transaction(version: u32, lists: [&[u8]; 6], out: &mut [u8])
     answer(number, values)
 }
 
-pub(crate) fn rewrite(tx: &[u8], out: &mut [u8]) -> Result<[u64; 4], Refusal> {
-    let mut values = [0; 4];
+pub(crate) fn rewrite(tx: &[u8], out: &mut [u8]) -> Result<[u64; VALUES], Refusal> {
+    let mut values = [0; VALUES];
     let number = call!(basinpantry_rewrite(bytes tx, buffer out, buffer values));
     answer(number, values)
 }
 
-pub(crate) fn replay(start: &[u8], lock: &[u8], udt: &[u8], updates: &[u8], answers: &mut [u64]) -> Result<[u64; 4], Refusal> {
-    let mut values = [0; 4];
+pub(crate) fn replay(start: &[u8], lock: &[u8], udt: &[u8], updates: &[u8], answers: &mut [u64]) -> Result<[u64; VALUES], Refusal> {
+    let mut values = [0; VALUES];
     let number = call!(basinpantry_replay(bytes start, bytes lock, bytes udt, bytes updates, buffer answers, buffer values));
     answer(number, values)
 }

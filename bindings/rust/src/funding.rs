@@ -131,8 +131,9 @@ pub fn build_udt_inputs_outputs(cells: &[TokenCell], udt: Option<&[u8]>, source:
     let [taken, change_low, change_high, _] =
         ffi::build_udt_inputs_outputs(&write_token_cells(cells), udt, source, halves(wanted), &mut out)?;
     let change = whole(change_low, change_high);
-    let change_output = if change == 0 { None } else { CellOutput::from_bytes(&out) };
-    Ok(TokenPick { taken: usize::try_from(taken).unwrap_or(usize::MAX), change, change_output })
+    // where there is change the library fills the buffer, which is as long as the output
+    let change_output = (change > 0).then(|| CellOutput::from_bytes(&out).expect("the library writes an output where there is change"));
+    Ok(TokenPick { taken: ffi::size(taken), change, change_output })
 }
 
 /// What a base transaction is built from; the default has none of it.
@@ -186,6 +187,6 @@ pub fn build_base(base: &BaseRequest) -> Result<Vec<u8>, Refusal> {
     let (ours, udt) = (molecule::option(base.ours), molecule::option(base.udt));
     let lent = [ours, base.lock, udt, base.source, &cells, &udt_deps, &lock_dep, &extra_deps];
     let [size, ..] = ffi::build_base(lent, base.request.figures(), &mut out)?;
-    out.truncate(usize::try_from(size).unwrap_or(usize::MAX));
+    out.truncate(ffi::size(size));
     Ok(out)
 }

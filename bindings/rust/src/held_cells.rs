@@ -1,10 +1,16 @@
 //! Cells of ours that are held for a funding or for the watchtower.
-use crate::cells::{OutPoint, read_out_points, write_out_points};
+use crate::cells::{OutPoint, count_of, read_out_points, write_out_points};
 use crate::ffi;
 use crate::refusal::Refusal;
 
+/// How many hold records a table has room for.
+const PLACES: usize = 256;
+
+/// How many bytes a record has: an out point (36), a kind (4) and a number (8).
+const RECORD_BYTES: usize = 48;
+
 /// How many bytes the table of holds has: a count of 4, and 256 places of 48.
-const HELD_BYTES: usize = 12_292;
+pub const HELD_BYTES: usize = 4 + RECORD_BYTES * PLACES;
 
 /// Room for a list of so many out points.
 fn room(points: usize) -> Vec<u8> {
@@ -22,6 +28,51 @@ pub enum Taker {
     Watchtower,
     /// The funding of this holder, until it is released. Holders are the caller's numbers.
     Funding(u64),
+}
+
+/// For whom a cell is held.
+///
+/// ```
+/// assert_ne!(basinpantry::Owner::Funding(5), basinpantry::Owner::Watchtower { end: 5 });
+/// ```
+#[derive(Clone, Copy, Debug, PartialEq, Eq, Hash)]
+pub enum Owner {
+    /// For the funding of this holder.
+    Funding(u64),
+    /// For the watchtower.
+    Watchtower {
+        /// The time, in milliseconds, from which on the cell is free.
+        end: u64,
+    },
+}
+
+/// A hold record.
+///
+/// ```
+/// use basinpantry::{HeldCells, Hold, OutPoint, Owner};
+///
+/// let mut held = HeldCells::new();
+/// held.hold_for_watchtower(&[OutPoint::default()], 1_000).unwrap();
+/// let hold = Hold { out_point: OutPoint::default(), owner: Owner::Watchtower { end: 1_801_000 } };
+/// assert!(held.records().eq([hold]));
+/// ```
+#[derive(Clone, Copy, Debug, PartialEq, Eq, Hash)]
+pub struct Hold {
+    /// The cell.
+    pub out_point: OutPoint,
+    /// For whom it is held.
+    pub owner: Owner,
+}
+
+impl Hold {
+    /// The record of 48 bytes: kind 0 is a funding, any other the watchtower.
+    fn from_bytes(s: &[u8]) -> Hold {
+        let (out_point, rest) = s.split_at(36);
+        let (kind, number) = rest.split_at(4);
+        let number = u64::from_le_bytes(number.try_into().expect("8 bytes are left of 48"));
+        let owner = if kind == [0; 4] { Owner::Funding(number) } else { Owner::Watchtower { end: number } };
+        Hold { out_point: OutPoint::from_bytes(out_point).expect("36 bytes are an out point"), owner }
+    }
 }
 
 /// What a `take` gives: each pick, in pick order, is in one of the two.
@@ -44,6 +95,8 @@ pub struct Taken {
 ///
 /// A list of 2^32 bytes or more is not read: each call that takes a list refuses one of 119,304,647 out points or more with 3.
 ///
+/// Two tables are equal where the same records stand in them in the same order; bytes behind the last record mean nothing.
+///
 /// ```
 /// use basinpantry::{HeldCells, OutPoint, Taken, Taker};
 ///
@@ -54,7 +107,7 @@ pub struct Taken {
 /// assert_eq!(taken, Taken { taken: vec![a, b], refused: vec![a] });
 /// assert_eq!(held.unavailable(&[a, b], &[], 1_000_000).unwrap(), [a, b]);
 /// ```
-#[derive(Clone, PartialEq, Eq)]
+#[derive(Clone)]
 pub struct HeldCells {
     table: Box<[u8]>,
 }
@@ -88,6 +141,39 @@ impl HeldCells {
     /// ```
     pub fn as_bytes(&self) -> &[u8] {
         &self.table
+    }
+
+    /// The records that stand in the table, in their order; watchtower records that have ended are among them until a call drops them. Nothing changes. They are
+    /// read from the table's bytes in plain Rust.
+    ///
+    /// ```
+    /// use basinpantry::{HeldCells, OutPoint, Owner};
+    ///
+    /// let mut held = HeldCells::new();
+    /// held.hold_funding(7, &[OutPoint::default()]).unwrap();
+    /// assert!(held.records().map(|hold| hold.owner).eq([Owner::Funding(7)]));
+    /// ```
+    pub fn records(&self) -> impl ExactSizeIterator<Item = Hold> + '_ {
+        self.table[4..].chunks_exact(RECORD_BYTES).take(self.len()).map(Hold::from_bytes)
+    }
+
+    /// How many records stand in the table, the ended ones too.
+    ///
+    /// ```
+    /// assert_eq!(basinpantry::HeldCells::new().len(), 0);
+    /// ```
+    pub fn len(&self) -> usize {
+        // a count above the places counts as all of them
+        count_of(&self.table).min(PLACES)
+    }
+
+    /// Whether no record stands in it.
+    ///
+    /// ```
+    /// assert!(basinpantry::HeldCells::new().is_empty());
+    /// ```
+    pub fn is_empty(&self) -> bool {
+        self.len() == 0
     }
 
     /// The funding inputs that a holder holds now, in place of the ones that it held before: an empty list releases the holder's cells. Refused: 3 (too
@@ -142,8 +228,10 @@ impl HeldCells {
         ffi::release_for_watchtower(&mut self.table, &write_out_points(cells))
     }
 
-    /// The out points of every cell that is held at this time, in the order of the records; watchtower records that have ended are dropped. Never
-    /// refused.
+    /// The out points of every cell that is held at this time, in the order of the records. Watchtower records that have ended are dropped from the table, which
+    /// is why it is lent as `&mut`; [`records`](HeldCells::records) only looks. Never refused.
+    ///
+    /// No lock is taken: the name is the original's, where the cells that are held are locked in a cell collector, so that it doesn't collect them.
     ///
     /// ```
     /// use basinpantry::{HeldCells, OutPoint};
@@ -153,9 +241,10 @@ impl HeldCells {
     /// assert_eq!(held.lock_held(1_799_999), [OutPoint::default()]);
     /// assert!(held.lock_held(1_800_000).is_empty());
     /// ```
+    #[doc(alias = "held")]
     pub fn lock_held(&mut self, time: u64) -> Vec<OutPoint> {
         // the table has its length, and there is room for every record
-        let mut out = room(256);
+        let mut out = room(PLACES);
         ffi::unrefused(ffi::lock_held(&mut self.table, time, &mut out));
         read_out_points(&out)
     }
@@ -204,8 +293,17 @@ impl Default for HeldCells {
     }
 }
 
+impl PartialEq for HeldCells {
+    fn eq(&self, other: &HeldCells) -> bool {
+        self.records().eq(other.records())
+    }
+}
+
+impl Eq for HeldCells {}
+
 impl std::fmt::Debug for HeldCells {
     fn fmt(&self, f: &mut std::fmt::Formatter<'_>) -> std::fmt::Result {
-        f.debug_struct("HeldCells").field("bytes", &self.table.len()).finish_non_exhaustive()
+        f.write_str("HeldCells ")?;
+        f.debug_list().entries(self.records()).finish()
     }
 }

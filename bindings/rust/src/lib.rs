@@ -13,7 +13,7 @@
 //!
 //! Where an item says "Refused", the numbers are those of [`Refusal`], in the order in which they are looked for: where several apply, the first is the answer.
 //!
-//! A call needs up to half a megabyte of stack.
+//! A thread that calls needs half a megabyte of stack; those of the standard library have more unless they are asked for less.
 //!
 //! ```
 //! use basinpantry::{PeerUpdate, Refusal, Script, update_for_peer, write_records};
@@ -39,15 +39,15 @@ mod transaction;
 mod update;
 
 pub use case_file::{CaseError, CaseFile, CaseRecord, MAX_CASE_BYTES, check_case};
-pub use cells::{CellDep, CellInput, CellOutput, OutPoint, ResolvedCell, Script, write_records};
-pub use exclusions::LiveCellsExclusionMap;
+pub use cells::{CellDep, CellInput, CellOutput, OutPoint, ParseOutPointError, ResolvedCell, Script, write_records};
+pub use exclusions::{EXCLUSIONS_BYTES, LiveCellsExclusion, LiveCellsExclusionMap};
 pub use funding::{
     BaseRequest, FundingCell, FundingRequest, TokenCell, TokenPick, build_base, build_funding_cell, build_udt_inputs_outputs,
 };
-pub use held_cells::{HeldCells, Taken, Taker};
+pub use held_cells::{HELD_BYTES, HeldCells, Hold, Owner, Taken, Taker};
 pub use refusal::Refusal;
 pub use replay::{Replay, replay};
-pub use total::Total;
+pub use total::{Total, TotalTooWide};
 pub use transaction::{
     List, MAX_TRANSACTION_BYTES, Transaction, is_out_points, is_records, is_script, is_transaction, item, item_count, rewrite, version,
     write_transaction,

@@ -16,13 +16,16 @@ use std::fmt;
 ///     "the fee is too low: 204 shannons are paid and 205 are required, at a rate of 1000 shannons per 1000 bytes and a size of 205 bytes"
 /// );
 /// ```
+///
+/// More numbers may come, so a `match` on it needs an arm for the rest.
 #[derive(Clone, Copy, Debug, PartialEq, Eq, Hash)]
+#[non_exhaustive]
 pub enum Refusal {
     /// 1: our own transaction's bytes are no transaction.
     OurTransactionUnreadable,
     /// 2: the peer's bytes are no transaction.
     PeerTransactionUnreadable,
-    /// 3: a lent script, list, record, hash or table is unreadable, or the records are not one for each added input.
+    /// 3: a lent script, list, record, hash or table is unreadable, the records are not one for each added input, or there is no such list or item.
     LentBytesUnreadable,
     /// 4: the peer's transaction is over the size limit, or adds too many inputs, outputs or cell deps.
     PeerFundingTxExceedsLimit,
@@ -35,7 +38,7 @@ pub enum Refusal {
     },
     /// 7: a figure, or a sum of figures, is too wide.
     OverflowError,
-    /// 8: the fee of the opening transaction is too low.
+    /// 8: the fee is too low.
     PeerFundingFeeTooLow {
         /// The fee that is paid, in shannons.
         peer_fee: u64,
@@ -123,6 +126,36 @@ impl Refusal {
         }
     }
 
+    /// Its sentence, which the header for C has too.
+    ///
+    /// ```
+    /// assert_eq!(basinpantry::Refusal::TooManyHolds.sentence(), "the call would leave more than 256 hold records");
+    /// ```
+    pub fn sentence(&self) -> &'static str {
+        match self {
+            Refusal::OurTransactionUnreadable => "our own transaction's bytes are no transaction",
+            Refusal::PeerTransactionUnreadable => "the peer's bytes are no transaction",
+            Refusal::LentBytesUnreadable => {
+                "a lent script, list, record, hash or table is unreadable, the records are not one for each added input, \
+                 or there is no such list or item"
+            }
+            Refusal::PeerFundingTxExceedsLimit => {
+                "the peer's transaction is over the size limit, or adds too many inputs, outputs or cell deps"
+            }
+            Refusal::InvalidPeerFundingTx => "the peer's funding transaction is invalid",
+            Refusal::PeerInputUsesOurFundingLock { .. } => "an input that the peer added spends a cell under our own source lock",
+            Refusal::OverflowError => "a figure, or a sum of figures, is too wide",
+            Refusal::PeerFundingFeeTooLow { .. } => "the fee is too low",
+            Refusal::InsufficientCells => "the token cells ended before their total reached the wanted amount",
+            Refusal::TokenTotalOverflow => "the total of the picked token cells is 2^128 or more",
+            Refusal::MissingCellDep => "tokens were picked, and the token's cell deps or the lock's were not supplied",
+            Refusal::TokenCellDataTooShort => "a token cell's data is under 16 bytes",
+            Refusal::BufferTooShort => "the result is over the lent buffer, or over 133,116 bytes",
+            Refusal::TooManyHolds => "the call would leave more than 256 hold records",
+            Refusal::TooManyExclusions => "the call would leave more than 64 excluded transactions or 512 out points",
+        }
+    }
+
     /// The values that it carries, in the order of the verdict line.
     ///
     /// ```
@@ -143,33 +176,17 @@ impl Refusal {
 }
 
 impl fmt::Display for Refusal {
+    /// Its sentence, and the values that it carries.
     fn fmt(&self, f: &mut fmt::Formatter<'_>) -> fmt::Result {
+        f.write_str(self.sentence())?;
         match self {
-            Refusal::OurTransactionUnreadable => f.write_str("our own transaction's bytes are no transaction"),
-            Refusal::PeerTransactionUnreadable => f.write_str("the peer's bytes are no transaction"),
-            Refusal::LentBytesUnreadable => {
-                f.write_str("a lent script, list, record, hash or table is unreadable, or the records are not one for each added input")
-            }
-            Refusal::PeerFundingTxExceedsLimit => {
-                f.write_str("the peer's transaction is over the size limit, or adds too many inputs, outputs or cell deps")
-            }
-            Refusal::InvalidPeerFundingTx => f.write_str("the peer's funding transaction is invalid"),
-            Refusal::PeerInputUsesOurFundingLock { input_index } => {
-                write!(f, "input {input_index}, which the peer added, spends a cell under our own source lock")
-            }
-            Refusal::OverflowError => f.write_str("a figure, or a sum of figures, is too wide"),
+            Refusal::PeerInputUsesOurFundingLock { input_index } => write!(f, ": input {input_index}"),
             Refusal::PeerFundingFeeTooLow { peer_fee, required_fee, funding_fee_rate, tx_size } => write!(
                 f,
-                "the fee is too low: {peer_fee} shannons are paid and {required_fee} are required, \
+                ": {peer_fee} shannons are paid and {required_fee} are required, \
                  at a rate of {funding_fee_rate} shannons per 1000 bytes and a size of {tx_size} bytes"
             ),
-            Refusal::InsufficientCells => f.write_str("the token cells ended before their total reached the wanted amount"),
-            Refusal::TokenTotalOverflow => f.write_str("the total of the picked token cells is 2^128 or more"),
-            Refusal::MissingCellDep => f.write_str("tokens were picked, and the token's cell deps or the lock's were not supplied"),
-            Refusal::TokenCellDataTooShort => f.write_str("a token cell's data is under 16 bytes"),
-            Refusal::BufferTooShort => f.write_str("the result is over the lent buffer, or over 133,116 bytes"),
-            Refusal::TooManyHolds => f.write_str("the call would leave more than 256 hold records"),
-            Refusal::TooManyExclusions => f.write_str("the call would leave more than 64 excluded transactions or 512 out points"),
+            _ => Ok(()),
         }
     }
 }
@@ -185,13 +202,17 @@ mod tests {
         for number in 1..=15 {
             let why = Refusal::from_number(number, [1, 2, 3, 4]).expect("a case");
             assert_eq!(why.number(), number);
-            assert!(!why.to_string().is_empty());
             let count = match number {
                 6 => 1,
                 8 => 4,
                 _ => 0,
             };
             assert_eq!(why.values(), [1, 2, 3, 4][..count]);
+            // the sentence, and after a colon the values
+            let text = why.to_string();
+            let rest = text.strip_prefix(why.sentence()).expect("the sentence first");
+            assert!(if count == 0 { rest.is_empty() } else { rest.starts_with(": ") }, "{text}");
+            assert!(why.values().iter().all(|value| rest.contains(&value.to_string())), "{text}");
         }
         assert_eq!(Refusal::from_number(0, [0; 4]), None);
         assert_eq!(Refusal::from_number(16, [0; 4]), None);

@@ -5,6 +5,9 @@ use crate::update::accepted;
 use crate::update::{Accepted, PeerUpdate};
 use crate::{ffi, molecule};
 
+/// How many words the answer to an update has: its number and four values.
+const ANSWER_WORDS: usize = 5;
+
 /// What a list of updates comes to.
 ///
 /// ```
@@ -16,9 +19,9 @@ pub struct Replay {
     pub answers: Vec<Result<Accepted, Refusal>>,
     /// Which update's transaction is then in force; none: the one at the start, if there was one.
     pub in_force: Option<usize>,
-    /// The sum of the capacity surpluses, in shannons.
+    /// The sum of the capacity surpluses, in shannons, added here in plain Rust.
     pub capacity: Total,
-    /// The sum of the token surpluses.
+    /// The sum of the token surpluses, likewise.
     pub token: Total,
 }
 
@@ -44,18 +47,18 @@ pub fn replay(start: Option<&[u8]>, lock: &[u8], udt: Option<&[u8]>, updates: &[
             molecule::table(&[&peer[..], &records, &source, &update.rate.to_le_bytes()])
         })
         .collect();
-    let mut words = vec![0; 5 * updates.len()];
+    let mut words = vec![0; ANSWER_WORDS * updates.len()];
     let [_, _, in_force, _] = ffi::replay(molecule::option(start), lock, molecule::option(udt), &molecule::table(&items), &mut words)?;
     let answers: Vec<Result<Accepted, Refusal>> = words
-        .chunks_exact(5)
+        .chunks_exact(ANSWER_WORDS)
         .map(|words| {
-            let number = u32::try_from(words[0]).unwrap_or(u32::MAX);
+            let number = u32::try_from(words[0]).expect("the first word of an answer is 0 or the number of a refusal");
             ffi::answer(number, [words[1], words[2], words[3], words[4]]).map(accepted)
         })
         .collect();
     let accepted = || answers.iter().flatten();
     Ok(Replay {
-        in_force: usize::try_from(in_force).ok().and_then(|k| k.checked_sub(1)),
+        in_force: ffi::size(in_force).checked_sub(1),
         capacity: accepted().map(|accepted| accepted.capacity).sum(),
         token: accepted().map(|accepted| accepted.token).sum(),
         answers,

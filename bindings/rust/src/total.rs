@@ -1,5 +1,7 @@
 //! Sums of surpluses.
 use std::fmt;
+use std::iter::Sum;
+use std::ops::AddAssign;
 
 /// A sum of 128-bit figures, which may pass 2^128: there is room for 2^64 of them.
 ///
@@ -68,9 +70,65 @@ impl From<u128> for Total {
     }
 }
 
-impl std::iter::Sum<u128> for Total {
+/// Adds as [`saturating_add`](Total::saturating_add) does.
+impl AddAssign for Total {
+    fn add_assign(&mut self, other: Total) {
+        *self = self.saturating_add(other);
+    }
+}
+
+impl AddAssign<u128> for Total {
+    fn add_assign(&mut self, figure: u128) {
+        *self += Total::from(figure);
+    }
+}
+
+impl Sum for Total {
+    fn sum<I: Iterator<Item = Total>>(totals: I) -> Total {
+        totals.fold(Total::ZERO, Total::saturating_add)
+    }
+}
+
+impl<'a> Sum<&'a Total> for Total {
+    fn sum<I: Iterator<Item = &'a Total>>(totals: I) -> Total {
+        totals.copied().sum()
+    }
+}
+
+impl Sum<u128> for Total {
     fn sum<I: Iterator<Item = u128>>(figures: I) -> Total {
-        figures.fold(Total::ZERO, |total, x| total.saturating_add(Total::from(x)))
+        figures.map(Total::from).sum()
+    }
+}
+
+/// A total that is no number of 128 bits.
+///
+/// ```
+/// use basinpantry::{Total, TotalTooWide};
+///
+/// let total: Total = [u128::MAX, 1].into_iter().sum();
+/// assert_eq!(u128::try_from(total), Err(TotalTooWide(total)));
+/// assert_eq!(TotalTooWide(total).to_string(), "340282366920938463463374607431768211456 is 2^128 or more");
+/// ```
+#[derive(Clone, Copy, Debug, PartialEq, Eq, Hash)]
+pub struct TotalTooWide(
+    /// The total.
+    pub Total,
+);
+
+impl fmt::Display for TotalTooWide {
+    fn fmt(&self, f: &mut fmt::Formatter<'_>) -> fmt::Result {
+        write!(f, "{} is 2^128 or more", self.0)
+    }
+}
+
+impl std::error::Error for TotalTooWide {}
+
+impl TryFrom<Total> for u128 {
+    type Error = TotalTooWide;
+
+    fn try_from(total: Total) -> Result<u128, TotalTooWide> {
+        total.to_u128().ok_or(TotalTooWide(total))
     }
 }
 
@@ -114,6 +172,26 @@ mod tests {
         assert_eq!(top.to_string(), "6277101735386680763835789423207666416102355444464034512895");
         assert_eq!(top.saturating_add(Total::from(1)), top);
         assert_eq!(format!("{:>5}|", Total::from(12)), "   12|");
+    }
+
+    #[test]
+    fn sums() {
+        let parts = [Total::from(u128::MAX), Total::from(1), Total { high: 7, low: 5 }];
+        let whole = Total { high: 8, low: 5 };
+        assert_eq!(parts.iter().sum::<Total>(), whole);
+        assert_eq!(parts.into_iter().sum::<Total>(), whole);
+        let mut total = Total::ZERO;
+        for part in parts {
+            total += part;
+        }
+        assert_eq!(total, whole);
+        total += u128::MAX;
+        assert_eq!(total, Total { high: 9, low: 4 });
+        total += Total { high: u64::MAX, low: 0 };
+        assert_eq!(total, Total { high: u64::MAX, low: u128::MAX });
+        assert_eq!(Vec::<Total>::new().into_iter().sum::<Total>(), Total::ZERO);
+        assert_eq!(u128::try_from(Total::from(u128::MAX)), Ok(u128::MAX));
+        assert_eq!(u128::try_from(whole), Err(super::TotalTooWide(whole)));
     }
 
     #[test]

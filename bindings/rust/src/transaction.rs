@@ -154,25 +154,26 @@ fn contents(list: &[u8]) -> Option<Vec<Vec<u8>>> {
     molecule::parts(list)?.into_iter().map(|entry| molecule::content(entry).map(<[u8]>::to_vec)).collect()
 }
 
-/// A list of a transaction.
+/// A list of a transaction, by the number that the library has for it.
 ///
 /// ```
 /// assert_ne!(basinpantry::List::Outputs, basinpantry::List::OutputsData);
 /// ```
 #[derive(Clone, Copy, Debug, PartialEq, Eq, Hash)]
+#[repr(u32)]
 pub enum List {
     /// Items of 37 bytes ([`CellDep`]).
-    CellDeps,
+    CellDeps = 0,
     /// Items of 32 bytes.
-    HeaderDeps,
+    HeaderDeps = 1,
     /// Items of 44 bytes ([`CellInput`]).
-    Inputs,
+    Inputs = 2,
     /// Tables ([`CellOutput`]).
-    Outputs,
+    Outputs = 3,
     /// The data of the outputs.
-    OutputsData,
+    OutputsData = 4,
     /// The witnesses.
-    Witnesses,
+    Witnesses = 5,
 }
 
 /// The version of a transaction by the proved reader; none of bytes that are no transaction.
@@ -187,33 +188,43 @@ pub fn version(tx: &[u8]) -> Option<u32> {
     is_transaction(tx).then(|| ffi::version(tx))
 }
 
-/// How many items a list of a transaction has, by the proved reader; 0 where the bytes are no transaction.
+/// How many items a list of a transaction has, by the proved reader; none of bytes that are no transaction.
 ///
 /// ```
 /// use basinpantry::{List, Transaction, item_count};
 ///
 /// let tx = Transaction { witnesses: vec![vec![1], vec![2, 3]], ..Transaction::default() }.to_bytes();
-/// assert_eq!((item_count(&tx, List::Witnesses), item_count(&tx, List::Inputs)), (2, 0));
+/// assert_eq!((item_count(&tx, List::Witnesses), item_count(&tx, List::Inputs)), (Some(2), Some(0)));
+/// assert_eq!(item_count(&[], List::Inputs), None);
 /// ```
-pub fn item_count(tx: &[u8], list: List) -> usize {
-    usize::try_from(ffi::item_count(tx, list as u32)).unwrap_or(usize::MAX)
+pub fn item_count(tx: &[u8], list: List) -> Option<usize> {
+    is_transaction(tx).then(|| ffi::size(ffi::item_count(tx, list as u32).into()))
 }
 
-/// Item `i` of a list of a transaction, by the proved reader, where there is one. Each call reads the whole transaction; [`Transaction::from_bytes`] reads it once for all items.
+/// Item `i` of a list of a transaction, by the proved reader; none where the list ends before it. Each call reads the whole transaction;
+/// [`Transaction::from_bytes`] reads it once for all items, and has no bound on an item. Refused: 1 (the bytes are no transaction), 13 (the item has more than
+/// 133,116 bytes).
 ///
 /// ```
-/// use basinpantry::{List, Transaction, item};
+/// use basinpantry::{List, Refusal, Transaction, item};
 ///
 /// let tx = Transaction { witnesses: vec![vec![1], vec![2, 3]], ..Transaction::default() }.to_bytes();
-/// assert_eq!(item(&tx, List::Witnesses, 1), Some(vec![2, 3]));
-/// assert_eq!(item(&tx, List::Witnesses, 2), None);
+/// assert_eq!(item(&tx, List::Witnesses, 1), Ok(Some(vec![2, 3])));
+/// assert_eq!(item(&tx, List::Witnesses, 2), Ok(None));
+/// assert_eq!(item(b"no transaction", List::Witnesses, 0), Err(Refusal::OurTransactionUnreadable));
 /// ```
-pub fn item(tx: &[u8], list: List, i: usize) -> Option<Vec<u8>> {
-    // an item is no longer than the transaction; one that there is not is refused
+pub fn item(tx: &[u8], list: List, i: usize) -> Result<Option<Vec<u8>>, Refusal> {
+    // an item is no longer than the transaction
     let mut out = vec![0; tx.len()];
-    let [size, ..] = ffi::item(tx, list as u32, i, &mut out).ok()?;
-    out.truncate(usize::try_from(size).ok()?);
-    Some(out)
+    match ffi::item(tx, list as u32, i, &mut out) {
+        Ok([size, ..]) => {
+            out.truncate(ffi::size(size));
+            Ok(Some(out))
+        }
+        // every `List` is one of the six, so it is the item that there is not
+        Err(Refusal::LentBytesUnreadable) => Ok(None),
+        Err(why) => Err(why),
+    }
 }
 
 /// Writes a transaction by the proved writer. Refused: 3 (one of its lists has 2^32 bytes or more), 13 (it would have more than 133,116 bytes).
@@ -230,7 +241,7 @@ pub fn write_transaction(tx: &Transaction) -> Result<Vec<u8>, Refusal> {
     let lists = tx.lists();
     let mut out = vec![0; MAX_TRANSACTION_BYTES];
     let [size, ..] = ffi::write_transaction(tx.version, lists.each_ref().map(|list| &list[..]), &mut out)?;
-    out.truncate(usize::try_from(size).unwrap_or(usize::MAX));
+    out.truncate(ffi::size(size));
     Ok(out)
 }
 
@@ -247,6 +258,6 @@ pub fn write_transaction(tx: &Transaction) -> Result<Vec<u8>, Refusal> {
 pub fn rewrite(tx: &[u8]) -> Result<Vec<u8>, Refusal> {
     let mut out = vec![0; MAX_TRANSACTION_BYTES];
     let [size, ..] = ffi::rewrite(tx, &mut out)?;
-    out.truncate(usize::try_from(size).unwrap_or(usize::MAX));
+    out.truncate(ffi::size(size));
     Ok(out)
 }

@@ -91,7 +91,8 @@ pub struct PeerUpdate<'a> {
 
 /// A negotiation under one expected lock and type: the transaction in force, and the sums of the surpluses of the updates accepted so far.
 ///
-/// It is proved of any list of updates that these sums are exactly the surplus of the transaction in force against the one at the start.
+/// It is proved of any list of updates that the surpluses which the library reports sum to exactly the surplus of the transaction in force against the one at
+/// the start. The adding is done here ([`Total`]), in plain Rust, and is tested.
 ///
 /// ```
 /// use basinpantry::*;
@@ -158,8 +159,8 @@ impl Negotiation {
     pub fn update(&mut self, update: &PeerUpdate) -> Result<Accepted, Refusal> {
         let accepted = update_for_peer(self.in_force.as_deref(), &self.lock, self.udt.as_deref(), update)?;
         self.in_force = Some(update.peer.to_vec());
-        self.capacity = self.capacity.saturating_add(Total::from(accepted.capacity));
-        self.token = self.token.saturating_add(Total::from(accepted.token));
+        self.capacity += accepted.capacity;
+        self.token += accepted.token;
         self.accepted = self.accepted.saturating_add(1);
         Ok(accepted)
     }

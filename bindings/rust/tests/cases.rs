@@ -1,7 +1,9 @@
 //! The case files of the examples: the program and the library give the recorded line.
 mod common;
 
-use basinpantry::{CaseFile, List, Transaction, check_case, item, item_count, rewrite, version, write_transaction};
+use basinpantry::{
+    CaseFile, List, MAX_TRANSACTION_BYTES, Refusal, Transaction, check_case, item, item_count, rewrite, version, write_transaction,
+};
 use common::{cases, run};
 
 #[test]
@@ -49,15 +51,30 @@ fn transactions_are_written_as_they_are_read() {
         assert_eq!(write_transaction(&tx), Ok(bytes.clone()));
         assert_eq!(rewrite(&bytes), Ok(bytes.clone()));
         assert_eq!(version(&bytes), Some(tx.version));
-        let items = |list| (0..item_count(&bytes, list)).map(|i| item(&bytes, list, i).unwrap()).collect::<Vec<_>>();
+        let count = |list| item_count(&bytes, list).unwrap();
+        let items = |list| (0..count(list)).map(|i| item(&bytes, list, i).unwrap().unwrap()).collect::<Vec<_>>();
         assert_eq!(items(List::CellDeps), tx.cell_deps.iter().map(|dep| dep.to_bytes().to_vec()).collect::<Vec<_>>());
         assert_eq!(items(List::HeaderDeps), tx.header_deps.iter().map(|hash| hash.to_vec()).collect::<Vec<_>>());
         assert_eq!(items(List::Inputs), tx.inputs.iter().map(|input| input.to_bytes().to_vec()).collect::<Vec<_>>());
         assert_eq!(items(List::Outputs), tx.outputs.iter().map(|output| output.to_bytes()).collect::<Vec<_>>());
         assert_eq!(items(List::OutputsData), tx.outputs_data);
         assert_eq!(items(List::Witnesses), tx.witnesses);
+        assert_eq!(item(&bytes, List::Witnesses, tx.witnesses.len()), Ok(None));
     }
-    assert_eq!((item_count(&[], List::Inputs), item(&[], List::Inputs, 0)), (0, None));
+    assert_eq!((item_count(&[], List::Inputs), item(&[], List::Inputs, 0)), (None, Err(Refusal::OurTransactionUnreadable)));
+}
+
+/// A transaction may be longer than what the library writes; an item of it that is so too is refused, and not said to be missing.
+#[test]
+fn items_that_are_too_long() {
+    let witness = |n: usize| Transaction { witnesses: vec![vec![7; n]], ..Transaction::default() }.to_bytes();
+    let long = witness(140_000);
+    assert_eq!(item_count(&long, List::Witnesses), Some(1));
+    assert_eq!(item(&long, List::Witnesses, 0), Err(Refusal::BufferTooShort));
+    assert_eq!(item(&long, List::Witnesses, 1), Ok(None));
+    assert_eq!(Transaction::from_bytes(&long).unwrap().witnesses, [vec![7; 140_000]]);
+    assert_eq!(item(&witness(MAX_TRANSACTION_BYTES), List::Witnesses, 0), Ok(Some(vec![7; MAX_TRANSACTION_BYTES])));
+    assert_eq!(item(&witness(MAX_TRANSACTION_BYTES + 1), List::Witnesses, 0), Err(Refusal::BufferTooShort));
 }
 
 /// Cut anywhere or with any byte changed, a case file is judged or refused, by the library and by the reader here alike.

@@ -1,5 +1,6 @@
 //! The declarations of src/ffi.rs are those of the C header, parameter by parameter, and the header's are those of the library: on that their soundness
-//! rests.
+//! rests. So are those of the benchmarks and of the comparison with the original. The header's numbers and sentences are those of this crate.
+use basinpantry::{EXCLUSIONS_BYTES, HELD_BYTES, List, MAX_CASE_BYTES, MAX_TRANSACTION_BYTES, OutPoint, Refusal};
 use std::collections::BTreeMap;
 use std::path::Path;
 
@@ -38,8 +39,18 @@ fn rust_type(c: &str) -> &'static str {
     }
 }
 
+/// The header's text in three parts: the function that it defines itself, and what stands before and after it.
+fn header_parts() -> [String; 3] {
+    let text = text("../c/basinpantry.h");
+    let (before, rest) = text.split_once("static inline ").expect("a function with a body");
+    let (body, after) = rest.split_once("\n}\n").expect("its end");
+    assert!(!after.contains("static inline "));
+    [before, body, after].map(str::to_string)
+}
+
 fn header() -> BTreeMap<String, Signature> {
-    let text = uncommented(&text("../c/basinpantry.h"));
+    let [before, _, after] = header_parts();
+    let text = uncommented(&(before + &after));
     let mut found = BTreeMap::new();
     for statement in text.split(';') {
         let Some(at) = statement.find(" basinpantry_") else { continue };
@@ -148,35 +159,147 @@ fn declarations() {
     assert_eq!(declared, header);
 }
 
+/// The declarations of a file of the benchmarks: their types.
+fn declared_for_benchmarks() -> BTreeMap<String, Vec<String>> {
+    let text = text("../../bench/library.rs");
+    let block = text.split_once("extern \"C\" {").expect("the declarations").1.split_once("\n}").expect("their end").0;
+    let kind = |kind: &str| match kind {
+        "In" => "*const u8".to_string(),
+        "Out" => "*mut u8".to_string(),
+        other => other.to_string(),
+    };
+    let mut found = BTreeMap::new();
+    for declaration in block.split(';').filter(|declaration| !declaration.trim().is_empty()) {
+        let declaration = declaration.trim().strip_prefix("fn ").expect("a function");
+        let (parameters, answer) = declaration.split_once('(').expect("parameters").1.split_once(')').expect("an end");
+        let parameters = parameters.split(',').map(str::trim).filter(|parameter| !parameter.is_empty());
+        let parameters = parameters.map(|parameter| parameter.split_once(':').expect("a name and a type").1.trim());
+        let answer = answer.trim().strip_prefix("->").expect("an answer").trim();
+        found.insert(name_of(declaration).to_string(), parameters.chain([answer]).map(kind).collect());
+    }
+    assert!(text.contains("type In = *const u8;\ntype Out = *mut u8;\n"));
+    found
+}
+
+/// The benchmarks need not call every function.
+#[test]
+fn declarations_of_the_benchmarks() {
+    let (header, declared) = (header(), declared_for_benchmarks());
+    assert!(declared.len() >= 12, "{}", declared.len());
+    for (name, kinds) in &declared {
+        assert_eq!(*kinds, header[name].iter().map(|(_, kind)| kind.clone()).collect::<Vec<_>>(), "{name}");
+    }
+    let text = text("../../bench/library.rs");
+    assert!(text.contains(&format!("const HELD_BYTES: usize = {};", thousands(HELD_BYTES))));
+    assert!(text.contains(&format!("const EXCLUSIONS_BYTES: usize = {};", thousands(EXCLUSIONS_BYTES))));
+}
+
+/// A number as Rust's source has it.
+fn thousands(n: usize) -> String {
+    format!("{}_{:03}", n / 1000, n % 1000)
+}
+
+/// The declarations of the comparison: a kind of slice is a pointer and then a length.
+fn declared_for_comparison() -> BTreeMap<String, Signature> {
+    let text = text("../../oracle/src/bin/compare/library.rs");
+    let block = text.split_once("\ninterface! {").expect("the declarations").1.split_once("\n}").expect("their end").0;
+    let mut found = BTreeMap::new();
+    for declaration in block.split(';').filter(|declaration| !declaration.trim().is_empty()) {
+        let declaration = declaration.split_once(" = ").expect("a name and a symbol").1;
+        let (parameters, answer) = declaration.split_once('(').expect("parameters").1.split_once(')').expect("an end");
+        let mut signature = Signature::new();
+        for parameter in parameters.split(',') {
+            let (name, kind) = parameter.trim().split_once(": ").expect("a name and a kind");
+            let pointer = match kind {
+                "bytes" => Some("*const u8"),
+                "buffer" => Some("*mut u8"),
+                "words" => Some("*mut u64"),
+                _ => None,
+            };
+            signature.push((name.to_string(), pointer.unwrap_or(kind).to_string()));
+            if pointer.is_some() {
+                signature.push((format!("{name}_len"), "usize".to_string()));
+            }
+        }
+        signature.push(("->".to_string(), answer.trim().trim_start_matches("->").trim().to_string()));
+        found.insert(name_of(declaration).to_string(), signature);
+    }
+    found
+}
+
+#[test]
+fn declarations_of_the_comparison() {
+    assert_eq!(declared_for_comparison(), header());
+}
+
+/// A name of the header for a name of Rust.
+fn in_capitals(name: &str) -> String {
+    let mut out = String::new();
+    for c in name.chars() {
+        if c.is_uppercase() && !out.is_empty() {
+            out.push('_');
+        }
+        out.extend(c.to_uppercase());
+    }
+    out
+}
+
 #[test]
 fn numbers() {
     let text = text("../c/basinpantry.h");
-    let defines: BTreeMap<&str, &str> = text
+    let mut defines: BTreeMap<String, usize> = text
         .lines()
         .filter_map(|line| line.strip_prefix("#define BASINPANTRY_"))
         .filter_map(|line| line.split_once(' '))
-        .map(|(name, rest)| (name, rest.split_whitespace().next().expect("a number")))
+        .map(|(name, number)| (name.to_string(), number.parse().expect("a number and nothing else")))
         .collect();
-    let value = |name: &str| defines[name].parse::<u32>().expect("a number");
-    for (name, why) in [
-        ("OUR_TRANSACTION_UNREADABLE", "OurTransactionUnreadable"),
-        ("PEER_TRANSACTION_UNREADABLE", "PeerTransactionUnreadable"),
-        ("LENT_BYTES_UNREADABLE", "LentBytesUnreadable"),
-        ("PEER_FUNDING_TX_EXCEEDS_LIMIT", "PeerFundingTxExceedsLimit"),
-        ("INVALID_PEER_FUNDING_TX", "InvalidPeerFundingTx"),
-        ("PEER_INPUT_USES_OUR_FUNDING_LOCK", "PeerInputUsesOurFundingLock { input_index: 0 }"),
-        ("OVERFLOW", "OverflowError"),
-        ("PEER_FUNDING_FEE_TOO_LOW", "PeerFundingFeeTooLow { peer_fee: 0, required_fee: 0, funding_fee_rate: 0, tx_size: 0 }"),
-        ("INSUFFICIENT_CELLS", "InsufficientCells"),
-        ("TOKEN_TOTAL_OVERFLOW", "TokenTotalOverflow"),
-        ("MISSING_CELL_DEP", "MissingCellDep"),
-        ("TOKEN_CELL_DATA_TOO_SHORT", "TokenCellDataTooShort"),
-        ("BUFFER_TOO_SHORT", "BufferTooShort"),
-        ("TOO_MANY_HOLDS", "TooManyHolds"),
-        ("TOO_MANY_EXCLUSIONS", "TooManyExclusions"),
-    ] {
-        let refusal = basinpantry::Refusal::from_number(value(name), [0; 4]).expect("a refusal");
-        assert_eq!(format!("{refusal:?}"), why);
+    let mut has = |name: &str, number: usize| assert_eq!(defines.remove(name), Some(number), "{name}");
+    for number in 1..=15 {
+        let name = format!("{:?}", Refusal::from_number(number, [0; 4]).expect("a refusal"));
+        has(&in_capitals(name.split(' ').next().expect("a name")), number as usize);
     }
-    assert_eq!(value("MAX_TRANSACTION_BYTES") as usize, basinpantry::MAX_TRANSACTION_BYTES);
+    for list in [List::CellDeps, List::HeaderDeps, List::Inputs, List::Outputs, List::OutputsData, List::Witnesses] {
+        has(&in_capitals(&format!("{list:?}")), list as usize);
+    }
+    has("MAX_TRANSACTION_BYTES", MAX_TRANSACTION_BYTES);
+    has("MAX_CASE_BYTES", MAX_CASE_BYTES);
+    has("HELD_BYTES", HELD_BYTES);
+    has("EXCLUSIONS_BYTES", EXCLUSIONS_BYTES);
+    has("OUT_POINT_BYTES", OutPoint::default().to_bytes().len());
+    has("LOCK_HELD_BYTES", 4 + 256 * 36);
+    has("EXCLUSIONS_APPLY_BYTES", 4 + 512 * 36);
+    // those that this crate keeps to itself
+    for (name, file, kept) in [
+        ("LINE_BYTES", "src/case_file.rs", "const LINE_BYTES: usize = "),
+        ("ANSWER_WORDS", "src/replay.rs", "const ANSWER_WORDS: usize = "),
+        ("VALUES", "src/ffi.rs", "const VALUES: usize = "),
+    ] {
+        let text = self::text(file);
+        let number = text.split_once(kept).expect(kept).1.split_once(';').expect("an end").0;
+        has(name, number.parse().expect("a number"));
+    }
+    assert!(defines.is_empty(), "{defines:?}");
+}
+
+/// One sentence for a number: in the header, in this crate, and in the comment on the case.
+#[test]
+fn sentences() {
+    let [_, body, _] = header_parts();
+    let mut cases = body.split("    case ").skip(1);
+    let documented = text("src/refusal.rs");
+    for number in 1..=15 {
+        let sentence = Refusal::from_number(number, [0; 4]).expect("a refusal").sentence();
+        let case = cases.next().expect("a case").split("    default:").next().expect("its text");
+        assert_eq!(case, format!("{number}:\n        return \"{sentence}\";\n"));
+        assert!(documented.contains(&format!("    /// {number}: {sentence}.\n")), "{number}");
+    }
+    assert!(cases.next().is_none());
+    assert!(body.ends_with("    default:\n        return NULL;\n    }"), "{body}");
+}
+
+#[test]
+fn lines_are_not_too_long() {
+    for (i, line) in text("../c/basinpantry.h").lines().enumerate() {
+        assert!(line.len() <= 160, "line {}", i + 1);
+    }
 }

@@ -90,7 +90,7 @@ fn sentences() {
             "low_fee",
             "refused (8): the fee is too low: 204 shannons are paid and 205 are required, at a rate of 1000 shannons per 1000 bytes and a size of 205 bytes\n",
         ),
-        ("our_lock", "refused (6): input 2, which the peer added, spends a cell under our own source lock\n"),
+        ("our_lock", "refused (6): an input that the peer added spends a cell under our own source lock: input 2\n"),
         ("outputs_4", "refused (4): the peer's transaction is over a limit: it adds 4 outputs, and 3 are allowed\n"),
         ("token_total", "refused (7): a sum is too wide: the tokens of the added inputs come to 2^128 or more\n"),
     ] {
@@ -129,7 +129,7 @@ outputs: 1, added 0
   taken back by added outputs         0  0.00000000
   surplus                             5  0.00000005
 
-refused (6): input 2, which the peer added, spends a cell under our own source lock
+refused (6): an input that the peer added spends a cell under our own source lock: input 2
 "
     );
 }

@@ -1,5 +1,7 @@
 //! The tables of cells: the known outcomes, limits, and that any content is safe.
-use basinpantry::{CellInput, HeldCells, LiveCellsExclusionMap, OutPoint, Refusal, Taken, Taker, Transaction};
+use basinpantry::{
+    CellInput, HELD_BYTES, HeldCells, LiveCellsExclusion, LiveCellsExclusionMap, OutPoint, Owner, Refusal, Taken, Taker, Transaction,
+};
 
 fn point(index: u32) -> OutPoint {
     OutPoint { tx_hash: [7; 32], index }
@@ -72,7 +74,7 @@ fn at_most_256_holds() {
     assert_eq!(held.take(&points(256, 257), &[], Taker::Funding(2), 5), Err(Refusal::TooManyHolds));
     // two picks where the ended record leaves room for one: refused, and the ended one stays
     assert_eq!(held.take(&points(256, 258), &[], Taker::Funding(2), 1_800_000), Err(Refusal::TooManyHolds));
-    assert!(held == full);
+    assert_eq!(held.as_bytes(), full.as_bytes());
     assert_eq!(held.take(&points(256, 257), &[], Taker::Funding(2), 1_800_000).unwrap().taken, points(256, 257));
     assert_eq!(held.lock_held(1_800_000).len(), 256);
 }
@@ -112,7 +114,7 @@ fn migrated() {
     map.migrate_funding_tx(&[1; 32], &[4; 32], Some(&spends(&points(9, 10)))).unwrap();
     assert_eq!(map.migrate_funding_tx(&[1; 32], &[4; 32], Some(&[1])), Err(Refusal::OurTransactionUnreadable));
     assert_eq!(map.migrate_funding_tx(&[1; 32], &[4; 32], Some(&[])), Err(Refusal::OurTransactionUnreadable));
-    assert!(map == before);
+    assert_eq!(map.as_bytes(), before.as_bytes());
     map.migrate_funding_tx(&[2; 32], &[4; 32], None).unwrap();
     assert_eq!(map.apply(), points(2, 3));
     map.remove(&[3; 32]);
@@ -129,16 +131,20 @@ fn at_most_64_transactions_and_512_out_points() {
     let full = map.clone();
     assert_eq!(map.add(&[64; 32], Some(&spends(&[]))), Err(Refusal::TooManyExclusions));
     assert_eq!(map.add(&[63; 32], Some(&spends(&points(504, 513)))), Err(Refusal::TooManyExclusions));
-    assert!(map == full);
+    assert_eq!(map.as_bytes(), full.as_bytes());
     map.add(&[63; 32], Some(&spends(&points(504, 511)))).unwrap();
     assert_eq!(map.apply(), points(0, 511));
 }
 
 #[test]
 fn damaged_tables() {
-    let mut bytes = vec![0xff; 12_292];
+    let mut bytes = vec![0xff; HELD_BYTES];
     let mut held = HeldCells::from_bytes(&bytes).unwrap();
-    assert!(held.lock_held(5).len() <= 256);
+    // a count above 256 counts as 256, and a kind that is not 0 is the watchtower
+    assert_eq!(held.len(), 256);
+    assert!(held.records().all(|hold| hold.owner == Owner::Watchtower { end: u64::MAX }));
+    assert_eq!(held.lock_held(5), held.records().map(|hold| hold.out_point).collect::<Vec<_>>());
+    assert_eq!(held.len(), 256);
     assert!(held.unavailable(&points(0, 3), &[], 5).is_ok());
     assert!(held.take(&points(0, 3), &[], Taker::Watchtower, u64::MAX).is_ok());
     bytes.push(0);
@@ -162,6 +168,15 @@ fn damaged_tables() {
         assert!(with(at, 1).is_none());
     }
     assert!(with(50, 1).is_none());
+    // where it is a map, its entries are the library's
+    let mut maps = 0;
+    for at in 0..4 + 2 * 48 + 5 * 36 {
+        for map in [0, 1, 2, 3, 64, 0xff].into_iter().filter_map(|byte| with(at, byte)) {
+            assert_eq!(map.entries().flat_map(|entry| entry.input_out_points).collect::<Vec<_>>(), map.apply(), "{at}");
+            maps += 1;
+        }
+    }
+    assert!(maps > 1000, "{maps}");
     // what stands in a hash, in an out point or behind the entries is any bytes
     for at in [4, 35, 52, 87, 4 + 2 * 48 + 5 * 36, bytes.len() - 1] {
         assert!(with(at, 0xff).is_some());
@@ -208,6 +223,54 @@ fn kept_and_taken_up_again() {
     assert_eq!(again.apply(), points(0, 3));
 }
 
+/// Tables are equal by what stands in them, and are shown by it.
+#[test]
+fn what_stands_in_a_table() {
+    let mut held = HeldCells::new();
+    assert_eq!(format!("{held:?}"), "HeldCells []");
+    held.hold_funding(1, &points(0, 3)).unwrap();
+    held.hold_for_watchtower(&points(3, 4), 5).unwrap();
+    let full = held.clone();
+    let owners: Vec<Owner> = held.records().map(|hold| hold.owner).collect();
+    assert_eq!(owners, [Owner::Funding(1), Owner::Funding(1), Owner::Funding(1), Owner::Watchtower { end: 1_800_005 }]);
+    held.release_for_watchtower(&points(3, 4)).unwrap();
+    assert_ne!(held, full);
+    assert!(format!("{held:?}").contains("Funding(1)") && !format!("{held:?}").contains("Watchtower"));
+    held.hold_funding(1, &[]).unwrap();
+    // the bytes of the records that went are still there, and mean nothing
+    assert_ne!(held.as_bytes(), HeldCells::new().as_bytes());
+    assert_eq!(held, HeldCells::new());
+    assert!(held.is_empty());
+    // the order counts, the holder counts, and of the kind only whether it is 0
+    let mut other = HeldCells::new();
+    other.hold_for_watchtower(&points(3, 4), 5).unwrap();
+    other.hold_funding(1, &points(0, 3)).unwrap();
+    assert_ne!(other, full);
+    let mut bytes = full.as_bytes().to_vec();
+    bytes[4 + 3 * 48 + 36 + 2] = 9;
+    assert_eq!(HeldCells::from_bytes(&bytes).unwrap(), full);
+    bytes[4 + 40] ^= 1;
+    assert_ne!(HeldCells::from_bytes(&bytes).unwrap(), full);
+
+    let mut map = LiveCellsExclusionMap::new();
+    assert_eq!(format!("{map:?}"), "LiveCellsExclusionMap []");
+    map.add(&[1; 32], Some(&spends(&points(0, 2)))).unwrap();
+    map.add(&[2; 32], Some(&spends(&points(2, 3)))).unwrap();
+    map.commit(&[2; 32], 100);
+    let entry =
+        |n: u8, committed_block_number, input_out_points| LiveCellsExclusion { tx_hash: [n; 32], committed_block_number, input_out_points };
+    assert!(map.entries().eq([entry(1, None, points(0, 2)), entry(2, Some(100), points(2, 3))]));
+    let full = map.clone();
+    map.commit(&[2; 32], 101);
+    assert_ne!(map, full);
+    assert!(format!("{map:?}").contains("committed_block_number: Some(101)"));
+    map.remove(&[1; 32]);
+    map.remove(&[2; 32]);
+    assert_ne!(map.as_bytes(), LiveCellsExclusionMap::new().as_bytes());
+    assert_eq!(map, LiveCellsExclusionMap::new());
+    assert!(map.is_empty());
+}
+
 /// Numbers that look random and are the same in each run.
 struct Numbers(u64);
 
@@ -238,6 +301,14 @@ impl Hold {
         match self {
             Hold::Funding(_, point) | Hold::Watchtower(point, _) => *point,
         }
+    }
+
+    fn record(&self) -> basinpantry::Hold {
+        let owner = match *self {
+            Hold::Funding(holder, _) => Owner::Funding(holder),
+            Hold::Watchtower(_, end) => Owner::Watchtower { end },
+        };
+        basinpantry::Hold { out_point: self.point(), owner }
     }
 
     fn unended(&self, time: u64) -> bool {
@@ -336,6 +407,8 @@ fn holds_beside_a_plain_list() {
         // every record is there, the ended ones too
         let all: Vec<OutPoint> = list.iter().map(Hold::point).collect();
         assert_eq!(held.clone().lock_held(0), all);
+        assert!(held.records().eq(list.iter().map(Hold::record)));
+        assert_eq!((held.len(), held.is_empty()), (list.len(), list.is_empty()));
     }
     assert!(refused > 20, "{refused}");
 }
@@ -402,6 +475,9 @@ fn exclusions_beside_a_plain_list() {
         }
         let points: Vec<OutPoint> = list.iter().flat_map(|(.., points)| points.clone()).collect();
         assert_eq!(map.apply(), points);
+        let entries = map.entries().map(|entry| (entry.tx_hash, entry.committed_block_number, entry.input_out_points));
+        assert_eq!(entries.collect::<Vec<Entry>>(), list);
+        assert_eq!((map.len(), map.is_empty()), (list.len(), list.is_empty()));
     }
     assert!(refused > 20, "{refused}");
 }

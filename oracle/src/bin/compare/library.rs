@@ -1,4 +1,5 @@
-//! The library through its C interface (bindings/c/basinpantry.h), with slices for pointers and lengths.
+//! The library through its C interface (bindings/c/basinpantry.h), with slices for pointers and lengths. bindings/rust/tests/header.rs compares the declarations
+//! with the header.
 #![allow(clippy::too_many_arguments)]
 use crate::faults;
 use crate::report::{Outcome, Source};
@@ -10,7 +11,7 @@ macro_rules! interface {
         pub const FUNCTIONS: &[(&str, &[(&str, &str)])] = &[$((stringify!($symbol), &[$((stringify!($arg), stringify!($kind))),*])),*];
         $(pub fn $name($($arg: interface!(@slice $kind)),*) -> $out {
             interface!(@declare $symbol [] [$($arg: $kind,)*] $out);
-            // The function reads and writes only what it is lent.
+            // SAFETY: the function reads and writes only what it is lent, and nothing that is written to is lent twice.
             let told = interface!(@call $symbol [] [$($arg: $kind,)*]);
             $(interface!(@fault $symbol $arg $kind);)*
             faults::answer(stringify!($symbol), told)

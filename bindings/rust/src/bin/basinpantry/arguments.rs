@@ -1,6 +1,6 @@
 //! The words after a command's name.
 use crate::files::{Failure, Input};
-use std::ffi::OsString;
+use std::ffi::{OsStr, OsString};
 
 /// Bad usage of a command.
 pub fn usage<T>(command: &str, why: impl std::fmt::Display) -> Result<T, Failure> {
@@ -27,7 +27,7 @@ impl Arguments {
         let mut words = words.iter();
         while let Some(word) = words.next() {
             let name = word.to_string_lossy().into_owned();
-            let is_name = |word: &OsString| word == "--" || flags.iter().chain(options).any(|name| word == name);
+            let is_name = |word: &OsStr| word == "--" || flags.iter().chain(options).any(|name| word == *name);
             if name == "--" {
                 found.rest.extend(words.by_ref().cloned());
             } else if flags.contains(&name.as_str()) {
@@ -53,21 +53,21 @@ impl Arguments {
     }
 
     /// The files that are read, with the options that name them.
-    pub fn inputs(&self) -> impl Iterator<Item = (&str, &OsString)> {
-        let options = self.options.iter().map(|(name, value)| (name.as_str(), value));
-        options.filter(|(name, _)| *name != "-o" && *name != "--rate").chain(self.rest.iter().map(|path| ("", path)))
+    pub fn inputs(&self) -> impl Iterator<Item = (&str, &OsStr)> {
+        let options = self.options.iter().map(|(name, value)| (name.as_str(), value.as_os_str()));
+        options.filter(|(name, _)| *name != "-o" && *name != "--rate").chain(self.rest.iter().map(|path| ("", path.as_os_str())))
     }
 
     pub fn has(&self, flag: &str) -> bool {
         self.flags.iter().any(|other| other == flag)
     }
 
-    pub fn option(&self, name: &str) -> Option<&OsString> {
-        self.options.iter().find(|(other, _)| other == name).map(|(_, value)| value)
+    pub fn option(&self, name: &str) -> Option<&OsStr> {
+        self.options.iter().find(|(other, _)| other == name).map(|(_, value)| value.as_os_str())
     }
 
     pub fn file(&self, name: &str) -> Result<Option<Input>, Failure> {
-        self.option(name).map(|path| Input::read(path)).transpose()
+        self.option(name).map(Input::read).transpose()
     }
 
     /// The file of an option that has to be there.

@@ -19,7 +19,7 @@ use arguments::{Arguments, usage};
 use basinpantry::{CaseFile, MAX_CASE_BYTES, check_case};
 use files::{Failure, Input};
 use make_case::Parts;
-use std::ffi::OsString;
+use std::ffi::{OsStr, OsString};
 use std::io::Write;
 use std::process::ExitCode;
 
@@ -60,8 +60,8 @@ fn rate(text: &str) -> Option<u64> {
 }
 
 /// Whether a file that is read is the one that is written to, whatever names the two have.
-fn is_same(input: &OsString, output: Option<&OsString>) -> bool {
-    let place = |path: &OsString| if path == "-" { None } else { std::fs::canonicalize(path).ok() };
+fn is_same(input: &OsStr, output: Option<&OsStr>) -> bool {
+    let place = |path: &OsStr| if path == "-" { None } else { std::fs::canonicalize(path).ok() };
     output.and_then(place).is_some_and(|output| place(input) == Some(output))
 }
 
@@ -116,7 +116,7 @@ fn replay(words: &[OsString]) -> Result<Done, Failure> {
     Ok(printed(text, u8::from(!all)))
 }
 
-fn run(command: &OsString, rest: &[OsString]) -> Result<Done, Failure> {
+fn run(command: &OsStr, rest: &[OsString]) -> Result<Done, Failure> {
     let asks_for_help = rest.iter().take_while(|word| *word != "--").any(|word| word == "--help" || word == "-h");
     let (help, command_of): (&str, Command) = match &*command.to_string_lossy() {
         "check" => (help::CHECK, check),

@@ -67,7 +67,7 @@ pub fn make(parts: &Parts) -> Result<(Vec<u8>, Vec<String>), Failure> {
                     return Err(source.error(at, message).into());
                 }
             }
-            case.records.push(cell.map(|cell| CaseRecord { output: cell.output.to_bytes(), data: cell.data }));
+            case.records.push(cell.map(CaseRecord::from));
         }
     }
     if case.records.len() != added.len() {

@@ -3,6 +3,12 @@
 use crate::words::{count, was};
 use basinpantry::{CaseFile, CellOutput, ResolvedCell, Script, Total, Transaction, is_script};
 
+/// The limits, by their names in the original.
+const MAX_PEER_FUNDING_TX_SERIALIZED_SIZE: usize = 133_120;
+const MAX_PEER_ADDED_FUNDING_INPUTS: usize = 64;
+const MAX_PEER_ADDED_FUNDING_OUTPUTS: usize = 3;
+const MAX_PEER_ADDED_CELL_DEPS: usize = 8;
+
 type Reason = (u32, String);
 
 /// Nothing where the check passes, else a reason.
@@ -48,11 +54,11 @@ fn judge(case: &CaseFile) -> Result<(), Reason> {
 
 fn limits(case: &CaseFile, ours: &Transaction, peer: &Transaction) -> Result<(), Reason> {
     let size = case.peer.len() + 4;
-    check(4, size <= 133_120, || format!("its size is {size}, over 133,120"))?;
+    check(4, size <= MAX_PEER_FUNDING_TX_SERIALIZED_SIZE, || format!("its size is {size}, over 133,120"))?;
     for (what, ours, peer, most) in [
-        ("inputs", ours.inputs.len(), peer.inputs.len(), 64),
-        ("outputs", ours.outputs.len(), peer.outputs.len(), 3),
-        ("cell deps", ours.cell_deps.len(), peer.cell_deps.len(), 8),
+        ("inputs", ours.inputs.len(), peer.inputs.len(), MAX_PEER_ADDED_FUNDING_INPUTS),
+        ("outputs", ours.outputs.len(), peer.outputs.len(), MAX_PEER_ADDED_FUNDING_OUTPUTS),
+        ("cell deps", ours.cell_deps.len(), peer.cell_deps.len(), MAX_PEER_ADDED_CELL_DEPS),
     ] {
         let added = peer.saturating_sub(ours);
         check(4, added <= most, || format!("it adds {}, and {most} are allowed", count(added, what)))?;
@@ -145,7 +151,7 @@ fn contribution(case: &CaseFile, ours: &Transaction, peer: &Transaction, cells: 
         (5, format!("it puts in {gained} shannons, {short} below the growth of output 0 and the outputs that it added"))
     })?;
     if ours.inputs.is_empty() && ours.outputs.is_empty() {
-        let size = u64::try_from(case.peer.len() + 4).unwrap_or(u64::MAX);
+        let size = u64::try_from(case.peer.len() + 4).expect("a length has 64 bits at most");
         let required = case.rate.saturating_mul(size) / 1000;
         check(8, left >= Total::from(u128::from(required)), || "the fee".to_string())?;
     }

@@ -244,7 +244,7 @@ fn lines() -> Vec<(&'static str, CaseFile, &'static str)> {
         (
             "under_our_lock",
             case(Some(usual()), spending(inputs(0, 2), vec![plain(100)], vec![vec![]]), vec![cell(output(1, None, 5), vec![])]),
-            "refused (6): input 1, which the peer added, spends a cell under our own source lock",
+            "refused (6): an input that the peer added spends a cell under our own source lock: input 1",
         ),
         (
             "output_0_missing",

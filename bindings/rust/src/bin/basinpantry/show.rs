@@ -317,7 +317,7 @@ fn figures(out: &mut String, case: &CaseFile, ours: &Transaction, peer: &Transac
     let head = ["what the peer brings", ">shannons", ">CKB", ">tokens"];
     list(out, &head[..if typed { 4 } else { 3 }], rows);
     if ours.inputs.is_empty() && ours.outputs.is_empty() {
-        let size = u64::try_from(case.peer.len() + 4).unwrap_or(u64::MAX);
+        let size = u64::try_from(case.peer.len() + 4).expect("a length has 64 bits at most");
         *out += &format!("  an opening: the surplus pays the fee, and {} shannons are required\n", case.rate.saturating_mul(size) / 1000);
     }
 }
