@@ -61,7 +61,7 @@ fn reserves(request: FundingRequest) -> CheckedShannons
     local.checked_add(remote)
 }
 
-// Typed, the reserves are the capacity, and amounts are tokens.
+// The cell where all figures of the request count. Typed, the reserves are its capacity, and amounts are tokens.
 fn typed_cell(request: FundingRequest) -> FundingCell
     ensures { λ r. ⌜ told r ≡ fundingCell true true request ⌝ }
 {
