@@ -1,4 +1,5 @@
--- What a call that writes a transaction answers, and what it leaves in the lent buffer.
+-- What a call that writes a transaction answers, and what it leaves in the lent buffer (docs/RULES.md, "A peer's update arrives", row "writing", and above the table "Lent
+-- bytes beyond those written keep their value"; "The three demands", 1: after a refusal every lent output byte is as before).
 use Prim.Native.Nat.{ℕ}
 use mathlib.Core.List.{List, _++_}
 use lib.ListN.{length, drop}

@@ -1,4 +1,4 @@
--- The six lists of a base transaction in bytes, from the lists of the present one, the lent lists and the figures.
+-- The six lists of a base transaction in bytes (docs/RULES.md, "Our own side": "Base: .."), from the lists of the present one, the lent lists and the figures.
 use mathlib.Core.Path.{_≡_}
 use Prim.Native.Nat.{ℕ, _+_, _-_, _≤_, min}
 use mathlib.Core.Bool.{not}

@@ -1,43 +1,66 @@
 -- Laws of specs/FundingCell.antt: one for each way out of the functions.
 use mathlib.Core.Path.{_≡_, refl, sym, ap, ap₂, _∙_, subst}
-use Prim.Native.Nat.{ℕ, _+_, _*_, _^_, _≤_, _<_}
-use mathlib.Core.Bool.{Bool, true, false, not, cond}
+use Prim.Native.Nat.{ℕ, _+_, _^_, _≤_, _<_}
+use mathlib.Core.Bool.{Bool, true, false, not}
 use mathlib.Core.List.{List}
 use native.Mathlib.Nat.{add-zero, le-trans, mul-le-mul-left}
 use native.Mathlib.Omega.{arith}
-use borrow.Author.Tests.{lt-ltb, le-ltb, eq-eqb, ne-eqb, not-true, not-false}
+use borrow.Author.Tests.{lt-ltb, le-ltb, not-true, not-false}
 use lib.ListN.{length}
 use lib.Dec.{ltb, eqb, ltb→lt}
 use Rattle.error.specs.Refusal.{number, values}
 use Rattle.error.specs.declared.Refusal.{Refusal}
-use Rattle.arithmetic.specs.declared.amount.{Amount.Amount, CheckedAmount.CheckedAmount}
+use Rattle.arithmetic.specs.declared.amount.{Amount.Amount}
 use Rattle.arithmetic.specs.Amount.{value, halves, amountOf, sum}
 use Rattle.arithmetic.proofs.AmountLaws.{value-amountOf, value-below}
-use Rattle.arithmetic.proofs.Answers.{sum-is, sum-below, sum-over}
-use Rattle.units.specs.declared.{Shannons.Shannons, Tokens.Tokens}
-use Rattle.units.specs.Units.{inShannons, inTokens, shannonCount, tokenCount}
+use Rattle.arithmetic.proofs.Answers.{sum-is, sum-over}
+use Rattle.units.specs.declared.{Shannons.Shannons, CheckedShannons.CheckedShannons, Tokens.Tokens, CheckedTokens.CheckedTokens}
+use Rattle.units.specs.Units.{inShannons, inTokens, shannonCount, tokenCount, checkedShannons, checkedTokens}
+use Rattle.units.proofs.Answers.{shannons-is, shannons-isnt, tokens-is, tokens-isnt}
 use Rattle.molecule.specs.Molecule.{readable, option}
-use Rattle.molecule.specs.Layout.{itemCount, itemOf}
+use Rattle.molecule.specs.Layout.{itemCount}
 use Rattle.molecule.proofs.Offsets.{span-length}
 use Rattle.transaction.specs.Ckb.{Script, Transaction}
 use Rattle.transaction.specs.Tx.{txAt, rawField}
-use Rattle.rules.specs.Outcome.{Outcome, fine, refused, check, checkWith, given, _>>=_, _>>_}
+use Rattle.rules.specs.Outcome.{fine, check, checkWith, given, _>>=_, _>>_}
 use Rattle.rules.specs.Surplus.{isEmpty}
 use Rattle.rules.specs.Judge.{Figures}
 use Rattle.rules.proofs.CellLaws.{empty-is, ours-yes, ours-no}
 use Rattle.rules.proofs.Tests.{check-fine, fine-inj}
 use Rattle.funding_cell.specs.declared.{FundingRequest.FundingRequest, FundingCell.FundingCell}
-use Rattle.funding_cell.specs.FundingCell.{told, counted, cellOf, cellOfSums, fundingCell, buildFundingCell}
+use Rattle.funding_cell.specs.FundingCell.{told, counted, reserves, cellOf, cellOfSums, fundingCell, buildFundingCell}
 
--- ---- the remote figure
+-- ---- the figures that count
 
-pub counted-yes : (funded : Bool) (a : Amount) → funded ≡ true → value a ≡ counted funded (value a)
+pub counted-yes : (funded : Bool) (r : FundingRequest) → funded ≡ true → r ≡ counted funded r
 unfolding counted
-counted-yes funded a h = rw h
+counted-yes funded r h = rw h
 
-pub counted-no : (funded : Bool) (a : Amount) → funded ≡ false → value (halves 0 0) ≡ counted funded (value a)
+pub counted-no : (funded : Bool) (r : FundingRequest) → funded ≡ false
+    → record {
+      «local_amount» = r .«local_amount»;
+      «local_reserved_ckb_amount» = r .«local_reserved_ckb_amount»;
+      «remote_amount» = halves 0 0;
+      «remote_reserved_ckb_amount» = 0;
+    } ≡ counted funded r
 unfolding counted
-counted-no funded a h = rw h
+counted-no funded r h = rw h
+
+-- of them the cell is that of a funded request
+by-counted : (funded typed : Bool) (r : FundingRequest) → fundingCell true typed (counted funded r) ≡ fundingCell funded typed r
+unfolding fundingCell counted
+by-counted true typed r = refl
+by-counted false typed r = ap₂ (cellOfSums typed) (add-zero _) (add-zero _)
+
+module _ (funded typed : Bool) (r : FundingRequest) {s : FundingRequest} (es : s ≡ counted funded r) (x : FundingCell) where
+  told-counted : told x ≡ fundingCell true typed s → told x ≡ fundingCell funded typed r
+  told-counted e = e ∙ ap (fundingCell true typed) es ∙ by-counted funded typed r
+
+  pub cell-typed : typed ≡ true → told x ≡ fundingCell true true s → told x ≡ fundingCell funded typed r
+  cell-typed h e = told-counted (rw h e)
+
+  pub cell-untyped : typed ≡ false → told x ≡ fundingCell true false s → told x ≡ fundingCell funded typed r
+  cell-untyped h e = told-counted (rw h e)
 
 -- ---- a cell
 
@@ -68,71 +91,86 @@ module _ (c : Shannons) (t : Tokens) where
       let b : tokenCount t < 2 ^ 128 = unfold tokenCount in value-below (t .0) m k in
       rw (lt-ltb (shannonCount c) (2 ^ 64) (narrow l h), lt-ltb (tokenCount t) (2 ^ 128) b)
 
--- ---- a cell of two sums
+-- ---- sums of shannons
 
 -- what is over 2^128 is over 2^64
 over : (n : ℕ) → 2 ^ 128 ≤ n → 2 ^ 64 ≤ n
 over n h = let k : 1 ≤ 2 ^ 64 = omega arith in le-trans (mul-le-mul-left (2 ^ 64) k) h
 
-pub sums-typed : (typed : Bool) (a s : Amount) (r : FundingCell) → typed ≡ true → told r ≡ cellOf (shannonCount (inShannons s)) (tokenCount (inTokens a))
-    → told r ≡ cellOfSums typed (value a) (value s)
-unfolding cellOfSums shannonCount tokenCount
-sums-typed typed a s r h e = rw h e
+module _ (a b : Amount) {q : CheckedShannons} (e : q ≡ checkedShannons (sum a b)) where
+  shannons-sum : {c : Shannons} → q ≡ CheckedShannons.Fits c → shannonCount c ≡ value a + value b
+  unfolding shannonCount
+  shannons-sum f = ap value (sum-is a b refl (shannons-is (sum a b) e f)) ∙ value-amountOf _
 
-module _ (typed : Bool) (a s : Amount) (h : typed ≡ false) {q : CheckedAmount} (eq : q ≡ sum a s) where
-  pub sums-wide : q ≡ CheckedAmount.Overflow → told (FundingCell.Refused Refusal.OverflowError) ≡ cellOfSums typed (value a) (value s)
-  unfolding cellOfSums
-  sums-wide f = rw h (wide-capacity _ _ (over _ (sum-over a s eq f)))
+  shannons-over : q ≡ CheckedShannons.Overflow → 2 ^ 64 ≤ value a + value b
+  shannons-over f = over _ (sum-over a b refl (shannons-isnt (sum a b) e f))
 
-  pub sums-untyped : {n : Amount} (r : FundingCell) → q ≡ CheckedAmount.Fits n → told r ≡ cellOf (shannonCount (inShannons n)) (tokenCount (inTokens (halves 0 0)))
-      → told r ≡ cellOfSums typed (value a) (value s)
-  unfolding cellOfSums shannonCount tokenCount
-  sums-untyped {n} r f e = rw h (e ∙ ap (λ (k : ℕ). cellOf k 0) (ap value (sum-is a s eq f) ∙ value-amountOf _))
+pub reserves-are : (r : FundingRequest) {c d : Shannons} {q : CheckedShannons} → c ≡ inShannons (amountOf (r .«local_reserved_ckb_amount»))
+    → d ≡ inShannons (amountOf (r .«remote_reserved_ckb_amount»)) → q ≡ checkedShannons (sum (c .0) (d .0)) → q ≡ reserves r
+unfolding reserves
+reserves-are r ec ed e = e ∙ ap₂ (λ (c d : Shannons). checkedShannons (sum (c .0) (d .0))) ec ed
 
--- ---- the figures of a request
+-- ---- the cell of a funded request
 
-refused-amounts : (typed : Bool) (a s : ℕ) → 2 ^ 128 ≤ a → told (FundingCell.Refused Refusal.OverflowError) ≡ cellOfSums typed a s
-unfolding cellOfSums
-refused-amounts true a s h = wide-token s a h
-refused-amounts false a s h = wide-capacity (a + s) 0 (let k : 2 ^ 64 ≤ a = over a h in more a s k)
-  where
-    more : (a s : ℕ) → 2 ^ 64 ≤ a → 2 ^ 64 ≤ a + s
-    more a s k = omega arith
+abbrev amountSum : FundingRequest → ℕ
+amountSum r = value (r .«local_amount») + value (r .«remote_amount»)
 
-refused-reserves : (typed : Bool) (a s : ℕ) → 2 ^ 64 ≤ s → told (FundingCell.Refused Refusal.OverflowError) ≡ cellOfSums typed a s
-unfolding cellOfSums
-refused-reserves true a s h = wide-capacity s a h
-refused-reserves false a s h = wide-capacity (a + s) 0 (omega arith)
+abbrev reserveSum : FundingRequest → ℕ
+reserveSum r = r .«local_reserved_ckb_amount» + r .«remote_reserved_ckb_amount»
 
--- the remote figures by `counted`
-by-counted : (funded typed : Bool) (r : FundingRequest)
-    → cellOfSums typed (value (r .«local_amount») + counted funded (value (r .«remote_amount»))) (r .«local_reserved_ckb_amount» + counted funded (r .«remote_reserved_ckb_amount»))
-    ≡ fundingCell funded typed r
-unfolding fundingCell counted
-by-counted true typed r = refl
-by-counted false typed r = rw (add-zero, add-zero)
+module _ (r : FundingRequest) {p : CheckedShannons} (ep : p ≡ reserves r) where
+  reserve-values : value (amountOf (r .«local_reserved_ckb_amount»)) + value (amountOf (r .«remote_reserved_ckb_amount»)) ≡ reserveSum r
+  reserve-values = ap₂ _+_ (value-amountOf _) (value-amountOf _)
 
-module _ (funded typed : Bool) (r : FundingRequest) {p : CheckedAmount} (b : Amount) (eb : value b ≡ counted funded (value (r .«remote_amount»)))
-    (ep : p ≡ sum (r .«local_amount») b) where
-  sum-to : value (r .«local_amount») + value b ≡ value (r .«local_amount») + counted funded (value (r .«remote_amount»))
-  sum-to = ap (λ (n : ℕ). value (r .«local_amount») + n) eb
+  reserves-over : p ≡ CheckedShannons.Overflow → 2 ^ 64 ≤ reserveSum r
+  unfolding reserves
+  reserves-over f = rw reserve-values at (shannons-over _ _ ep f)
 
-  pub amounts-wide : p ≡ CheckedAmount.Overflow → told (FundingCell.Refused Refusal.OverflowError) ≡ fundingCell funded typed r
-  amounts-wide f = refused-amounts typed _ _ (rw eb at (sum-over _ _ ep f)) ∙ by-counted funded typed r
+  pub typed-reserves-wide : p ≡ CheckedShannons.Overflow → told (FundingCell.Refused Refusal.OverflowError) ≡ fundingCell true true r
+  unfolding fundingCell cellOfSums
+  typed-reserves-wide f = wide-capacity _ _ (reserves-over f)
 
-  module _ {a : Amount} (fp : p ≡ CheckedAmount.Fits a) {q : CheckedAmount} {c d : Amount} (e : Amount) (ec : c ≡ amountOf (r .«local_reserved_ckb_amount»)) (ed : d ≡ amountOf (r .«remote_reserved_ckb_amount»))
-      (ee : value e ≡ counted funded (value d)) (eq : q ≡ sum c e) where
-    amounts-are : value a ≡ value (r .«local_amount») + counted funded (value (r .«remote_amount»))
-    amounts-are = ap value (sum-is _ _ ep fp) ∙ value-amountOf _ ∙ sum-to
+  pub untyped-reserves-wide : p ≡ CheckedShannons.Overflow → told (FundingCell.Refused Refusal.OverflowError) ≡ fundingCell true false r
+  unfolding fundingCell cellOfSums
+  untyped-reserves-wide f = wide-capacity _ _ (more (amountSum r) (reserveSum r) (reserves-over f))
+    where
+      more : (a s : ℕ) → 2 ^ 64 ≤ s → 2 ^ 64 ≤ a + s
+      more a s k = omega arith
 
-    reserves-are : value c + value e ≡ r .«local_reserved_ckb_amount» + counted funded (r .«remote_reserved_ckb_amount»)
-    reserves-are = ap₂ _+_ (ap value ec ∙ value-amountOf _) (ee ∙ ap (counted funded) (ap value ed ∙ value-amountOf _))
+  module _ {s : Shannons} (fp : p ≡ CheckedShannons.Fits s) where
+    reserve-sum : shannonCount s ≡ reserveSum r
+    unfolding reserves
+    reserve-sum = shannons-sum _ _ ep fp ∙ reserve-values
 
-    pub reserves-wide : q ≡ CheckedAmount.Overflow → told (FundingCell.Refused Refusal.OverflowError) ≡ fundingCell funded typed r
-    reserves-wide f = refused-reserves typed _ _ (rw reserves-are at (over _ (sum-over c e eq f))) ∙ by-counted funded typed r
+    module _ {q : CheckedTokens} (eq : q ≡ checkedTokens (sum (r .«local_amount») (r .«remote_amount»))) where
+      pub typed-amounts-wide : q ≡ CheckedTokens.Overflow → told (FundingCell.Refused Refusal.OverflowError) ≡ fundingCell true true r
+      unfolding fundingCell cellOfSums
+      typed-amounts-wide f = wide-token _ _ (sum-over _ _ refl (tokens-isnt _ eq f))
 
-    pub figures-are : {s : Amount} (x : FundingCell) → q ≡ CheckedAmount.Fits s → told x ≡ cellOfSums typed (value a) (value s) → told x ≡ fundingCell funded typed r
-    figures-are {s} x f h = h ∙ ap₂ (cellOfSums typed) amounts-are (ap value (sum-is c e eq f) ∙ value-amountOf _ ∙ reserves-are) ∙ by-counted funded typed r
+      pub typed-is : {t : Tokens} (x : FundingCell) → q ≡ CheckedTokens.Fits t → told x ≡ cellOf (shannonCount s) (tokenCount t) → told x ≡ fundingCell true true r
+      unfolding fundingCell cellOfSums tokenCount
+      typed-is x f e = e ∙ ap₂ cellOf reserve-sum (ap value (sum-is _ _ refl (tokens-is _ eq f)) ∙ value-amountOf _)
+
+    module _ {q : CheckedShannons} (eq : q ≡ checkedShannons (sum (r .«local_amount») (r .«remote_amount»))) where
+      pub untyped-amounts-wide : q ≡ CheckedShannons.Overflow → told (FundingCell.Refused Refusal.OverflowError) ≡ fundingCell true false r
+      unfolding fundingCell cellOfSums
+      untyped-amounts-wide f = wide-capacity _ _ (more (amountSum r) (reserveSum r) (shannons-over _ _ eq f))
+        where
+          more : (a s : ℕ) → 2 ^ 64 ≤ a → 2 ^ 64 ≤ a + s
+          more a s k = omega arith
+
+      module _ {a : Shannons} (fq : q ≡ CheckedShannons.Fits a) {z : CheckedShannons} (ez : z ≡ checkedShannons (sum (a .0) (s .0))) where
+        all-sum : shannonCount a + shannonCount s ≡ amountSum r + reserveSum r
+        all-sum = ap₂ _+_ (shannons-sum _ _ eq fq) reserve-sum
+
+        pub untyped-wide : z ≡ CheckedShannons.Overflow → told (FundingCell.Refused Refusal.OverflowError) ≡ fundingCell true false r
+        unfolding fundingCell cellOfSums shannonCount
+        untyped-wide f = wide-capacity _ _ (rw all-sum at (shannons-over _ _ ez f))
+
+        pub untyped-is : {c : Shannons} (x : FundingCell) → z ≡ CheckedShannons.Fits c → told x ≡ cellOf (shannonCount c) (tokenCount (inTokens (halves 0 0)))
+            → told x ≡ fundingCell true false r
+        unfolding fundingCell cellOfSums shannonCount tokenCount
+        untyped-is x f e = e ∙ ap (λ (n : ℕ). cellOf n 0) (shannons-sum _ _ ez f ∙ all-sum)
 
 -- what a caller may rely on: the capacity of a cell is a number of 64 bits
 of-cell : (c t : ℕ) (f : Figures) → cellOf c t ≡ fine f → f .capacity < 2 ^ 64
@@ -143,7 +181,7 @@ of-cell c t f e =
     subst (λ (x : Figures). x .capacity < 2 ^ 64) (fine-inj e₂) (ltb→lt c (2 ^ 64) narrow)
 
 pub capacity-low : (funded typed : Bool) (r : FundingRequest) (f : Figures) → fundingCell funded typed r ≡ fine f → f .capacity < 2 ^ 64
-unfolding cellOfSums
+unfolding fundingCell cellOfSums
 capacity-low funded true r f e = of-cell _ _ f (by-counted funded true r ∙ e)
 capacity-low funded false r f e = of-cell _ _ f (by-counted funded false r ∙ e)
 

@@ -5,8 +5,9 @@ use Prim.Native.Nat.{ℕ, _+_, _^_}
 use mathlib.Core.Bool.{Bool, true, false, not, cond}
 use mathlib.Core.List.{List}
 use lib.Dec.{ltb}
-use Rattle.arithmetic.specs.Amount.{value}
-use Rattle.units.specs.Units.{shannonCount, tokenCount}
+use Rattle.arithmetic.specs.Amount.{value, halves, amountOf, sum}
+use Rattle.units.specs.declared.CheckedShannons.{CheckedShannons}
+use Rattle.units.specs.Units.{shannonCount, tokenCount, checkedShannons}
 use Rattle.molecule.specs.Molecule.{readable, option}
 use Rattle.transaction.specs.Ckb.{Script}
 use Rattle.rules.specs.Outcome.{Outcome, fine, check, given, _>>=_, _>>_}
@@ -48,7 +49,16 @@ buildFundingCell oursBytes type request = do
 
 -- ---- what the functions inside promise one another
 
--- a remote figure, 0 where it does not count
-unfoldable pub counted : Bool → ℕ → ℕ
-counted true remote = remote
-counted false remote = 0
+-- the request with the figures that count: unfunded, the remote ones are 0
+unfoldable pub counted : Bool → FundingRequest → FundingRequest
+counted true r = r
+counted false r = record {
+  «local_amount» = r .«local_amount»;
+  «local_reserved_ckb_amount» = r .«local_reserved_ckb_amount»;
+  «remote_amount» = halves 0 0;
+  «remote_reserved_ckb_amount» = 0;
+}
+
+-- the sum of the reserves
+unfoldable pub reserves : FundingRequest → CheckedShannons
+reserves r = checkedShannons (sum (amountOf (r .«local_reserved_ckb_amount»)) (amountOf (r .«remote_reserved_ckb_amount»)))

@@ -1,14 +1,15 @@
 // The funding cell that both sides pay into: its capacity and its token amount.
 use arithmetic::Amount;
-use arithmetic::CheckedAmount;
 use error::Refusal;
 use transaction::fields;
+use units::CheckedShannons;
+use units::CheckedTokens;
 use units::Shannons;
 use units::Tokens;
 ghost use mathlib.Core.Path.{_≡_};
-ghost use Rattle.arithmetic.specs.Amount.{value};
+ghost use mathlib.Core.Bool.{true, false};
 ghost use Rattle.units.specs.Units.{shannonCount, tokenCount};
-ghost use Rattle.funding_cell.specs.FundingCell.{told, counted, cellOf, cellOfSums, fundingCell, buildFundingCell};
+ghost use Rattle.funding_cell.specs.FundingCell.{told, counted, reserves, cellOf, fundingCell, buildFundingCell};
 
 // What each side is to bring: an amount, of shannons where the channel is untyped and else of the token, and a reserve in shannons.
 pub struct FundingRequest {
@@ -24,14 +25,20 @@ pub enum FundingCell {
     Refused(Refusal),
 }
 
-// A figure of the remote side, 0 while the present transaction has no outputs.
-fn counted(funded: bool, remote: Amount) -> Amount
-    ensures { λ r. ⌜ value r ≡ counted funded (value remote) ⌝ }
+// The request with the figures that count: those of the remote side are 0 while the present transaction has no outputs.
+fn counted(funded: bool, request: FundingRequest) -> FundingRequest
+    ensures { λ r. ⌜ r ≡ counted funded request ⌝ }
 {
     if funded {
-        return remote;
+        return request;
     }
-    Amount::ZERO
+    let local_amount = request.local_amount;
+    FundingRequest {
+        local_amount,
+        local_reserved_ckb_amount: request.local_reserved_ckb_amount,
+        remote_amount: Amount::ZERO,
+        remote_reserved_ckb_amount: 0,
+    }
 }
 
 // A cell of so many shannons and tokens, if its capacity is a number of 64 bits.
@@ -45,16 +52,48 @@ fn cell_of(capacity: Shannons, token: Tokens) -> FundingCell
     FundingCell::Cell { capacity, token }
 }
 
-// Typed, amounts are tokens and reserves are capacity; untyped, all is capacity.
-fn cell_of_sums(typed: bool, amounts: Amount, reserves: Amount) -> FundingCell
-    ensures { λ r. ⌜ told r ≡ cellOfSums typed (value amounts) (value reserves) ⌝ }
+// The reserves of both sides, which are capacity in either kind of channel.
+fn reserves(request: FundingRequest) -> CheckedShannons
+    ensures { λ r. ⌜ r ≡ reserves request ⌝ }
 {
-    if typed {
-        return cell_of(Shannons(reserves), Tokens(amounts));
+    let local = Shannons::from_u64(request.local_reserved_ckb_amount);
+    let remote = Shannons::from_u64(request.remote_reserved_ckb_amount);
+    local.checked_add(remote)
+}
+
+// The cell where all figures of the request count. Typed, the reserves are its capacity, and amounts are tokens.
+fn typed_cell(request: FundingRequest) -> FundingCell
+    ensures { λ r. ⌜ told r ≡ fundingCell true true request ⌝ }
+{
+    let capacity = match reserves(request) {
+        CheckedShannons::Fits(capacity) => capacity,
+        CheckedShannons::Overflow => return FundingCell::Refused(Refusal::OverflowError),
+    };
+    let local = request.local_amount;
+    let remote = request.remote_amount;
+    match Tokens(local).checked_add(Tokens(remote)) {
+        CheckedTokens::Fits(token) => cell_of(capacity, token),
+        CheckedTokens::Overflow => FundingCell::Refused(Refusal::OverflowError),
     }
-    match amounts.checked_add(reserves) {
-        CheckedAmount::Fits(all) => cell_of(Shannons(all), Tokens::ZERO),
-        CheckedAmount::Overflow => FundingCell::Refused(Refusal::OverflowError),
+}
+
+// Untyped, amounts are capacity too.
+fn untyped_cell(request: FundingRequest) -> FundingCell
+    ensures { λ r. ⌜ told r ≡ fundingCell true false request ⌝ }
+{
+    let reserved = match reserves(request) {
+        CheckedShannons::Fits(reserved) => reserved,
+        CheckedShannons::Overflow => return FundingCell::Refused(Refusal::OverflowError),
+    };
+    let local = request.local_amount;
+    let remote = request.remote_amount;
+    let amounts = match Shannons(local).checked_add(Shannons(remote)) {
+        CheckedShannons::Fits(amounts) => amounts,
+        CheckedShannons::Overflow => return FundingCell::Refused(Refusal::OverflowError),
+    };
+    match amounts.checked_add(reserved) {
+        CheckedShannons::Fits(capacity) => cell_of(capacity, Tokens::ZERO),
+        CheckedShannons::Overflow => FundingCell::Refused(Refusal::OverflowError),
     }
 }
 
@@ -62,19 +101,11 @@ fn cell_of_sums(typed: bool, amounts: Amount, reserves: Amount) -> FundingCell
 pub fn funding_cell(funded: bool, typed: bool, request: FundingRequest) -> FundingCell
     ensures { λ r. ⌜ told r ≡ fundingCell funded typed request ⌝ }
 {
-    let local = request.local_amount;
-    let remote = counted(funded, request.remote_amount);
-    let amounts = match local.checked_add(remote) {
-        CheckedAmount::Fits(amounts) => amounts,
-        CheckedAmount::Overflow => return FundingCell::Refused(Refusal::OverflowError),
-    };
-    let local_reserved = Amount::from_u64(request.local_reserved_ckb_amount);
-    let remote_reserved = counted(funded, Amount::from_u64(request.remote_reserved_ckb_amount));
-    let reserves = match local_reserved.checked_add(remote_reserved) {
-        CheckedAmount::Fits(reserves) => reserves,
-        CheckedAmount::Overflow => return FundingCell::Refused(Refusal::OverflowError),
-    };
-    cell_of_sums(typed, amounts, reserves)
+    let figures = counted(funded, request);
+    if typed {
+        return typed_cell(figures);
+    }
+    untyped_cell(figures)
 }
 
 // The same by the lent bytes: our present transaction (empty: none), refused with 1 where it is unreadable, and the type script (empty: untyped), with 3.

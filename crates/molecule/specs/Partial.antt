@@ -1,4 +1,4 @@
--- Results that may be missing.
+-- Ours: results that may be missing, with which the definitions of RFC 0008 (Molecule.antt) and those above them are written.
 use mathlib.Core.Bool.{Bool, true, false}
 use mathlib.Core.Option.{Option, none, some}
 use mathlib.Core.List.{List, [], _∷_}

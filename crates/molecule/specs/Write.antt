@@ -1,4 +1,4 @@
--- What a write at a place does to a lent buffer.
+-- What a write at a place does to a lent buffer (ours: docs/DECISIONS.md, "Writers").
 use mathlib.Core.Path.{_≡_}
 use Prim.Native.Nat.{ℕ, _+_, _≤_}
 use mathlib.Core.Bool.{cond}

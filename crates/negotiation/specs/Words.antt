@@ -1,4 +1,4 @@
--- The answers to updates in words of 64 bits, five for each.
+-- The answers to updates in words of 64 bits, five for each (ours: docs/DECISIONS.md, "Lists of updates").
 use Prim.Native.Nat.{ℕ}
 use mathlib.Core.List.{List, [], _∷_, _++_}
 use Rattle.rules.specs.Outcome.{Outcome}

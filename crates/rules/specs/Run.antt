@@ -1,4 +1,4 @@
--- A list of calls: each is judged against the transaction in force that the one before left.
+-- A list of calls (docs/RULES.md, "The three demands", 3, and "What the peer put in"): each is judged against the transaction in force that the one before left.
 use Prim.Native.Nat.{ℕ, _+_}
 use mathlib.Core.Path.{_≡_}
 use mathlib.Core.List.{List, [], _∷_, _++_, map}

@@ -1,4 +1,5 @@
--- What an entry owes for each acceptance, so that the law over lists of updates holds of it: a step.
+-- What an entry owes for each acceptance, so that the law over lists of updates (docs/RULES.md, "The three demands", 3) holds of it: a step (ours: docs/DECISIONS.md,
+-- "A peer's update").
 use mathlib.Core.Path.{_≡_}
 use Prim.Native.Nat.{ℕ, _+_}
 use mathlib.Core.List.{List, [], _∷_}

@@ -1,4 +1,4 @@
--- What the peer put in: figures of cells, added outputs, and the surplus in whole numbers.
+-- Figures of cells, added outputs, and the surplus in whole numbers (docs/RULES.md, "What the peer put in").
 use Prim.Native.Nat.{ℕ, _+_, _-_, max}
 use mathlib.Core.Bool.{Bool, true, false, cond}
 use mathlib.Core.List.{List, [], _∷_}

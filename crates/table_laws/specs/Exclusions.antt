@@ -1,4 +1,5 @@
--- A list of calls on a lent exclusion map. Each step has what the contract of the call (crates/exclusions/src/lib.rt) says of it.
+-- A list of calls on a lent exclusion map (docs/RULES.md, "Holds and exclusions"). Each step has what the contract of the call says of it: that of `commit` stands in
+-- crates/exclusion_marks/src/lib.rt, the others in crates/exclusions/src/lib.rt.
 use mathlib.Core.Path.{_≡_}
 use Prim.Native.Nat.{ℕ, suc, _≤_}
 use mathlib.Core.Bool.{Bool, true, false, not, cond}

@@ -14,7 +14,7 @@ use Rattle.molecule.proofs.ItemsLaws.{length-join, length-unwords}
 use Rattle.molecule.proofs.WriteLaws.{did, then, and-put, as-bytes, length-kept}
 use Rattle.list_writer.proofs.HeadLaws as lists
 use Rattle.list_writer.proofs.HeadLaws.{cap-next}
-use Rattle.transaction_writer.specs.Written.{rawBytes, txBytes, txHead, fits, putHead, headEnd, rawSize, txSize}
+use Rattle.transaction_writer.specs.Written.{rawBytes, txBytes, txHead, fits, putHead, headEnd, txSize}
 
 -- ---- words
 
@@ -131,6 +131,9 @@ module _ (v a b c d e f : ℕ) where
   put-headers p q r = then (then p q) r
 
 -- ---- the raw transaction: a table of six fields, of which the first has four bytes
+
+abbrev pub rawSize : List ℕ → List ℕ → List ℕ → List ℕ → List ℕ → ℕ
+rawSize a b c d e = 32 + length a + length b + length c + length d + length e
 
 module _ (v : ℕ) (a b c d e : List ℕ) where
   six-length : length (flatten (toLe 4 v ∷ a ∷ b ∷ c ∷ d ∷ e ∷ [])) ≡ 4 + length a + length b + length c + length d + length e

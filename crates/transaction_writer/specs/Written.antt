@@ -56,9 +56,6 @@ writes right refusal bytes out =
 unfoldable pub leaves : Bool → List ℕ → List ℕ → List ℕ
 leaves right bytes out = cond (right && fits (length bytes) (length out)) (bytes ++ drop (length bytes) out) out
 
--- how long they are
-abbrev pub rawSize : List ℕ → List ℕ → List ℕ → List ℕ → List ℕ → ℕ
-rawSize a b c d e = 32 + length a + length b + length c + length d + length e
-
+-- how long a transaction is
 abbrev pub txSize : List ℕ → List ℕ → List ℕ → List ℕ → List ℕ → List ℕ → ℕ
 txSize a b c d e f = 44 + length a + length b + length c + length d + length e + length f

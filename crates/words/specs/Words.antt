@@ -1,4 +1,4 @@
--- How an answer crosses to C: as its number, and as four words that are set at the start of a lent array.
+-- How an answer crosses to C (ours: docs/DECISIONS.md, "The C interface"): as its number, and as four words that are set at the start of a lent array.
 use Prim.Native.Nat.{ℕ, _/_, _%_, _^_}
 use mathlib.Core.Bool.{cond}
 use mathlib.Core.List.{List, [], _∷_, _++_}

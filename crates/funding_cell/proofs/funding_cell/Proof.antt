@@ -7,16 +7,7 @@ funding-cell-spec =
     tie.close
     (tie.spec
     (λ c κs. search ways)  -- counted-requires
-    (λ c κs. search ways)  -- checked-add-requires
-    (λ c. search ways)  -- enum-known-amounts
-    (λ c. search ways)  -- enum-told
+    (λ c κs. search ways)  -- typed-cell-requires
     (λ c. search ways)  -- returns
-    (λ c κs. search ways)  -- from-u64-requires
-    (λ c κs. search ways)  -- from-u64-requires-2
-    (λ c κs. search ways)  -- counted-requires-2
-    (λ c κs. search ways)  -- checked-add-requires-2
-    (λ c. search ways)  -- enum-known-reserves
-    (λ c. search ways)  -- enum-told-2
-    (λ c. search ways)  -- returns-2
-    (λ c κs. search ways)  -- cell-of-sums-requires
-    (λ c. search ways))  -- returns-3
+    (λ c κs. search ways)  -- untyped-cell-requires
+    (λ c. search ways))  -- returns-2
