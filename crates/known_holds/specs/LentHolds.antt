@@ -12,8 +12,8 @@ use Rattle.hold_records.specs.Holds.{holdFunding, holdForWatchtower, releaseFor
 use Rattle.table_bytes.specs.Lent.{After, lentTable, lentWith, lentWithTwo, lentRead}
 use Rattle.held_bytes.specs.HeldBytes.{heldOf, heldBytes}
 use Rattle.known_cases.specs.Rows.{Row, _gives_}
-use Rattle.known_cases.specs.Cases.{ms, room}
-use Rattle.known_holds.specs.Holds.{cell, A, B, C, funding, tower, of1, of2, none, noList}
+use Rattle.known_cases.specs.Cases.{ms, point, room}
+use Rattle.known_holds.specs.Holds.{A, B, C, funding, tower, of1, of2, none, noList}
 
 -- ---- the calls on bytes s
 
@@ -67,7 +67,7 @@ abbrev pub zeros : ℕ → List ℕ
 zeros n = toLe 4 n ++ replicate 12288 0
 
 abbrev pub ofZeros : ℕ → List Hold
-ofZeros n = replicate n (funding 0 (cell 0))
+ofZeros n = replicate n (funding 0 (point 0))
 
 -- bytes that are no table: one less, and one more
 abbrev shorter : List ℕ
@@ -147,7 +147,7 @@ abbrev pub naming : List (Row (ℕ × List ℕ))
 naming =
     (named two (pointList (C ∷ B ∷ A ∷ B ∷ [])) (of1 C) 999 (room 112) gives (0, pointList (C ∷ B ∷ A ∷ [])))
     ∷ (named two (pointList (C ∷ B ∷ A ∷ B ∷ [])) (of1 C) 1000 (room 112) gives (0, of2 C B ++ room 36))
-    ∷ (named (zeros 257) (of2 A (cell 0)) none 1000 (room 40) gives (0, of1 (cell 0)))
+    ∷ (named (zeros 257) (of2 A (point 0)) none 1000 (room 40) gives (0, of1 (point 0)))
     -- 13
     ∷ (named two (of1 B) none 1000 (room 39) gives (13, room 39))
     -- 3, bytes of another length, or either list

@@ -6,12 +6,8 @@ use lib.ListN.{length, take, replicate}
 use Rattle.arithmetic.specs.LittleEndian.{toLe}
 use Rattle.case_file.specs.CaseFile.{caseLine}
 use Rattle.known_cases.specs.Rows.{Row, _gives_}
-use Rattle.known_cases.specs.Cases.{inputs, plain, spending, usual, cell, notLive}
+use Rattle.known_cases.specs.Cases.{plain, bare, usual, cell, notLive}
 use Rattle.known_outcomes.specs.CaseFiles.{ascii, file}
-
--- so many inputs, and nothing else
-abbrev bare : ℕ → List ℕ
-bare n = spending (inputs n) [] []
 
 -- bytes that are no transaction and no script
 abbrev unreadable : List ℕ
