@@ -13,13 +13,23 @@ use Rattle.exclusion_entries.specs.LentMap.{left}
 use Rattle.known_cases.specs.Rows.{AllRight}
 use Rattle.known_cases.specs.Cases.{bare}
 use Rattle.known_cases.proofs.Rows.{_and_, done}
-use Rattle.known_exclusions.specs.Exclusions.{add, commit, zeros, lent, hash, room, listed, pendingOf, committedOf, transactions, pending7, committed7, two, three, twice, excludedBy, noMap, unread, full, works, doubled, lists}
+use Rattle.known_exclusions.specs.Exclusions.{add, commit, zeros, lent, hash, room, listed, pendingOf, committedOf, transactions, pending7, committed7, one, two, three, twice, excludedBy, noMap, unread, full, works, doubled, lists}
 use Rattle.known_exclusions.proofs.Computing.{computing}
 use Rattle.known_exclusions.proofs.LentLaws.{Holds, add-on, commit-on, remove-on, truncate-on, migrate-on, apply-on, left-holds, zeros-hold, lent-holds, pending-fits, committed-fits, transactions-fit}
 
 pub known-no-map : AllRight noMap
 unfolding computing
 known-no-map = refl and refl and refl and refl and refl and refl and refl and refl and refl and refl and done
+
+-- ---- maps with entries
+
+one-holds : Holds (lent one) one
+unfolding computing
+one-holds = lent-holds one (leb-true _ _ refl) (leb-true _ _ refl) (pending-fits 7 1 (omega arith) (omega arith), tt)
+
+two-hold : Holds (lent two) two
+unfolding computing
+two-hold = lent-holds two (leb-true _ _ refl) (leb-true _ _ refl) (committed-fits 7 1 2 (omega arith) (omega arith) (omega arith), (pending-fits 5 1 (omega arith) (omega arith), tt))
 
 pub known-unread : AllRight unread
 unfolding computing
@@ -33,9 +43,8 @@ known-unread =
     and refl
     and migrate-on zeros-hold (replicate 31 0) (hash 8) (bare 2) refl
     and migrate-on zeros-hold (hash 7) (replicate 33 0) (bare 2) refl
+    and migrate-on two-hold (hash 7) [] [] refl
     and done
-
--- ---- maps with entries
 
 full-63 : Holds (lent (transactions 63)) (transactions 63)
 unfolding computing
@@ -73,10 +82,6 @@ known-full =
     and migrate-on wide-512 (hash 1) (hash 2) (bare 1) refl
     and migrate-on wide-two (hash 3) (hash 2) (bare 1) refl
     and done
-
-two-hold : Holds (lent two) two
-unfolding computing
-two-hold = lent-holds two (leb-true _ _ refl) (leb-true _ _ refl) (committed-fits 7 1 2 (omega arith) (omega arith) (omega arith), (pending-fits 5 1 (omega arith) (omega arith), tt))
 
 three-hold : Holds (lent three) three
 unfolding computing
@@ -119,7 +124,7 @@ known-doubled = add-on twice-hold (hash 7) (bare 0) refl and commit-on twice-hol
 
 pub known-lists : AllRight lists
 unfolding computing
-known-lists = refl and apply-on two-hold (room 2) and apply-on two-hold (room 4) and apply-on zeros-hold [] and apply-on zeros-hold (room 0) and done
+known-lists = refl and apply-on two-hold (room 2) and apply-on one-holds (replicate 39 165) and apply-on two-hold (room 4) and apply-on zeros-hold [] and apply-on zeros-hold (room 0) and done
 
 -- ---- the starred ones
 

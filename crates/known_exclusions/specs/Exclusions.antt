@@ -79,7 +79,10 @@ pending7 = pendingOf 7 2 ∷ []
 abbrev pub committed7 : List Entry
 committed7 = committedOf 7 100 2 ∷ []
 
--- two transactions, the first committed
+-- one transaction with one out point; two, the first committed
+abbrev pub one : List Entry
+one = pendingOf 7 1 ∷ []
+
 abbrev pub two : List Entry
 two = committedOf 7 1 2 ∷ pendingOf 5 1 ∷ []
 
@@ -153,6 +156,8 @@ unread =
     ∷ (migrate zeros [] [] unreadable gives refused 1 zeros)
     ∷ (migrate zeros (replicate 31 0) (hash 8) (bare 2) gives refused 3 zeros)
     ∷ (migrate zeros (hash 7) (replicate 33 0) (bare 2) gives refused 3 zeros)
+    -- by no transaction too, which enters nothing under the new hash: the old entry stays
+    ∷ (migrate (lent two) (hash 7) [] [] gives refused 3 (lent two))
     ∷ []
 
 -- 64 transactions and 512 out points, 65 and 513; a transaction that is entered again, or goes, leaves room
@@ -207,6 +212,7 @@ abbrev pub lists : List (Row (ℕ × List ℕ))
 lists =
     (apply [] (room 1) gives (3, room 1))
     ∷ (apply (lent two) (room 2) gives (13, room 2))
+    ∷ (apply (lent one) (replicate 39 165) gives (13, replicate 39 165))
     ∷ (apply (lent two) (room 4) gives (0, pointList (point 0 ∷ point 1 ∷ point 0 ∷ []) ++ replicate 36 165))
     ∷ (apply zeros [] gives (13, []))
     ∷ (apply zeros (room 0) gives (0, toLe 4 0))
