@@ -13,12 +13,12 @@ known-returning =
 
 pub known-locking : AllRight locking
 unfolding computing
-known-locking = refl and refl and refl and done
+known-locking = refl and refl and refl and refl and done
 
 pub known-taking : AllRight taking
 unfolding computing
 known-taking =
-    refl and refl and refl and refl and refl and refl and refl and refl
+    refl and refl and refl and refl and refl and refl and refl and refl and refl and refl
     and refl and refl and refl and refl and refl and refl and refl and refl and done
 
 pub known-naming : AllRight naming

@@ -23,7 +23,7 @@ known-released = refl and refl and refl and release-zeros 257 (of1 A) and refl a
 
 pub known-locked : AllRight locked
 unfolding computing
-known-locked = refl and refl and refl and lock-zeros 257 1000 (room 9220) and refl and lock-zeros 257 1000 (room 9219) and refl and refl and done
+known-locked = refl and refl and refl and lock-zeros 257 1000 (room 9220) and refl and refl and lock-zeros 257 1000 (room 9219) and refl and refl and done
 
 pub known-named : AllRight naming
 unfolding computing
@@ -38,6 +38,7 @@ known-taken =
     and takes-zeros 255 (of1 A) none (Taker.Funding 1) 1000 (room 40) (room 4)
     and takes-zeros 255 (of2 A B) none (Taker.Funding 1) 1000 (room 76) (room 4)
     and takes-zeros 257 (of1 A) none (Taker.Funding 1) 1000 (room 40) (room 4)
+    and refl
     and refl
     and refl
     and refl

@@ -81,6 +81,10 @@ returning =
 
 -- ---- `lock_held`, with the buffer
 
+-- an ended record alone, and beside another
+abbrev ended : Held
+ended = holdsOf (tower 1000 A ∷ [])
+
 abbrev twoHeld : Held
 twoHeld = holdsOf (tower 1000 A ∷ funding 7 B ∷ [])
 
@@ -91,6 +95,7 @@ locking =
     ∷ (lockHeld twoHeld (ms 1000) (room 80) gives (done (funding 7 B ∷ []), of1 B ++ room 40))
     -- 13, and then nothing is dropped
     ∷ (lockHeld twoHeld (ms 1000) (room 39) gives (refused 13 twoHeld, room 39))
+    ∷ (lockHeld ended (ms 1000) (room 3) gives (refused 13 ended, room 3))
     ∷ []
 
 -- ---- `take`, with both buffers
@@ -118,8 +123,10 @@ taking =
     -- 13 comes before 14: no room for the taken ones, or for the refused ones
     ∷ (takeCells (holdsOf (others 256)) (of1 A) none (Taker.Funding 1) (ms 1000) (room 39) (room 40) gives (refused 13 (holdsOf (others 256)), room 39, room 40))
     ∷ (takeCells (holdsOf (others 256)) (of1 (point 0)) none (Taker.Funding 1) (ms 1000) (room 40) (room 39) gives (refused 13 (holdsOf (others 256)), room 40, room 39))
-    -- and then an ended record stays
-    ∷ (takeCells (holdsOf (tower 1000 B ∷ [])) (of1 A) none Taker.Watchtower (ms 1000) (room 4) (room 4) gives (refused 13 (holdsOf (tower 1000 B ∷ [])), room 4, room 4))
+    -- and then an ended record stays; also where nothing is picked, and there is no room for an empty list
+    ∷ (takeCells ended (of1 B) none Taker.Watchtower (ms 1000) (room 4) (room 4) gives (refused 13 ended, room 4, room 4))
+    ∷ (takeCells ended none none Taker.Watchtower (ms 1000) (room 3) (room 4) gives (refused 13 ended, room 3, room 4))
+    ∷ (takeCells ended none none Taker.Watchtower (ms 1000) (room 4) (room 3) gives (refused 13 ended, room 4, room 3))
     -- 3 before all, of either list
     ∷ (takeCells twoHeld noList none (Taker.Funding 1) (ms 1000) (room 3) (room 3) gives (refused 3 twoHeld, room 3, room 3))
     ∷ (takeCells twoHeld (of1 A) noList (Taker.Funding 1) (ms 1000) (room 3) (room 3) gives (refused 3 twoHeld, room 3, room 3))
