@@ -5,6 +5,7 @@ use mathlib.Core.List.{List, [], _∷_, _++_}
 use mathlib.Core.Option.{none, some}
 use lib.ListN.{replicate}
 use Rattle.arithmetic.specs.LittleEndian.{toLe}
+use Rattle.molecule.specs.Items.{join}
 use Rattle.molecule.specs.Molecule.{Value, option, encode}
 use Rattle.transaction.specs.Ckb.{CellOutput, Record, Records}
 use Rattle.rules.specs.Judge.{Call}
@@ -26,6 +27,10 @@ outless version ds is = transaction version (deps ds) [] (inputs is) [] [] []
 -- bytes that are no transaction, no script and no records
 abbrev unreadable : List ℕ
 unreadable = 0 ∷ []
+
+-- code hash, hash type, args and a fourth field, of no bytes
+abbrev fourFields : List ℕ
+fourFields = join (replicate 32 1 ∷ (0 ∷ []) ∷ toLe 4 0 ∷ [] ∷ [])
 
 -- ours and the peer's under a lock, a type and a source lock, no record
 abbrev under : List ℕ → List ℕ → List ℕ → List ℕ → List ℕ → Case
@@ -98,6 +103,13 @@ comparison =
     ∷ (answer (untyped [] (opening (output 3 none 100) [])) gives 5 ∷ [])
     ∷ (answer (untyped [] (opening (token 100) [])) gives 5 ∷ [])
     ∷ (answer (untyped [] (opening (plain 100) (1 ∷ []))) gives 5 ∷ [])
+    ∷ []
+
+-- which bytes are a script
+abbrev scripts : List (Row (List ℕ))
+scripts =
+    -- our source lock with a fourth field; not accepted, as by a reader that passes over further fields
+    (answer (under expectedLock [] fourFields usual usual) gives 3 ∷ [])
     ∷ []
 
 -- which data are an amount, and how much it may be
@@ -174,4 +186,4 @@ order =
     ∷ []
 
 abbrev pub orders : List (Row (List ℕ))
-orders = limits ++ comparison ++ amounts ++ fee ++ order
+orders = limits ++ comparison ++ scripts ++ amounts ++ fee ++ order
