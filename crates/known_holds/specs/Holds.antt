@@ -1,8 +1,9 @@
 -- The calls on the table of holds by value worked through: an example of each answer and of each sentence of docs/RULES.md ("Holds and exclusions") about them, with the whole table
 -- and the whole buffers after the call. proofs/KnownHolds.antt proves all rows.
-use Prim.Native.Nat.{ℕ, _-_, _^_}
+use Prim.Native.Nat.{ℕ, _-_, _*_, _^_}
 use mathlib.Core.List.{List, [], _∷_, _++_}
 use lib.ListN.{replicate}
+use Rattle.arithmetic.specs.LittleEndian.{toLe}
 use Rattle.out_points.specs.declared.{OutPoint.OutPoint}
 use Rattle.out_points.specs.OutPoints.{pointList}
 use Rattle.out_points.specs.Tables.{Outcome, done, refused}
@@ -33,7 +34,7 @@ tower end p = heldBy (Owner.Watchtower (ms end)) p
 abbrev others : ℕ → List Hold
 others n = replicate n (funding 5 (point 0))
 
--- lists of cells; and bytes that are none, a count with no items
+-- lists of cells; and bytes that are none: a count with no items, and 119,304,647 items
 abbrev pub of1 : OutPoint → List ℕ
 of1 p = pointList (p ∷ [])
 
@@ -45,6 +46,9 @@ none = pointList []
 
 abbrev pub noList : List ℕ
 noList = 1 ∷ 0 ∷ 0 ∷ 0 ∷ []
+
+abbrev pub tooLong : List ℕ
+tooLong = toLe 4 119304647 ++ replicate (36 * 119304647) 0
 
 -- ---- calls that return the table
 
@@ -78,6 +82,10 @@ returning =
     ∷ (releaseForWatchtower (holdsOf (tower 5 A ∷ funding 7 A ∷ tower 5 B ∷ [])) (of2 A C) gives done (funding 7 A ∷ tower 5 B ∷ []))
     ∷ (releaseForWatchtower (holdsOf (tower 5 A ∷ [])) noList gives refused 3 (holdsOf (tower 5 A ∷ [])))
     ∷ []
+
+-- 2^32 bytes: 3, though they are a list by their count
+abbrev pub long : List (Row (Outcome Held (List Hold)))
+long = (holdFunding (holdsOf []) 1 tooLong gives refused 3 (holdsOf [])) ∷ []
 
 -- ---- `lock_held`, with the buffer
 
