@@ -64,7 +64,7 @@ supplied cells = typed cells (depList (dep 0 ∷ [])) (encode CellDep (dep 1))
 
 -- from a transaction of ours with a version, deps, a header dep, three inputs, two outputs after 0, the last without data, and a witness; two cells, and the same deps
 abbrev grown : List ℕ
-grown = transaction 1 (dep 0 ∷ dep 3 ∷ []) (header 9 ∷ []) (inputs 3) (token 100 ∷ plain 61 ∷ plain 62 ∷ []) (amount 5 ∷ (1 ∷ 2 ∷ 3 ∷ []) ∷ []) ((8 ∷ []) ∷ [])
+grown = transaction 1 (dep 3 ∷ dep 0 ∷ []) (header 9 ∷ []) (inputs 3) (token 100 ∷ plain 61 ∷ plain 62 ∷ []) (amount 5 ∷ (1 ∷ 2 ∷ 3 ∷ []) ∷ []) ((8 ∷ []) ∷ [])
 
 abbrev twoCells : List (Value TokenCell)
 twoCells = tokenCell 11 (amount 30) ∷ tokenCell 12 (amount 50) ∷ []
@@ -117,10 +117,10 @@ firstBase picked tokens change =
 abbrev exactBase : List ℕ
 exactBase = transaction 0 (dep 0 ∷ dep 1 ∷ []) [] (input 1 ∷ input 2 ∷ []) (token 7 ∷ []) (amount 80 ∷ []) (placeholder ∷ [])
 
--- behind three inputs: empty witnesses for the second and the third; each dep once, where it first stands; version and header dep stay, the witness does not
+-- behind three inputs: empty witnesses for the second and the third; each dep once, where it first stands, the present ones before the token's; version and header dep stay, the witness does not
 abbrev grownBase : List ℕ
 grownBase =
-    transaction 1 (dep 0 ∷ dep 3 ∷ dep 1 ∷ dep 2 ∷ []) (header 9 ∷ []) (input 0 ∷ input 1 ∷ input 2 ∷ input 11 ∷ input 12 ∷ [])
+    transaction 1 (dep 3 ∷ dep 0 ∷ dep 1 ∷ dep 2 ∷ []) (header 9 ∷ []) (input 0 ∷ input 1 ∷ input 2 ∷ input 11 ∷ input 12 ∷ [])
     (token 20 ∷ plain 61 ∷ plain 62 ∷ output 1 (some (plainScript 2)) 9000000000 ∷ [])
     (amount 81 ∷ (1 ∷ 2 ∷ 3 ∷ []) ∷ [] ∷ amount 10 ∷ [])
     (placeholder ∷ [] ∷ [] ∷ placeholder ∷ [])
