@@ -5,7 +5,7 @@
 
 Two laws of crates/*/proofs/*.antt are the same here if their statements are, with the parameters of the modules around them and up to the names of the variables
 that they bind; two definitions or records, there or in crates/*/specs/*.antt, if their clauses or fields are the same too. Statements of fewer than LENGTH characters (20
-where none is given) are left out, and so are what stands under a `where` and crates/reader, whose walks tools/reader_walks.py writes. Prints each group with its
+where none is given) are left out, and so are what stands under a `where`, what APART names, and crates/reader, whose walks tools/reader_walks.py writes. Prints each group with its
 places, and how many there are. It goes by the text alone: it does not find two laws whose premises stand in another order, and it takes two things of one name for the
 same thing.
 """
@@ -18,6 +18,8 @@ MODULE = re.compile(r"^ *module _ ")
 WORD = re.compile(r"[^\s(){},;.]+|[(){},;.]")
 BOUND = re.compile(r"[({]((?:[^\s(){}:]+ )+): ")
 LAMBDA = re.compile(r"λ ((?:[^\s(){}.]+ )*[^\s(){}.]+)\.")
+# alike by the text, and of another meaning: a data entry of `Packed` is an item, one of `Tx` what the item holds
+APART = [{'Packed', 'Tx'}]
 
 
 def indent(line):
@@ -101,7 +103,7 @@ def main():
         for text, name, line in laws(path):
             if len(text) >= least and not short.startswith('crates/reader/'):
                 groups.setdefault(text, []).append((short, line, name))
-    twice = [(text, group) for text, group in groups.items() if len({path for path, _, _ in group}) > 1]
+    twice = [(text, group) for text, group in groups.items() if len({path for path, _, _ in group}) > 1 and {name for _, _, name in group} not in APART]
     for text, group in twice:
         print(text if len(text) < 160 else text[:157] + '...')
         for path, line, name in group:

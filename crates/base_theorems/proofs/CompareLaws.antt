@@ -1,7 +1,7 @@
 -- A transaction that begins as ours passes the comparison; distinct deps, pushed one by one, stand where they stood.
 use mathlib.Core.Path.{_≡_, refl, sym, ap, ap₂, _∙_, subst}
 use Prim.Native.Nat.{ℕ, zero, suc, _-_, _≤_}
-use mathlib.Core.Bool.{Bool, true, false, not, cond, _&&_, _||_, and-eq-true-iff}
+use mathlib.Core.Bool.{Bool, true, false, true≢false, not, cond, _&&_, _||_, and-eq-true-iff}
 use mathlib.Core.List.{List, [], _∷_, _++_, map, append-assoc, append-nil}
 use native.Mathlib.Omega.{arith}
 use borrow.Author.Tests.{lt-ltb, le-leb, eq-eqb}
@@ -81,18 +81,15 @@ push-append deps (x ∷ xs) ys = push-append (pushed deps x) xs ys
 abbrev Apart : List (List ℕ) → List (List ℕ) → Type 0
 Apart deps xs = All (λ (x : List ℕ). contains x deps ≡ false) xs
 
-true-false : {A : Type 0} → true ≡ false → A
-true-false e = let z : _≡_ {A = ℕ} 0 1 = ap (λ (b : Bool). cond b 0 1) e in absurd (omega arith)
-
 other : (x y : List ℕ) → eqBytes x y ≡ false → eqBytes y x ≡ false
 other x y h = by (eqBytes y x) refl
   where
     by : (b : Bool) → eqBytes y x ≡ b → eqBytes y x ≡ false
     by false e = e
-    by true e = true-false (sym (eq-refl x) ∙ ap (eqBytes x) (sym (eq-true y x e)) ∙ h)
+    by true e = absurd (true≢false (sym (eq-refl x) ∙ ap (eqBytes x) (sym (eq-true y x e)) ∙ h))
 
 cond-false : (a b : Bool) → cond a true b ≡ false → (a ≡ false) × (b ≡ false)
-cond-false true b h = true-false h
+cond-false true b h = absurd (true≢false h)
 cond-false false b h = (refl, h)
 
 not-last : (y x : List ℕ) (deps : List (List ℕ)) → contains y deps ≡ false → eqBytes y x ≡ false → contains y (deps ++ (x ∷ [])) ≡ false

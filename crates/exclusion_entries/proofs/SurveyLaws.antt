@@ -1,7 +1,7 @@
 -- The pass over a table: one law to start, one to go on, one for each way out.
 use mathlib.Core.Path.{_≡_, refl, sym, ap, ap₂, _∙_}
 use Prim.Native.Nat.{ℕ, suc, _+_, _-_, _*_, _≤_, _<_}
-use mathlib.Core.Bool.{Bool, true, false, not, cond}
+use mathlib.Core.Bool.{Bool, true, false, true≢false, not, cond}
 use mathlib.Core.List.{List}
 use native.Mathlib.Omega.{arith}
 use borrow.Author.Tests.{eq-eqb, ne-eqb, le-leb, lt-leb, not-true, not-false}
@@ -68,9 +68,6 @@ turned-by rule n v x ep eq e = e ∙ rw (ep, eq)
 
 -- ---- an entry that the rule does not touch
 
-never : true ≡ false → ⊥
-never e = let z : _≡_ {A = ℕ} 0 1 = cc in omega arith
-
 pub words-all : (rule : Rule) → rule ≡ Rule.All → _≡_ {A = Words} (record { always = false; old = 0; new = 0 }) (wordsOf rule)
 unfolding wordsOf
 words-all rule e = rw e
@@ -111,17 +108,21 @@ other-hash : (x : List ℕ) (h : Byte32) → eqb (u64At x 0) (h .a) ≡ false �
 unfolding hasHash eqHash entryOf byte32At
 other-hash x h e = rw e
 
-two-words : (t u : Bool) → cond t true u ≡ false → (t ≡ false) × (u ≡ false)
-two-words true u e = absurd (never e)
-two-words false u e = (refl, e)
+other-hashes : (x : List ℕ) (o h : Byte32) → cond (eqb (u64At x 0) (o .a)) true (eqb (u64At x 0) (h .a)) ≡ false
+    → (hasHash o (entryOf x) ≡ false) × (hasHash h (entryOf x) ≡ false)
+other-hashes x o h e = by (eqb (u64At x 0) (o .a)) refl e
+  where
+    by : (t : Bool) → eqb (u64At x 0) (o .a) ≡ t → cond t true (eqb (u64At x 0) (h .a)) ≡ false → (hasHash o (entryOf x) ≡ false) × (hasHash h (entryOf x) ≡ false)
+    by true p q = absurd (true≢false q)
+    by false p q = (other-hash x o p, other-hash x h q)
 
 untouched : (rule : Rule) (x : List ℕ) → mayTouch (wordsOf rule) x ≡ false → (keeps rule (entryOf x) ≡ true) × (takes rule (entryOf x) ≡ false)
 unfolding mayTouch wordsOf keeps takes
 untouched Rule.All x e = (refl, refl)
-untouched (Rule.Enter h) x e = (refl, other-hash x h (two-words (eqb (u64At x 0) (h .a)) (eqb (u64At x 0) (h .a)) e .0))
-untouched (Rule.Remove h) x e = (ap not (other-hash x h (two-words (eqb (u64At x 0) (h .a)) (eqb (u64At x 0) (h .a)) e .0)), refl)
-untouched (Rule.Migrate o h) x e = let (p, q) = two-words (eqb (u64At x 0) (o .a)) (eqb (u64At x 0) (h .a)) e in (ap not (other-hash x o p), other-hash x h q)
-untouched (Rule.Truncate tip) x e = absurd (never e)
+untouched (Rule.Enter h) x e = (refl, other-hashes x h h e .0)
+untouched (Rule.Remove h) x e = (ap not (other-hashes x h h e .0), refl)
+untouched (Rule.Migrate o h) x e = let (p, q) = other-hashes x o h e in (ap not p, q)
+untouched (Rule.Truncate tip) x e = absurd (true≢false e)
 
 -- such an entry stays
 passes : (rule : Rule) (n : ℕ) (v : Survey) (x : List ℕ) → mayTouch (wordsOf rule) x ≡ false → stayed n v ≡ turned (keeps rule (entryOf x)) (takes rule (entryOf x)) n v

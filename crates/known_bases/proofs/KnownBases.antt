@@ -9,6 +9,6 @@ use Rattle.known_bases.proofs.WidthLaws.{width-passes, width-over, widt
 pub known-bases : AllRight rows
 unfolding computing
 known-bases =
-    refl and refl and refl and refl and refl and refl and refl and refl and refl and refl and refl and refl and refl and refl
-    and refl and refl and refl and refl and refl and refl and refl and refl and refl and refl and refl and refl and refl and refl
+    refl and refl and refl and refl and refl and refl and refl and refl and refl and refl and refl and refl and refl and refl and refl
+    and refl and refl and refl and refl and refl and refl and refl and refl and refl and refl and refl and refl and refl and refl and refl
     and width-passes and width-over and width-leaves and done

@@ -8,7 +8,7 @@ use Rattle.known_bases.proofs.Computing.{computing}
 
 pub known-picks : AllRight picks
 unfolding computing
-known-picks = refl and refl and refl and refl and refl and refl and refl and refl and refl and refl and refl and done
+known-picks = refl and refl and refl and refl and refl and refl and refl and refl and refl and refl and refl and refl and refl and done
 
 pub known-sizes : AllRight sizes
 unfolding computing

@@ -7,7 +7,7 @@ use lib.ListN.{replicate}
 use Rattle.arithmetic.specs.LittleEndian.{toLe}
 use Rattle.arithmetic.specs.Amount.{amountOf}
 use Rattle.molecule.specs.Molecule.{Value, encode}
-use Rattle.transaction.specs.Ckb.{Script, CellDep, CellDeps, TokenCell, TokenCells}
+use Rattle.transaction.specs.Ckb.{Script, CellDep, CellDeps, CellInput, TokenCell, TokenCells}
 use Rattle.rules.specs.Outcome.{Outcome, fine, refused}
 use Rattle.funding_cell.specs.declared.{FundingRequest.FundingRequest}
 use Rattle.base_writer.specs.Answer.{written}
@@ -64,7 +64,7 @@ supplied cells = typed cells (depList (dep 0 ∷ [])) (encode CellDep (dep 1))
 
 -- from a transaction of ours with a version, deps, a header dep, three inputs, two outputs after 0, the last without data, and a witness; two cells, and the same deps
 abbrev grown : List ℕ
-grown = transaction 1 (dep 0 ∷ dep 3 ∷ []) (header 9 ∷ []) (inputs 3) (token 100 ∷ plain 61 ∷ plain 62 ∷ []) (amount 5 ∷ (1 ∷ 2 ∷ 3 ∷ []) ∷ []) ((8 ∷ []) ∷ [])
+grown = transaction 1 (dep 3 ∷ dep 0 ∷ []) (header 9 ∷ []) (inputs 3) (token 100 ∷ plain 61 ∷ plain 62 ∷ []) (amount 5 ∷ (1 ∷ 2 ∷ 3 ∷ []) ∷ []) ((8 ∷ []) ∷ [])
 
 abbrev twoCells : List (Value TokenCell)
 twoCells = tokenCell 11 (amount 30) ∷ tokenCell 12 (amount 50) ∷ []
@@ -109,18 +109,18 @@ tokenBase =
 abbrev unpickedBase : List ℕ
 unpickedBase = transaction 0 (dep 2 ∷ dep 0 ∷ []) [] (inputs 1) (token 20 ∷ plain 61 ∷ []) (amount 11 ∷ [] ∷ []) (placeholder ∷ [])
 
--- from none the first picked input has witness 0; the remote figures are unread. With change 10, and with none
-abbrev firstBase : List ℕ
-firstBase =
-    transaction 0 (dep 0 ∷ dep 1 ∷ []) [] (input 1 ∷ input 2 ∷ []) (token 7 ∷ output 1 (some (plainScript 2)) 9000000000 ∷ []) (amount 70 ∷ amount 10 ∷ []) (placeholder ∷ [])
+-- from none the first picked input has witness 0; the remote figures are unread. With the picked inputs, the tokens and the change; and with no change
+abbrev firstBase : List (Value CellInput) → ℕ → ℕ → List ℕ
+firstBase picked tokens change =
+    transaction 0 (dep 0 ∷ dep 1 ∷ []) [] picked (token 7 ∷ output 1 (some (plainScript 2)) 9000000000 ∷ []) (amount tokens ∷ amount change ∷ []) (placeholder ∷ [])
 
 abbrev exactBase : List ℕ
 exactBase = transaction 0 (dep 0 ∷ dep 1 ∷ []) [] (input 1 ∷ input 2 ∷ []) (token 7 ∷ []) (amount 80 ∷ []) (placeholder ∷ [])
 
--- behind three inputs: empty witnesses for the second and the third; each dep once, where it first stands; version and header dep stay, the witness does not
+-- behind three inputs: empty witnesses for the second and the third; each dep once, where it first stands, the present ones before the token's; version and header dep stay, the witness does not
 abbrev grownBase : List ℕ
 grownBase =
-    transaction 1 (dep 0 ∷ dep 3 ∷ dep 1 ∷ dep 2 ∷ []) (header 9 ∷ []) (input 0 ∷ input 1 ∷ input 2 ∷ input 11 ∷ input 12 ∷ [])
+    transaction 1 (dep 3 ∷ dep 0 ∷ dep 1 ∷ dep 2 ∷ []) (header 9 ∷ []) (input 0 ∷ input 1 ∷ input 2 ∷ input 11 ∷ input 12 ∷ [])
     (token 20 ∷ plain 61 ∷ plain 62 ∷ output 1 (some (plainScript 2)) 9000000000 ∷ [])
     (amount 81 ∷ (1 ∷ 2 ∷ 3 ∷ []) ∷ [] ∷ amount 10 ∷ [])
     (placeholder ∷ [] ∷ [] ∷ placeholder ∷ [])
@@ -134,8 +134,10 @@ rows =
     ∷ (buffer (supplied threeCells) 70 902 gives tokenBase)
     ∷ (buffer (typed threeCells [] []) 0 526 gives unpickedBase)
     ∷ (answer (tokenFromNone threeCells) 70 640 gives 0 ∷ 639 ∷ [])
-    ∷ (buffer (tokenFromNone threeCells) 70 640 gives firstBase ++ room 1)
+    ∷ (buffer (tokenFromNone threeCells) 70 640 gives firstBase (input 1 ∷ input 2 ∷ []) 70 10 ++ room 1)
     ∷ (buffer (tokenFromNone threeCells) 80 482 gives exactBase ++ room 1)
+    -- one cell of 3 tokens listed twice: two equal inputs
+    ∷ (buffer (tokenFromNone (replicate 2 (tokenCell 1 (amount 3)))) 5 640 gives firstBase (input 1 ∷ input 1 ∷ []) 5 1 ++ room 1)
     ∷ (answer onGrown 70 1170 gives 0 ∷ 1167 ∷ [])
     ∷ (buffer onGrown 70 1170 gives grownBase ++ room 3)
     -- 1: our transaction is unreadable
@@ -152,6 +154,7 @@ rows =
     ∷ (answer fromNone (2 ^ 64) 300 gives 7 ∷ [])
     -- 12: a token cell's data under 16 bytes; 10: the total is 2^128; 9: the list ended short
     ∷ (answer (supplied (tokenCell 1 (replicate 15 0) ∷ [])) 70 902 gives 12 ∷ [])
+    ∷ (answer (supplied (tokenCell 1 [] ∷ [])) 1 902 gives 12 ∷ [])
     ∷ (answer (supplied (tokenCell 1 (amount 1) ∷ tokenCell 2 (amount (2 ^ 128 - 1)) ∷ [])) 70 902 gives 10 ∷ [])
     ∷ (answer (supplied threeCells) 121 902 gives 9 ∷ [])
     -- 11: tokens picked and the token's deps, or the lock's dep, not supplied; "a supplied empty list passes"; with nothing picked neither is needed

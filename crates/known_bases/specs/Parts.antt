@@ -15,7 +15,7 @@ use Rattle.udt_cells.specs.Change.{Built, udtInputsOutputs}
 use Rattle.transaction_writer.specs.declared.{Written.Written}
 use Rattle.transaction_writer.specs.Written.{txBytes, inForm, writes, leaves}
 use Rattle.known_cases.specs.Rows.{Row, _gives_}
-use Rattle.known_cases.specs.Cases.{ourLock, tokenType, inputs, plain, amount, room, spending, usual, numbers}
+use Rattle.known_cases.specs.Cases.{ourLock, tokenType, plain, amount, room, spending, bare, usual, numbers}
 use Rattle.known_bases.specs.Bases.{tokenCell, threeCells, noList}
 
 -- ---- the funding cell
@@ -29,10 +29,7 @@ sides local reserve remote remoteReserve =
 abbrev funding : ℕ → ℕ → FundingRequest
 funding local reserve = sides local reserve 0 0
 
--- one input and no outputs; one output and no inputs
-abbrev inputOnly : List ℕ
-inputOnly = spending (inputs 1) [] []
-
+-- one output and no inputs
 abbrev outputOnly : List ℕ
 outputOnly = spending [] (plain 100 ∷ []) ([] ∷ [])
 
@@ -94,13 +91,13 @@ parts =
     -- an untyped amount of 2^64; not 7 shannons, as if its low half were taken
     ∷ (funded [] [] (funding (2 ^ 64) 7) gives 7 ∷ [])
     -- funded is a transaction with outputs: ours has an input and none, untyped and typed; not 36, nor 20 and 16, as if any transaction or any input were enough
-    ∷ (funded inputOnly [] (sides 5 7 11 13) gives 0 ∷ 12 ∷ 0 ∷ [])
-    ∷ (funded inputOnly tokenType (sides 5 7 11 13) gives 0 ∷ 7 ∷ 5 ∷ [])
+    ∷ (funded (bare 1) [] (sides 5 7 11 13) gives 0 ∷ 12 ∷ 0 ∷ [])
+    ∷ (funded (bare 1) tokenType (sides 5 7 11 13) gives 0 ∷ 7 ∷ 5 ∷ [])
     -- ours has an output and no inputs; not 12, as if inputs were needed
     ∷ (funded outputOnly [] (sides 5 7 11 13) gives 0 ∷ 36 ∷ 0 ∷ [])
     -- unfunded, the remote figures are unread: with them the sums would be 2^64 or more, and 2^128 tokens or more; not 7
-    ∷ (funded inputOnly [] (sides 5 7 (2 ^ 128 - 1) (2 ^ 64 - 1)) gives 0 ∷ 12 ∷ 0 ∷ [])
-    ∷ (funded inputOnly tokenType (sides 5 7 (2 ^ 128 - 1) (2 ^ 64 - 1)) gives 0 ∷ 7 ∷ 5 ∷ [])
+    ∷ (funded (bare 1) [] (sides 5 7 (2 ^ 128 - 1) (2 ^ 64 - 1)) gives 0 ∷ 12 ∷ 0 ∷ [])
+    ∷ (funded (bare 1) tokenType (sides 5 7 (2 ^ 128 - 1) (2 ^ 64 - 1)) gives 0 ∷ 7 ∷ 5 ∷ [])
     -- the type unreadable, and reserves of 2^64; not 7
     ∷ (funded usual noList (sides 5 (2 ^ 64 - 1) 11 1) gives 3 ∷ [])
     -- the token pick: 3, the list of cells, the type, our lock; 12, data under 16 bytes; 10, a total of 2^128; 13, no room for the change output of 130 bytes

@@ -37,7 +37,10 @@ picks =
     -- 0 takes nothing; a cell of 0 before the goal is taken, and none after it
     ∷ (picked 0 cells gives taking 0 0)
     ∷ (picked 5 (cellsOf (amount 0 ∷ amount 5 ∷ amount 0 ∷ [])) gives taking 2 0)
-    -- data of 15 bytes: 12 before the goal, and behind it unread
+    -- one cell of 3 tokens listed twice is taken twice
+    ∷ (picked 5 (cellsOf (amount 3 ∷ amount 3 ∷ [])) gives taking 2 1)
+    -- no data, and data of 15 bytes: 12 before the goal, and behind it unread
+    ∷ (picked 1 (cellsOf ([] ∷ [])) gives refused 12 [])
     ∷ (picked 31 (cellsOf (amount 30 ∷ replicate 15 0 ∷ [])) gives refused 12 [])
     ∷ (picked 30 (cellsOf (amount 30 ∷ replicate 15 0 ∷ [])) gives taking 1 0)
     -- a total of 2^128: 10 before the goal, and behind it unread

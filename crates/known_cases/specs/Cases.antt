@@ -2,7 +2,7 @@
 use Prim.Native.Nat.{ℕ}
 use mathlib.Core.List.{List, [], _∷_}
 use mathlib.Core.Option.{none, some}
-use lib.ListN.{replicate}
+use lib.ListN.{length, replicate}
 use Rattle.arithmetic.specs.LittleEndian.{toLe}
 use Rattle.units.specs.declared.{Millis.Millis}
 use Rattle.molecule.specs.Molecule.{option, Value, encode}
@@ -10,6 +10,8 @@ use Rattle.molecule.specs.Layout.{span}
 use Rattle.transaction.specs.Ckb.{Byte32, Script, CellDep, CellInput, CellOutput, Transaction, Record, Records}
 use Rattle.rules.specs.Outcome.{Outcome, fine, refused}
 use Rattle.rules.specs.Judge.{Call, Figures, judge}
+use Rattle.out_points.specs.declared.{OutPoint.OutPoint}
+use Rattle.hold_records.specs.declared.{Hold.Hold, Held.Held}
 
 -- ---- scripts: a code hash of one byte repeated, hash type 0 and empty args
 
@@ -60,6 +62,14 @@ amount n = toLe 16 n
 abbrev pub ms : ℕ → Millis
 ms n = record { 0 = n }
 
+-- the out point that `input n` spends
+abbrev pub point : ℕ → OutPoint
+point n = record { hash = record { a = 0; b = 0; c = 0; d = 0 }; index = n }
+
+-- the table of holds with these records
+abbrev pub holdsOf : List Hold → Held
+holdsOf l = record { records = l; count = length l }
+
 -- a buffer of so many bytes, each 7
 abbrev pub room : ℕ → List ℕ
 room n = replicate n 7
@@ -73,9 +83,25 @@ transaction version ds hs is os es ws = encode Transaction ((toLe 4 version, (ds
 abbrev pub spending : List (Value CellInput) → List (Value CellOutput) → List (List ℕ) → List ℕ
 spending is os es = transaction 0 [] [] is os es []
 
--- one input and one output of 100 shannons; the same holding tokens
+-- so many inputs, and nothing else
+abbrev pub bare : ℕ → List ℕ
+bare n = spending (inputs n) [] []
+
+-- one input and one output of 100 shannons; the same but for one part; and holding tokens
 abbrev pub usual : List ℕ
 usual = spending (inputs 1) (plain 100 ∷ []) ([] ∷ [])
+
+abbrev pub ofVersion : ℕ → List ℕ
+ofVersion n = transaction n [] [] (inputs 1) (plain 100 ∷ []) ([] ∷ []) []
+
+abbrev pub withDeps : List (Value CellDep) → List ℕ
+withDeps ds = transaction 0 ds [] (inputs 1) (plain 100 ∷ []) ([] ∷ []) []
+
+abbrev pub withHeaders : List (Value Byte32) → List ℕ
+withHeaders hs = transaction 0 [] hs (inputs 1) (plain 100 ∷ []) ([] ∷ []) []
+
+abbrev pub withInputs : List (Value CellInput) → List ℕ
+withInputs is = spending is (plain 100 ∷ []) ([] ∷ [])
 
 abbrev pub holding : ℕ → List ℕ
 holding n = spending (inputs 1) (token 100 ∷ []) (amount n ∷ [])

@@ -11,8 +11,9 @@ use Rattle.exclusion_entries.specs.Exclusions.{truncateOn}
 use Rattle.exclusion_entries.specs.Entries.{mapBytes, FitEntry}
 use Rattle.exclusion_entries.specs.LentMap.{left}
 use Rattle.known_cases.specs.Rows.{AllRight}
+use Rattle.known_cases.specs.Cases.{bare}
 use Rattle.known_cases.proofs.Rows.{_and_, done}
-use Rattle.known_exclusions.specs.Exclusions.{add, commit, zeros, lent, hash, spends, room, listed, pendingOf, committedOf, transactions, pending7, committed7, two, three, twice, excludedBy, noMap, unread, full, works, doubled, lists}
+use Rattle.known_exclusions.specs.Exclusions.{add, commit, zeros, lent, hash, room, listed, pendingOf, committedOf, transactions, pending7, committed7, one, two, three, twice, excludedBy, noMap, unread, full, works, doubled, lists}
 use Rattle.known_exclusions.proofs.Computing.{computing}
 use Rattle.known_exclusions.proofs.LentLaws.{Holds, add-on, commit-on, remove-on, truncate-on, migrate-on, apply-on, left-holds, zeros-hold, lent-holds, pending-fits, committed-fits, transactions-fit}
 
@@ -20,21 +21,30 @@ pub known-no-map : AllRight noMap
 unfolding computing
 known-no-map = refl and refl and refl and refl and refl and refl and refl and refl and refl and refl and done
 
+-- ---- maps with entries
+
+one-holds : Holds (lent one) one
+unfolding computing
+one-holds = lent-holds one (leb-true _ _ refl) (leb-true _ _ refl) (pending-fits 7 1 (omega arith) (omega arith), tt)
+
+two-hold : Holds (lent two) two
+unfolding computing
+two-hold = lent-holds two (leb-true _ _ refl) (leb-true _ _ refl) (committed-fits 7 1 2 (omega arith) (omega arith) (omega arith), (pending-fits 5 1 (omega arith) (omega arith), tt))
+
 pub known-unread : AllRight unread
 unfolding computing
 known-unread =
     refl
     and refl
-    and add-on zeros-hold (replicate 31 0) (spends 2) refl
+    and add-on zeros-hold (replicate 31 0) (bare 2) refl
     and commit-on zeros-hold (replicate 33 0) 100
     and remove-on zeros-hold []
     and refl
     and refl
-    and migrate-on zeros-hold (replicate 31 0) (hash 8) (spends 2) refl
-    and migrate-on zeros-hold (hash 7) (replicate 33 0) (spends 2) refl
+    and migrate-on zeros-hold (replicate 31 0) (hash 8) (bare 2) refl
+    and migrate-on zeros-hold (hash 7) (replicate 33 0) (bare 2) refl
+    and migrate-on two-hold (hash 7) [] [] refl
     and done
-
--- ---- maps with entries
 
 full-63 : Holds (lent (transactions 63)) (transactions 63)
 unfolding computing
@@ -62,20 +72,16 @@ pub known-full : AllRight full
 unfolding computing
 known-full =
     add-on full-63 (hash 63) [] refl
-    and add-on full-63 (hash 63) (spends 0) refl
-    and add-on full-64 (hash 64) (spends 0) refl
-    and add-on full-64 (hash 63) (spends 0) refl
-    and migrate-on full-64 (hash 0) (hash 64) (spends 0) refl
-    and add-on wide-511 (hash 2) (spends 1) refl
-    and add-on wide-512 (hash 2) (spends 1) refl
-    and add-on wide-512 (hash 1) (spends 1) refl
-    and migrate-on wide-512 (hash 1) (hash 2) (spends 1) refl
-    and migrate-on wide-two (hash 3) (hash 2) (spends 1) refl
+    and add-on full-63 (hash 63) (bare 0) refl
+    and add-on full-64 (hash 64) (bare 0) refl
+    and add-on full-64 (hash 63) (bare 0) refl
+    and migrate-on full-64 (hash 0) (hash 64) (bare 0) refl
+    and add-on wide-511 (hash 2) (bare 1) refl
+    and add-on wide-512 (hash 2) (bare 1) refl
+    and add-on wide-512 (hash 1) (bare 1) refl
+    and migrate-on wide-512 (hash 1) (hash 2) (bare 1) refl
+    and migrate-on wide-two (hash 3) (hash 2) (bare 1) refl
     and done
-
-two-hold : Holds (lent two) two
-unfolding computing
-two-hold = lent-holds two (leb-true _ _ refl) (leb-true _ _ refl) (committed-fits 7 1 2 (omega arith) (omega arith) (omega arith), (pending-fits 5 1 (omega arith) (omega arith), tt))
 
 three-hold : Holds (lent three) three
 unfolding computing
@@ -96,8 +102,8 @@ last-holds = lent-holds (committedOf 7 (2 ^ 64 - 1) 2 ∷ []) (leb-true _ _ refl
 pub known-works : AllRight works
 unfolding computing
 known-works =
-    add-on two-hold (hash 7) (spends 1) refl
-    and add-on two-hold (hash 6) (spends 0) refl
+    add-on two-hold (hash 7) (bare 1) refl
+    and add-on two-hold (hash 6) (bare 0) refl
     and commit-on two-hold (hash 5) 9
     and commit-on two-hold (hash 7) 9
     and commit-on two-hold (hash 6) 9
@@ -105,32 +111,32 @@ known-works =
     and remove-on two-hold (hash 6)
     and truncate-on last-holds (2 ^ 64 - 1)
     and truncate-on two-hold 14
-    and migrate-on two-hold (hash 7) (hash 8) (spends 1) refl
-    and migrate-on two-hold (hash 7) (hash 7) (spends 1) refl
-    and migrate-on three-hold (hash 7) (hash 5) (spends 2) refl
+    and migrate-on two-hold (hash 7) (hash 8) (bare 1) refl
+    and migrate-on two-hold (hash 7) (hash 7) (bare 1) refl
+    and migrate-on three-hold (hash 7) (hash 5) (bare 2) refl
     and migrate-on two-hold (hash 7) (hash 6) [] refl
-    and migrate-on two-hold (hash 6) (hash 8) (spends 1) refl
+    and migrate-on two-hold (hash 6) (hash 8) (bare 1) refl
     and done
 
 pub known-doubled : AllRight doubled
 unfolding computing
-known-doubled = add-on twice-hold (hash 7) (spends 0) refl and commit-on twice-hold (hash 7) 9 and remove-on twice-hold (hash 7) and migrate-on twice-hold (hash 7) (hash 8) (spends 1) refl and done
+known-doubled = add-on twice-hold (hash 7) (bare 0) refl and commit-on twice-hold (hash 7) 9 and remove-on twice-hold (hash 7) and migrate-on twice-hold (hash 7) (hash 8) (bare 1) refl and done
 
 pub known-lists : AllRight lists
 unfolding computing
-known-lists = refl and apply-on two-hold (room 2) and apply-on two-hold (room 4) and apply-on zeros-hold [] and apply-on zeros-hold (room 0) and done
+known-lists = refl and apply-on two-hold (room 2) and apply-on one-holds (replicate 39 165) and apply-on two-hold (room 4) and apply-on zeros-hold [] and apply-on zeros-hold (room 0) and done
 
 -- ---- the starred ones
 
-added7 : Holds (left (add zeros (hash 7) (spends 2))) pending7
+added7 : Holds (left (add zeros (hash 7) (bare 2))) pending7
 unfolding computing
-added7 = left-holds zeros-hold pending7 (add-on zeros-hold (hash 7) (spends 2) refl) (leb-true _ _ refl) (leb-true _ _ refl) (pending-fits 7 2 (omega arith) (omega arith), tt)
+added7 = left-holds zeros-hold pending7 (add-on zeros-hold (hash 7) (bare 2) refl) (leb-true _ _ refl) (leb-true _ _ refl) (pending-fits 7 2 (omega arith) (omega arith), tt)
 
 fits7 : FitEntry (committedOf 7 100 2)
 fits7 = committed-fits 7 100 2 (omega arith) (omega arith) (omega arith)
 
 abbrev at100 : List ℕ
-at100 = left (commit (left (add zeros (hash 7) (spends 2))) (hash 7) 100)
+at100 = left (commit (left (add zeros (hash 7) (bare 2))) (hash 7) 100)
 
 committed-holds : Holds at100 committed7
 unfolding computing

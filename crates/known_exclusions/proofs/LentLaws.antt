@@ -20,7 +20,8 @@ use Rattle.exclusion_entries.specs.Exclusions.{Entry, Ruling, commitOn, removeO
 use Rattle.exclusion_entries.specs.Entries.{blockOf, mapBytes, FitEntry, excludedAt, isMap}
 use Rattle.exclusion_entries.proofs.MapLaws.{map-long, map-size, map-zeros, zeros-are, put-is, splice-back}
 use Rattle.exclusion_entries.specs.LentMap.{lentMap, lentTx, left, lentList}
-use Rattle.known_exclusions.specs.Exclusions.{add, commit, remove, truncate, migrate, apply, leaves, zeros, lent, point, entry, pendingOf, committedOf}
+use Rattle.known_cases.specs.Cases.{point}
+use Rattle.known_exclusions.specs.Exclusions.{add, commit, remove, truncate, migrate, apply, leaves, zeros, lent, entry, pendingOf, committedOf}
 
 pub record Holds (s : List ℕ) (l : List Entry) : Type 0 where
   pub form : isMap s ≡ true

@@ -8,7 +8,7 @@ use Rattle.arithmetic.specs.LittleEndian.{toLe}
 use Rattle.units.specs.declared.{BlockNumber.BlockNumber}
 use Rattle.molecule.specs.Layout.{span}
 use Rattle.molecule.specs.Write.{putAt}
-use Rattle.out_points.specs.declared.{Byte32.Byte32, OutPoint.OutPoint}
+use Rattle.out_points.specs.declared.{Byte32.Byte32}
 use Rattle.out_points.specs.OutPoints.{points, pointList}
 use Rattle.out_points.specs.Tables.{done, refused}
 use Rattle.table_bytes.specs.Lent.{After}
@@ -16,7 +16,7 @@ use Rattle.exclusion_entries.specs.Exclusions.{Entry, commitOn, removeOn, trunc
 use Rattle.exclusion_entries.specs.Entries.{mapBytes, excludedAt}
 use Rattle.exclusion_entries.specs.LentMap.{lentMap, lentTx, left, lentList}
 use Rattle.known_cases.specs.Rows.{Row, _gives_}
-use Rattle.known_cases.specs.Cases.{inputs, spending}
+use Rattle.known_cases.specs.Cases.{bare, point}
 
 -- ---- the calls on bytes s
 
@@ -58,13 +58,7 @@ hash n = toLe 8 n ++ replicate 24 0
 abbrev pub hashOf : ℕ → Byte32
 hashOf n = record { a = n; b = 0; c = 0; d = 0 }
 
--- a transaction that spends the first k out points of the transaction whose hash is zeros; its entry under the hash n, pending and committed
-abbrev pub spends : ℕ → List ℕ
-spends k = spending (inputs k) [] []
-
-abbrev pub point : ℕ → OutPoint
-point i = record { hash = hashOf 0; index = i }
-
+-- the entry of `bare k`, which spends the first k out points, under the hash n; pending and committed
 abbrev pub entry : ℕ → Option BlockNumber → ℕ → Entry
 entry n c k = record { hash = hashOf n; committed = c; points = span point 0 k }
 
@@ -85,7 +79,10 @@ pending7 = pendingOf 7 2 ∷ []
 abbrev pub committed7 : List Entry
 committed7 = committedOf 7 100 2 ∷ []
 
--- two transactions, the first committed
+-- one transaction with one out point; two, the first committed
+abbrev pub one : List Entry
+one = pendingOf 7 1 ∷ []
+
 abbrev pub two : List Entry
 two = committedOf 7 1 2 ∷ pendingOf 5 1 ∷ []
 
@@ -128,23 +125,23 @@ abbrev pub listed : ℕ × List ℕ → List ℕ
 listed (n, out) = n ∷ map (λ p. p .index) (points out)
 
 abbrev pub excludedBy : ℕ → List ℕ
-excludedBy tip = listed (apply (left (truncate (left (commit (left (add zeros (hash 7) (spends 2))) (hash 7) 100)) tip)) (room 2))
+excludedBy tip = listed (apply (left (truncate (left (commit (left (add zeros (hash 7) (bare 2))) (hash 7) 100)) tip)) (room 2))
 
 -- ---- the others
 
 -- bytes that are no map: 3, and they stay
 abbrev pub noMap : List (Row (After (List Entry)))
 noMap =
-    (add shorter [] (spends 2) gives refused 3 shorter)
-    ∷ (add over64 (hash 7) (spends 2) gives refused 3 over64)
-    ∷ (add over512 (hash 7) (spends 2) gives refused 3 over512)
-    ∷ (add over512InTwo (hash 7) (spends 2) gives refused 3 over512InTwo)
-    ∷ (add ofKind2 (hash 7) (spends 2) gives refused 3 ofKind2)
-    ∷ (add pendingInBlock (hash 7) (spends 2) gives refused 3 pendingInBlock)
+    (add shorter [] (bare 2) gives refused 3 shorter)
+    ∷ (add over64 (hash 7) (bare 2) gives refused 3 over64)
+    ∷ (add over512 (hash 7) (bare 2) gives refused 3 over512)
+    ∷ (add over512InTwo (hash 7) (bare 2) gives refused 3 over512InTwo)
+    ∷ (add ofKind2 (hash 7) (bare 2) gives refused 3 ofKind2)
+    ∷ (add pendingInBlock (hash 7) (bare 2) gives refused 3 pendingInBlock)
     ∷ (commit [] (hash 7) 100 gives refused 3 [])
     ∷ (remove [] (hash 7) gives refused 3 [])
     ∷ (truncate [] 100 gives refused 3 [])
-    ∷ (migrate [] (hash 7) (hash 8) (spends 2) gives refused 3 [])
+    ∷ (migrate [] (hash 7) (hash 8) (bare 2) gives refused 3 [])
     ∷ []
 
 -- a transaction that can't be read: 1 before all else; and of a map a hash of another length
@@ -152,36 +149,38 @@ abbrev pub unread : List (Row (After (List Entry)))
 unread =
     (add [] [] unreadable gives refused 1 [])
     ∷ (add zeros [] unreadable gives refused 1 zeros)
-    ∷ (add zeros (replicate 31 0) (spends 2) gives refused 3 zeros)
+    ∷ (add zeros (replicate 31 0) (bare 2) gives refused 3 zeros)
     ∷ (commit zeros (replicate 33 0) 100 gives refused 3 zeros)
     ∷ (remove zeros [] gives refused 3 zeros)
     ∷ (migrate [] [] [] unreadable gives refused 1 [])
     ∷ (migrate zeros [] [] unreadable gives refused 1 zeros)
-    ∷ (migrate zeros (replicate 31 0) (hash 8) (spends 2) gives refused 3 zeros)
-    ∷ (migrate zeros (hash 7) (replicate 33 0) (spends 2) gives refused 3 zeros)
+    ∷ (migrate zeros (replicate 31 0) (hash 8) (bare 2) gives refused 3 zeros)
+    ∷ (migrate zeros (hash 7) (replicate 33 0) (bare 2) gives refused 3 zeros)
+    -- by no transaction too, which enters nothing under the new hash: the old entry stays
+    ∷ (migrate (lent two) (hash 7) [] [] gives refused 3 (lent two))
     ∷ []
 
 -- 64 transactions and 512 out points, 65 and 513; a transaction that is entered again, or goes, leaves room
 abbrev pub full : List (Row (After (List Entry)))
 full =
     (add (lent (transactions 63)) (hash 63) [] gives leaves (lent (transactions 63)) (transactions 63))
-    ∷ (add (lent (transactions 63)) (hash 63) (spends 0) gives leaves (lent (transactions 63)) (transactions 64))
-    ∷ (add (lent (transactions 64)) (hash 64) (spends 0) gives refused 15 (lent (transactions 64)))
-    ∷ (add (lent (transactions 64)) (hash 63) (spends 0) gives leaves (lent (transactions 64)) (transactions 64))
-    ∷ (migrate (lent (transactions 64)) (hash 0) (hash 64) (spends 0) gives leaves (lent (transactions 64)) (span (λ i. pendingOf i 0) 1 64))
-    ∷ (add (lent (pendingOf 1 511 ∷ [])) (hash 2) (spends 1) gives leaves (lent (pendingOf 1 511 ∷ [])) (pendingOf 1 511 ∷ pendingOf 2 1 ∷ []))
-    ∷ (add (lent (pendingOf 1 512 ∷ [])) (hash 2) (spends 1) gives refused 15 (lent (pendingOf 1 512 ∷ [])))
-    ∷ (add (lent (pendingOf 1 512 ∷ [])) (hash 1) (spends 1) gives leaves (lent (pendingOf 1 512 ∷ [])) (pendingOf 1 1 ∷ []))
-    ∷ (migrate (lent (pendingOf 1 512 ∷ [])) (hash 1) (hash 2) (spends 1) gives leaves (lent (pendingOf 1 512 ∷ [])) (pendingOf 2 1 ∷ []))
-    ∷ (migrate (lent (pendingOf 1 512 ∷ pendingOf 3 0 ∷ [])) (hash 3) (hash 2) (spends 1) gives refused 15 (lent (pendingOf 1 512 ∷ pendingOf 3 0 ∷ [])))
+    ∷ (add (lent (transactions 63)) (hash 63) (bare 0) gives leaves (lent (transactions 63)) (transactions 64))
+    ∷ (add (lent (transactions 64)) (hash 64) (bare 0) gives refused 15 (lent (transactions 64)))
+    ∷ (add (lent (transactions 64)) (hash 63) (bare 0) gives leaves (lent (transactions 64)) (transactions 64))
+    ∷ (migrate (lent (transactions 64)) (hash 0) (hash 64) (bare 0) gives leaves (lent (transactions 64)) (span (λ i. pendingOf i 0) 1 64))
+    ∷ (add (lent (pendingOf 1 511 ∷ [])) (hash 2) (bare 1) gives leaves (lent (pendingOf 1 511 ∷ [])) (pendingOf 1 511 ∷ pendingOf 2 1 ∷ []))
+    ∷ (add (lent (pendingOf 1 512 ∷ [])) (hash 2) (bare 1) gives refused 15 (lent (pendingOf 1 512 ∷ [])))
+    ∷ (add (lent (pendingOf 1 512 ∷ [])) (hash 1) (bare 1) gives leaves (lent (pendingOf 1 512 ∷ [])) (pendingOf 1 1 ∷ []))
+    ∷ (migrate (lent (pendingOf 1 512 ∷ [])) (hash 1) (hash 2) (bare 1) gives leaves (lent (pendingOf 1 512 ∷ [])) (pendingOf 2 1 ∷ []))
+    ∷ (migrate (lent (pendingOf 1 512 ∷ pendingOf 3 0 ∷ [])) (hash 3) (hash 2) (bare 1) gives refused 15 (lent (pendingOf 1 512 ∷ pendingOf 3 0 ∷ [])))
     ∷ []
 
 -- what each call does to two or three entries
 abbrev pub works : List (Row (After (List Entry)))
 works =
     -- entered again it is uncommitted, in its place; another goes last; the 68-byte transaction enters without out points
-    (add (lent two) (hash 7) (spends 1) gives leaves (lent two) (pendingOf 7 1 ∷ pendingOf 5 1 ∷ []))
-    ∷ (add (lent two) (hash 6) (spends 0) gives leaves (lent two) (committedOf 7 1 2 ∷ pendingOf 5 1 ∷ pendingOf 6 0 ∷ []))
+    (add (lent two) (hash 7) (bare 1) gives leaves (lent two) (pendingOf 7 1 ∷ pendingOf 5 1 ∷ []))
+    ∷ (add (lent two) (hash 6) (bare 0) gives leaves (lent two) (committedOf 7 1 2 ∷ pendingOf 5 1 ∷ pendingOf 6 0 ∷ []))
     -- pending or committed, it gets the block; an unknown hash changes nothing
     ∷ (commit (lent two) (hash 5) 9 gives leaves (lent two) (committedOf 7 1 2 ∷ committedOf 5 9 1 ∷ []))
     ∷ (commit (lent two) (hash 7) 9 gives leaves (lent two) (committedOf 7 9 2 ∷ pendingOf 5 1 ∷ []))
@@ -192,20 +191,20 @@ works =
     ∷ (truncate (lent (committedOf 7 (2 ^ 64 - 1) 2 ∷ [])) (2 ^ 64 - 1) gives leaves (lent (committedOf 7 (2 ^ 64 - 1) 2 ∷ [])) (committedOf 7 (2 ^ 64 - 1) 2 ∷ []))
     ∷ (truncate (lent two) 14 gives leaves (lent two) (pendingOf 5 1 ∷ []))
     -- the new one goes last, also onto its own hash, or takes the place of an entered one; by no transaction the old one only goes
-    ∷ (migrate (lent two) (hash 7) (hash 8) (spends 1) gives leaves (lent two) (pendingOf 5 1 ∷ pendingOf 8 1 ∷ []))
-    ∷ (migrate (lent two) (hash 7) (hash 7) (spends 1) gives leaves (lent two) (pendingOf 5 1 ∷ pendingOf 7 1 ∷ []))
-    ∷ (migrate (lent three) (hash 7) (hash 5) (spends 2) gives leaves (lent three) (pendingOf 5 2 ∷ pendingOf 6 0 ∷ []))
+    ∷ (migrate (lent two) (hash 7) (hash 8) (bare 1) gives leaves (lent two) (pendingOf 5 1 ∷ pendingOf 8 1 ∷ []))
+    ∷ (migrate (lent two) (hash 7) (hash 7) (bare 1) gives leaves (lent two) (pendingOf 5 1 ∷ pendingOf 7 1 ∷ []))
+    ∷ (migrate (lent three) (hash 7) (hash 5) (bare 2) gives leaves (lent three) (pendingOf 5 2 ∷ pendingOf 6 0 ∷ []))
     ∷ (migrate (lent two) (hash 7) (hash 6) [] gives leaves (lent two) (pendingOf 5 1 ∷ []))
-    ∷ (migrate (lent two) (hash 6) (hash 8) (spends 1) gives leaves (lent two) two)
+    ∷ (migrate (lent two) (hash 6) (hash 8) (bare 1) gives leaves (lent two) two)
     ∷ []
 
 -- where a hash stands twice, `add` means its first entry, and the others every one
 abbrev pub doubled : List (Row (After (List Entry)))
 doubled =
-    (add (lent twice) (hash 7) (spends 0) gives leaves (lent twice) (pendingOf 7 0 ∷ pendingOf 5 1 ∷ pendingOf 7 1 ∷ []))
+    (add (lent twice) (hash 7) (bare 0) gives leaves (lent twice) (pendingOf 7 0 ∷ pendingOf 5 1 ∷ pendingOf 7 1 ∷ []))
     ∷ (commit (lent twice) (hash 7) 9 gives leaves (lent twice) (committedOf 7 9 2 ∷ pendingOf 5 1 ∷ committedOf 7 9 1 ∷ []))
     ∷ (remove (lent twice) (hash 7) gives leaves (lent twice) (pendingOf 5 1 ∷ []))
-    ∷ (migrate (lent twice) (hash 7) (hash 8) (spends 1) gives leaves (lent twice) (pendingOf 5 1 ∷ pendingOf 8 1 ∷ []))
+    ∷ (migrate (lent twice) (hash 7) (hash 8) (bare 1) gives leaves (lent twice) (pendingOf 5 1 ∷ pendingOf 8 1 ∷ []))
     ∷ []
 
 -- `apply`: of no map, into too short a buffer, and into a longer one
@@ -213,6 +212,7 @@ abbrev pub lists : List (Row (ℕ × List ℕ))
 lists =
     (apply [] (room 1) gives (3, room 1))
     ∷ (apply (lent two) (room 2) gives (13, room 2))
+    ∷ (apply (lent one) (replicate 39 165) gives (13, replicate 39 165))
     ∷ (apply (lent two) (room 4) gives (0, pointList (point 0 ∷ point 1 ∷ point 0 ∷ []) ++ replicate 36 165))
     ∷ (apply zeros [] gives (13, []))
     ∷ (apply zeros (room 0) gives (0, toLe 4 0))

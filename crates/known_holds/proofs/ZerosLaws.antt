@@ -16,8 +16,8 @@ use Rattle.table_bytes.specs.declared.{Place.Place}
 use Rattle.table_bytes.specs.Places.{placeAt, placeOf}
 use Rattle.table_bytes.specs.Lent.{lentTable, lentWith, lentWithTwo, lentRead}
 use Rattle.held_bytes.specs.HeldBytes.{ownerOf, holdOf, heldOf, heldBytes}
-use Rattle.known_cases.specs.Cases.{ms}
-use Rattle.known_holds.specs.Holds.{cell, funding}
+use Rattle.known_cases.specs.Cases.{ms, point}
+use Rattle.known_holds.specs.Holds.{funding}
 use Rattle.known_holds.specs.LentHolds.{hold, watch, release, lock, named, takes, zeros, ofZeros}
 use Rattle.known_holds.proofs.Computing.{computing}
 
@@ -34,7 +34,7 @@ take-same x (suc k) (suc m) h = ap (λ (l : List ℕ). x ∷ l) (take-same x k m
 -- ---- a place of it
 
 abbrev nobody : Place
-nobody = record { point = cell 0; kind = 0; number = 0 }
+nobody = record { point = point 0; kind = 0; number = 0 }
 
 no-bytes : placeAt [] ≡ nobody
 unfolding computing
@@ -62,7 +62,7 @@ place-is n i h = by (ltb i (fixCount (zeros n)))
 
 -- ---- all of it
 
-hold-is : holdOf nobody ≡ funding 0 (cell 0)
+hold-is : holdOf nobody ≡ funding 0 (point 0)
 unfolding holdOf ownerOf
 hold-is = refl
 

@@ -1,30 +1,28 @@
 -- The calls on the table of holds by value worked through: an example of each answer and of each sentence of docs/RULES.md ("Holds and exclusions") about them, with the whole table
 -- and the whole buffers after the call. proofs/KnownHolds.antt proves all rows.
-use Prim.Native.Nat.{ℕ, _-_, _^_}
+use Prim.Native.Nat.{ℕ, _-_, _*_, _^_}
 use mathlib.Core.List.{List, [], _∷_, _++_}
-use lib.ListN.{length, replicate}
+use lib.ListN.{replicate}
+use Rattle.arithmetic.specs.LittleEndian.{toLe}
 use Rattle.out_points.specs.declared.{OutPoint.OutPoint}
 use Rattle.out_points.specs.OutPoints.{pointList}
 use Rattle.out_points.specs.Tables.{Outcome, done, refused}
 use Rattle.hold_records.specs.declared.{Owner.Owner, Hold.Hold, Held.Held, Taker.Taker}
 use Rattle.hold_records.specs.Holds.{heldBy, holdFunding, holdForWatchtower, releaseForWatchtower, lockHeld, unavailable, takeCells}
 use Rattle.known_cases.specs.Rows.{Row, _gives_}
-use Rattle.known_cases.specs.Cases.{ms, room}
+use Rattle.known_cases.specs.Cases.{ms, point, holdsOf, room}
 
 -- ---- what the rows are built from
 
--- cells of the transaction whose hash is zeros, by their index
-abbrev pub cell : ℕ → OutPoint
-cell n = record { hash = record { a = 0; b = 0; c = 0; d = 0 }; index = n }
-
+-- cells
 abbrev pub A : OutPoint
-A = cell 1
+A = point 1
 
 abbrev pub B : OutPoint
-B = cell 2
+B = point 2
 
 abbrev pub C : OutPoint
-C = cell 3
+C = point 3
 
 abbrev pub funding : ℕ → OutPoint → Hold
 funding holder p = heldBy (Owner.Funding holder) p
@@ -32,14 +30,11 @@ funding holder p = heldBy (Owner.Funding holder) p
 abbrev pub tower : ℕ → OutPoint → Hold
 tower end p = heldBy (Owner.Watchtower (ms end)) p
 
-abbrev table : List Hold → Held
-table l = record { records = l; count = length l }
-
 -- so many records of holder 5 on one cell
 abbrev others : ℕ → List Hold
-others n = replicate n (funding 5 (cell 0))
+others n = replicate n (funding 5 (point 0))
 
--- lists of cells; and bytes that are none, a count with no items
+-- lists of cells; and bytes that are none: a count with no items, and 119,304,647 items
 abbrev pub of1 : OutPoint → List ℕ
 of1 p = pointList (p ∷ [])
 
@@ -52,43 +47,54 @@ none = pointList []
 abbrev pub noList : List ℕ
 noList = 1 ∷ 0 ∷ 0 ∷ 0 ∷ []
 
+abbrev pub tooLong : List ℕ
+tooLong = toLe 4 119304647 ++ replicate (36 * 119304647) 0
+
 -- ---- calls that return the table
 
 -- an ended watchtower record and 255 others
 abbrev nearlyFull : Held
-nearlyFull = table (others 255 ++ (tower 1000 B ∷ []))
+nearlyFull = holdsOf (others 255 ++ (tower 1000 B ∷ []))
 
 abbrev pub returning : List (Row (Outcome Held (List Hold)))
 returning =
     -- "`hold_funding` drops a holder's records and adds the new list, repeats too"
-    (holdFunding (table (funding 7 B ∷ tower 5 C ∷ funding 8 A ∷ [])) 7 (of2 A A) gives done (tower 5 C ∷ funding 8 A ∷ funding 7 A ∷ funding 7 A ∷ []))
-    ∷ (holdFunding (table (funding 7 B ∷ funding 8 A ∷ [])) 7 none gives done (funding 8 A ∷ []))
+    (holdFunding (holdsOf (funding 7 B ∷ tower 5 C ∷ funding 8 A ∷ [])) 7 (of2 A A) gives done (tower 5 C ∷ funding 8 A ∷ funding 7 A ∷ funding 7 A ∷ []))
+    ∷ (holdFunding (holdsOf (funding 7 B ∷ funding 8 A ∷ [])) 7 none gives done (funding 8 A ∷ []))
     -- over 256 records get 14, just 256 pass, and those of the holder itself are dropped first
-    ∷ (holdFunding (table (others 256)) 1 (of1 A) gives refused 14 (table (others 256)))
-    ∷ (holdFunding (table (others 255)) 1 (of2 A B) gives refused 14 (table (others 255)))
-    ∷ (holdFunding (table (others 255)) 1 (of1 A) gives done (others 255 ++ (funding 1 A ∷ [])))
-    ∷ (holdFunding (table (others 256)) 5 (of2 A B) gives done (funding 5 A ∷ funding 5 B ∷ []))
-    ∷ (holdFunding (table (others 256)) 1 noList gives refused 3 (table (others 256)))
+    ∷ (holdFunding (holdsOf (others 256)) 1 (of1 A) gives refused 14 (holdsOf (others 256)))
+    ∷ (holdFunding (holdsOf (others 255)) 1 (of2 A B) gives refused 14 (holdsOf (others 255)))
+    ∷ (holdFunding (holdsOf (others 255)) 1 (of1 A) gives done (others 255 ++ (funding 1 A ∷ [])))
+    ∷ (holdFunding (holdsOf (others 256)) 5 (of2 A B) gives done (funding 5 A ∷ funding 5 B ∷ []))
+    ∷ (holdFunding (holdsOf (others 256)) 1 noList gives refused 3 (holdsOf (others 256)))
     -- "`hold_for_watchtower` sets the end to now + 1,800,000 (capped at 2^64 - 1), one record per cell"; "New records go last; a renewed watchtower record .. keeps its place"
-    ∷ (holdForWatchtower (table (tower 5 A ∷ funding 7 B ∷ [])) (pointList (C ∷ A ∷ B ∷ C ∷ [])) (ms 1000) gives done (tower 1801000 A ∷ funding 7 B ∷ tower 1801000 C ∷ tower 1801000 B ∷ []))
-    ∷ (holdForWatchtower (table []) (of1 A) (ms 1000) gives done (tower 1801000 A ∷ []))
-    ∷ (holdForWatchtower (table []) (of1 A) (ms (2 ^ 64 - 1800001)) gives done (tower (2 ^ 64 - 1) A ∷ []))
-    ∷ (holdForWatchtower (table []) (of1 A) (ms (2 ^ 64 - 1)) gives done (tower (2 ^ 64 - 1) A ∷ []))
+    ∷ (holdForWatchtower (holdsOf (tower 5 A ∷ funding 7 B ∷ [])) (pointList (C ∷ A ∷ B ∷ C ∷ [])) (ms 1000) gives done (tower 1801000 A ∷ funding 7 B ∷ tower 1801000 C ∷ tower 1801000 B ∷ []))
+    ∷ (holdForWatchtower (holdsOf []) (of1 A) (ms 1000) gives done (tower 1801000 A ∷ []))
+    ∷ (holdForWatchtower (holdsOf []) (of1 A) (ms (2 ^ 64 - 1800001)) gives done (tower (2 ^ 64 - 1) A ∷ []))
+    ∷ (holdForWatchtower (holdsOf []) (of1 A) (ms (2 ^ 64 - 1)) gives done (tower (2 ^ 64 - 1) A ∷ []))
     -- 14, and a cell named twice is one record; ended records count
-    ∷ (holdForWatchtower (table (others 256)) (of1 A) (ms 1000) gives refused 14 (table (others 256)))
-    ∷ (holdForWatchtower (table (others 255)) (of2 A A) (ms 1000) gives done (others 255 ++ (tower 1801000 A ∷ [])))
+    ∷ (holdForWatchtower (holdsOf (others 256)) (of1 A) (ms 1000) gives refused 14 (holdsOf (others 256)))
+    ∷ (holdForWatchtower (holdsOf (others 255)) (of2 A A) (ms 1000) gives done (others 255 ++ (tower 1801000 A ∷ [])))
     ∷ (holdForWatchtower nearlyFull (of1 A) (ms 1000) gives refused 14 nearlyFull)
     ∷ (holdForWatchtower nearlyFull (of1 B) (ms 1000) gives done (others 255 ++ (tower 1801000 B ∷ [])))
-    ∷ (holdForWatchtower (table (others 256)) noList (ms 1000) gives refused 3 (table (others 256)))
+    ∷ (holdForWatchtower (holdsOf (others 256)) noList (ms 1000) gives refused 3 (holdsOf (others 256)))
     -- "`release_for_watchtower` drops the named cells' watchtower records"
-    ∷ (releaseForWatchtower (table (tower 5 A ∷ funding 7 A ∷ tower 5 B ∷ [])) (of2 A C) gives done (funding 7 A ∷ tower 5 B ∷ []))
-    ∷ (releaseForWatchtower (table (tower 5 A ∷ [])) noList gives refused 3 (table (tower 5 A ∷ [])))
+    ∷ (releaseForWatchtower (holdsOf (tower 5 A ∷ funding 7 A ∷ tower 5 B ∷ [])) (of2 A C) gives done (funding 7 A ∷ tower 5 B ∷ []))
+    ∷ (releaseForWatchtower (holdsOf (tower 5 A ∷ [])) noList gives refused 3 (holdsOf (tower 5 A ∷ [])))
     ∷ []
+
+-- 2^32 bytes: 3, though they are a list by their count
+abbrev pub long : List (Row (Outcome Held (List Hold)))
+long = (holdFunding (holdsOf []) 1 tooLong gives refused 3 (holdsOf [])) ∷ []
 
 -- ---- `lock_held`, with the buffer
 
+-- an ended record alone, and beside another
+abbrev ended : Held
+ended = holdsOf (tower 1000 A ∷ [])
+
 abbrev twoHeld : Held
-twoHeld = table (tower 1000 A ∷ funding 7 B ∷ [])
+twoHeld = holdsOf (tower 1000 A ∷ funding 7 B ∷ [])
 
 abbrev pub locking : List (Row (Outcome Held (List Hold) × List ℕ))
 locking =
@@ -97,6 +103,7 @@ locking =
     ∷ (lockHeld twoHeld (ms 1000) (room 80) gives (done (funding 7 B ∷ []), of1 B ++ room 40))
     -- 13, and then nothing is dropped
     ∷ (lockHeld twoHeld (ms 1000) (room 39) gives (refused 13 twoHeld, room 39))
+    ∷ (lockHeld ended (ms 1000) (room 3) gives (refused 13 ended, room 3))
     ∷ []
 
 -- ---- `take`, with both buffers
@@ -108,24 +115,26 @@ taking =
     gives (done (funding 7 B ∷ funding 1 A ∷ []), of1 A, pointList (C ∷ B ∷ A ∷ [])))
     ∷ (takeCells twoHeld (of2 A C) none (Taker.Funding 1) (ms 999) (room 41) (room 41) gives (done (tower 1000 A ∷ funding 7 B ∷ funding 1 C ∷ []), of1 C ++ room 1, of1 A ++ room 1))
     -- held by the watchtower at 1,000: busy at 1,800,999, free at 1,801,000
-    ∷ (takeCells (table (tower 1801000 A ∷ [])) (of1 A) none (Taker.Funding 7) (ms 1800999) (room 4) (room 40) gives (done (tower 1801000 A ∷ []), none, of1 A))
-    ∷ (takeCells (table (tower 1801000 A ∷ [])) (of1 A) none (Taker.Funding 7) (ms 1801000) (room 40) (room 4) gives (done (funding 7 A ∷ []), of1 A, none))
+    ∷ (takeCells (holdsOf (tower 1801000 A ∷ [])) (of1 A) none (Taker.Funding 7) (ms 1800999) (room 4) (room 40) gives (done (tower 1801000 A ∷ []), none, of1 A))
+    ∷ (takeCells (holdsOf (tower 1801000 A ∷ [])) (of1 A) none (Taker.Funding 7) (ms 1801000) (room 40) (room 4) gives (done (funding 7 A ∷ []), of1 A, none))
     -- free A, B; pick A, A, B: taken A, B; refused A
-    ∷ (takeCells (table []) (pointList (A ∷ A ∷ B ∷ [])) none Taker.Watchtower (ms 1000) (room 76) (room 40) gives (done (tower 61000 A ∷ tower 61000 B ∷ []), of2 A B, of1 A))
+    ∷ (takeCells (holdsOf []) (pointList (A ∷ A ∷ B ∷ [])) none Taker.Watchtower (ms 1000) (room 76) (room 40) gives (done (tower 61000 A ∷ tower 61000 B ∷ []), of2 A B, of1 A))
     -- "for the watchtower until now + 60,000 (capped)"
-    ∷ (takeCells (table []) (of1 A) none Taker.Watchtower (ms 1000) (room 40) (room 4) gives (done (tower 61000 A ∷ []), of1 A, none))
-    ∷ (takeCells (table []) (of1 A) none Taker.Watchtower (ms (2 ^ 64 - 60000)) (room 40) (room 4) gives (done (tower (2 ^ 64 - 1) A ∷ []), of1 A, none))
+    ∷ (takeCells (holdsOf []) (of1 A) none Taker.Watchtower (ms 1000) (room 40) (room 4) gives (done (tower 61000 A ∷ []), of1 A, none))
+    ∷ (takeCells (holdsOf []) (of1 A) none Taker.Watchtower (ms (2 ^ 64 - 60000)) (room 40) (room 4) gives (done (tower (2 ^ 64 - 1) A ∷ []), of1 A, none))
     -- 14 counts what is left after the drop: with 255 others and an ended record one pick passes, and two are 14 and the ended one stays
     ∷ (takeCells nearlyFull (of1 A) none (Taker.Funding 1) (ms 1000) (room 76) (room 4) gives (done (others 255 ++ (funding 1 A ∷ [])), of1 A ++ room 36, none))
     ∷ (takeCells nearlyFull (of2 A C) none (Taker.Funding 1) (ms 1000) (room 76) (room 4) gives (refused 14 nearlyFull, room 76, room 4))
     -- by what is taken, and not by how many are picked
-    ∷ (takeCells (table (others 255)) (of2 A B) (of1 A) (Taker.Funding 1) (ms 1000) (room 40) (room 40) gives (done (others 255 ++ (funding 1 B ∷ [])), of1 B, of1 A))
-    ∷ (takeCells (table (others 256)) (of1 (cell 0)) none (Taker.Funding 1) (ms 1000) (room 4) (room 40) gives (done (others 256), none, of1 (cell 0)))
+    ∷ (takeCells (holdsOf (others 255)) (of2 A B) (of1 A) (Taker.Funding 1) (ms 1000) (room 40) (room 40) gives (done (others 255 ++ (funding 1 B ∷ [])), of1 B, of1 A))
+    ∷ (takeCells (holdsOf (others 256)) (of1 (point 0)) none (Taker.Funding 1) (ms 1000) (room 4) (room 40) gives (done (others 256), none, of1 (point 0)))
     -- 13 comes before 14: no room for the taken ones, or for the refused ones
-    ∷ (takeCells (table (others 256)) (of1 A) none (Taker.Funding 1) (ms 1000) (room 39) (room 40) gives (refused 13 (table (others 256)), room 39, room 40))
-    ∷ (takeCells (table (others 256)) (of1 (cell 0)) none (Taker.Funding 1) (ms 1000) (room 40) (room 39) gives (refused 13 (table (others 256)), room 40, room 39))
-    -- and then an ended record stays
-    ∷ (takeCells (table (tower 1000 B ∷ [])) (of1 A) none Taker.Watchtower (ms 1000) (room 4) (room 4) gives (refused 13 (table (tower 1000 B ∷ [])), room 4, room 4))
+    ∷ (takeCells (holdsOf (others 256)) (of1 A) none (Taker.Funding 1) (ms 1000) (room 39) (room 40) gives (refused 13 (holdsOf (others 256)), room 39, room 40))
+    ∷ (takeCells (holdsOf (others 256)) (of1 (point 0)) none (Taker.Funding 1) (ms 1000) (room 40) (room 39) gives (refused 13 (holdsOf (others 256)), room 40, room 39))
+    -- and then an ended record stays; also where nothing is picked, and there is no room for an empty list
+    ∷ (takeCells ended (of1 B) none Taker.Watchtower (ms 1000) (room 4) (room 4) gives (refused 13 ended, room 4, room 4))
+    ∷ (takeCells ended none none Taker.Watchtower (ms 1000) (room 3) (room 4) gives (refused 13 ended, room 3, room 4))
+    ∷ (takeCells ended none none Taker.Watchtower (ms 1000) (room 4) (room 3) gives (refused 13 ended, room 4, room 3))
     -- 3 before all, of either list
     ∷ (takeCells twoHeld noList none (Taker.Funding 1) (ms 1000) (room 3) (room 3) gives (refused 3 twoHeld, room 3, room 3))
     ∷ (takeCells twoHeld (of1 A) noList (Taker.Funding 1) (ms 1000) (room 3) (room 3) gives (refused 3 twoHeld, room 3, room 3))

@@ -12,8 +12,8 @@ use Rattle.hold_records.specs.Holds.{holdFunding, holdForWatchtower, releaseFor
 use Rattle.table_bytes.specs.Lent.{After, lentTable, lentWith, lentWithTwo, lentRead}
 use Rattle.held_bytes.specs.HeldBytes.{heldOf, heldBytes}
 use Rattle.known_cases.specs.Rows.{Row, _gives_}
-use Rattle.known_cases.specs.Cases.{ms, room}
-use Rattle.known_holds.specs.Holds.{cell, A, B, C, funding, tower, of1, of2, none, noList}
+use Rattle.known_cases.specs.Cases.{ms, point, room}
+use Rattle.known_holds.specs.Holds.{A, B, C, funding, tower, of1, of2, none, noList}
 
 -- ---- the calls on bytes s
 
@@ -54,7 +54,10 @@ table n places = toLe 4 n ++ flatten places ++ room (12288 - 48 * length places)
 abbrev empty : List ℕ
 empty = table 0 []
 
--- the watchtower's on A until 1,000, and a funding's on B
+-- the watchtower's on A until 1,000, alone and with a funding's on B
+abbrev ended : List ℕ
+ended = table 1 (towerPlace 1000 A ∷ [])
+
 abbrev two : List ℕ
 two = table 2 (towerPlace 1000 A ∷ fundingPlace 7 B ∷ [])
 
@@ -67,7 +70,7 @@ abbrev pub zeros : ℕ → List ℕ
 zeros n = toLe 4 n ++ replicate 12288 0
 
 abbrev pub ofZeros : ℕ → List Hold
-ofZeros n = replicate n (funding 0 (cell 0))
+ofZeros n = replicate n (funding 0 (point 0))
 
 -- bytes that are no table: one less, and one more
 abbrev shorter : List ℕ
@@ -135,6 +138,7 @@ locked =
     ∷ (lock (zeros 257) 1000 (room 9220) gives (done (ofZeros 256, zeros 256), toLe 4 256 ++ replicate 9216 0))
     -- 13, and then nothing is dropped
     ∷ (lock two 1000 (room 39) gives (refused 13 two, room 39))
+    ∷ (lock ended 1000 (room 3) gives (refused 13 ended, room 3))
     ∷ (lock (zeros 257) 1000 (room 9219) gives (refused 13 (zeros 257), room 9219))
     -- 3, bytes of another length
     ∷ (lock shorter 1000 (room 80) gives (refused 3 shorter, room 80))
@@ -147,7 +151,7 @@ abbrev pub naming : List (Row (ℕ × List ℕ))
 naming =
     (named two (pointList (C ∷ B ∷ A ∷ B ∷ [])) (of1 C) 999 (room 112) gives (0, pointList (C ∷ B ∷ A ∷ [])))
     ∷ (named two (pointList (C ∷ B ∷ A ∷ B ∷ [])) (of1 C) 1000 (room 112) gives (0, of2 C B ++ room 36))
-    ∷ (named (zeros 257) (of2 A (cell 0)) none 1000 (room 40) gives (0, of1 (cell 0)))
+    ∷ (named (zeros 257) (of2 A (point 0)) none 1000 (room 40) gives (0, of1 (point 0)))
     -- 13
     ∷ (named two (of1 B) none 1000 (room 39) gives (13, room 39))
     -- 3, bytes of another length, or either list
@@ -174,6 +178,7 @@ taken =
     -- 13, no room for the taken ones, or for the refused ones: the ended record stays
     ∷ (takes two (of2 A B) none (Taker.Funding 1) 1000 (room 39) (room 40) gives (refused 13 two, room 39, room 40))
     ∷ (takes two (of2 A B) none (Taker.Funding 1) 1000 (room 40) (room 39) gives (refused 13 two, room 40, room 39))
+    ∷ (takes ended none none (Taker.Funding 1) 1000 (room 3) (room 4) gives (refused 13 ended, room 3, room 4))
     -- 3, bytes of another length, or either list
     ∷ (takes shorter (of1 A) none (Taker.Funding 1) 1000 (room 40) (room 4) gives (refused 3 shorter, room 40, room 4))
     ∷ (takes longer (of1 A) none (Taker.Funding 1) 1000 (room 3) (room 3) gives (refused 3 longer, room 3, room 3))

@@ -1,10 +1,15 @@
 -- Every line is what the definitions compute.
 use mathlib.Core.Path.{refl}
+use Rattle.answer_words.specs.Buffers.{lineFirst}
 use Rattle.known_cases.specs.Rows.{AllRight}
 use Rattle.known_cases.proofs.Rows.{_and_, done}
 use Rattle.known_outcomes.proofs.Computing.{computing}
-use Rattle.known_lines.specs.Printed.{printed}
+use Rattle.known_lines.specs.Printed.{printed, inBuffer}
 
 pub known-printed : AllRight printed
 unfolding computing
 known-printed = refl and refl and refl and refl and refl and refl and refl and refl and refl and refl and refl and refl and done
+
+pub known-in-buffer : AllRight inBuffer
+unfolding computing lineFirst
+known-in-buffer = refl and refl and done

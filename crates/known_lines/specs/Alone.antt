@@ -4,10 +4,10 @@ use Prim.Native.String.{String}
 use mathlib.Core.List.{List, [], _∷_, _++_}
 use mathlib.Core.Option.{none}
 use Rattle.molecule.specs.Molecule.{Value, encode}
-use Rattle.transaction.specs.Ckb.{Byte32, CellDep, CellInput, CellOutput, Records}
+use Rattle.transaction.specs.Ckb.{CellOutput, Records}
 use Rattle.rules.specs.Judge.{Call}
 use Rattle.known_lines.specs.Lines.{lines, failing}
-use Rattle.known_cases.specs.Cases.{expectedLock, ourLock, tokenType, input, dep, header, inputs, output, plain, token, amount, transaction, spending, usual, holding, crowd, cell, notLive, offer, Case, untyped, typed}
+use Rattle.known_cases.specs.Cases.{expectedLock, ourLock, tokenType, input, dep, header, inputs, output, plain, token, amount, spending, usual, ofVersion, withDeps, withHeaders, withInputs, holding, crowd, cell, notLive, offer, Case, untyped, typed}
 
 -- a case, the lines that fail in it, and the answer
 pub record Row : Type 0 where
@@ -22,20 +22,7 @@ alone line answer c = record { fails = line ∷ []; answer = answer; case = c }
 abbrev together : List String → List ℕ → Case → Row
 together lines answer c = record { fails = lines; answer = answer; case = c }
 
--- ---- the usual transaction, of one input and one output of 100 shannons, but for one part
-
-abbrev ofVersion : ℕ → List ℕ
-ofVersion n = transaction n [] [] (inputs 1) (plain 100 ∷ []) ([] ∷ []) []
-
-abbrev withDeps : List (Value CellDep) → List ℕ
-withDeps ds = transaction 0 ds [] (inputs 1) (plain 100 ∷ []) ([] ∷ []) []
-
-abbrev withHeaders : List (Value Byte32) → List ℕ
-withHeaders hs = transaction 0 [] hs (inputs 1) (plain 100 ∷ []) ([] ∷ []) []
-
-abbrev withInputs : List (Value CellInput) → List ℕ
-withInputs is = spending is (plain 100 ∷ []) ([] ∷ [])
-
+-- the usual transaction but for its outputs and their data
 abbrev withOutputs : List (Value CellOutput) → List (List ℕ) → List ℕ
 withOutputs os es = spending (inputs 1) os es
 

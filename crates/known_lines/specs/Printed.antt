@@ -1,17 +1,14 @@
 -- Lines that the check program prints for whole files: 1, 2, 3 and 5. Those that begin with 0, 4, 6, 7 and 8 are among the known outcomes (crates/known_outcomes/specs/Outcomes.antt).
--- proofs/KnownPrinted.antt proves all rows at once.
+-- And what `basinpantry_check_case` leaves of a line in a lent buffer. proofs/KnownPrinted.antt proves all rows at once.
 use Prim.Native.Nat.{ℕ, _-_}
 use mathlib.Core.List.{List, [], _∷_, _++_}
 use lib.ListN.{length, take, replicate}
 use Rattle.arithmetic.specs.LittleEndian.{toLe}
 use Rattle.case_file.specs.CaseFile.{caseLine}
+use Rattle.answer_words.specs.Buffers.{lineFirst}
 use Rattle.known_cases.specs.Rows.{Row, _gives_}
-use Rattle.known_cases.specs.Cases.{inputs, plain, spending, usual, cell, notLive}
+use Rattle.known_cases.specs.Cases.{plain, room, bare, usual, cell, notLive}
 use Rattle.known_outcomes.specs.CaseFiles.{ascii, file}
-
--- so many inputs, and nothing else
-abbrev bare : ℕ → List ℕ
-bare n = spending (inputs n) [] []
 
 -- bytes that are no transaction and no script
 abbrev unreadable : List ℕ
@@ -44,4 +41,11 @@ printed =
     -- 65,536 bytes, of which ours, unreadable, has all but 140; a word more: 3, not 1, as if any length were read
     ∷ (caseLine (file (replicate 65396 0) [] [] []) gives ascii "1\n")
     ∷ (caseLine (file (replicate 65400 0) [] [] []) gives ascii "3\n")
+    ∷ []
+
+-- its length, and the buffer: 105 bytes are asked for, however short the line is
+abbrev pub inBuffer : List (Row (ℕ × List ℕ))
+inBuffer =
+    (lineFirst (caseLine []) (room 104) gives (0, room 104))
+    ∷ (lineFirst (caseLine []) (room 105) gives (2, ascii "3\n" ++ room 103))
     ∷ []

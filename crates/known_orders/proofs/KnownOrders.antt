@@ -8,7 +8,7 @@ use Rattle.known_cases.proofs.Computing.{computing-updates}
 pub known-orders : AllRight orders
 unfolding computing-updates
 known-orders =
-    refl and refl and refl and refl and refl and refl and refl and refl and refl and refl and refl and refl and refl
+    refl and refl and refl and refl and refl and refl and refl and refl and refl and refl and refl and refl and refl and refl
     and refl and refl and refl and refl and refl and refl and refl and refl and refl and refl and refl and refl and refl
     and refl and refl and refl and refl and refl and refl and refl and refl and refl and refl and refl and refl and refl
     and refl and refl and refl and refl and refl and refl and refl and refl and refl and refl and refl and refl and refl and done

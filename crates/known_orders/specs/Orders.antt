@@ -5,30 +5,14 @@ use mathlib.Core.List.{List, [], _∷_, _++_}
 use mathlib.Core.Option.{none, some}
 use lib.ListN.{replicate}
 use Rattle.arithmetic.specs.LittleEndian.{toLe}
+use Rattle.molecule.specs.Items.{join}
 use Rattle.molecule.specs.Molecule.{Value, option, encode}
-use Rattle.transaction.specs.Ckb.{Byte32, CellInput, CellOutput, Record, Records}
+use Rattle.transaction.specs.Ckb.{CellOutput, Record, Records}
 use Rattle.rules.specs.Judge.{Call}
 use Rattle.known_cases.specs.Rows.{Row, _gives_}
-use Rattle.known_cases.specs.Cases.{plainScript, expectedLock, ourLock, input, inputs, dep, deps, header, output, plain, token, amount, transaction, spending, usual, holding, cell, notLive, offer, Case, untyped, typed, answer}
+use Rattle.known_cases.specs.Cases.{plainScript, expectedLock, ourLock, input, inputs, dep, deps, header, output, plain, token, amount, transaction, spending, bare, usual, ofVersion, withDeps, withHeaders, withInputs, holding, cell, notLive, offer, Case, untyped, typed, answer}
 
 -- ---- transactions
-
--- so many inputs, and nothing else
-abbrev bare : ℕ → List ℕ
-bare n = spending (inputs n) [] []
-
--- the usual transaction, of one input and one output of 100 shannons, but for one part
-abbrev ofVersion : ℕ → List ℕ
-ofVersion n = transaction n [] [] (inputs 1) (plain 100 ∷ []) ([] ∷ []) []
-
-abbrev withDeps : ℕ → List ℕ
-withDeps n = transaction 0 (deps n) [] (inputs 1) (plain 100 ∷ []) ([] ∷ []) []
-
-abbrev withHeaders : List (Value Byte32) → List ℕ
-withHeaders hs = transaction 0 [] hs (inputs 1) (plain 100 ∷ []) ([] ∷ []) []
-
-abbrev withInputs : List (Value CellInput) → List ℕ
-withInputs is = spending is (plain 100 ∷ []) ([] ∷ [])
 
 -- two outputs more: so many shannons in output 2, and its data
 abbrev withThird : ℕ → List ℕ → List ℕ
@@ -43,6 +27,10 @@ outless version ds is = transaction version (deps ds) [] (inputs is) [] [] []
 -- bytes that are no transaction, no script and no records
 abbrev unreadable : List ℕ
 unreadable = 0 ∷ []
+
+-- code hash, hash type, args and a fourth field, of no bytes
+abbrev fourFields : List ℕ
+fourFields = join (replicate 32 1 ∷ (0 ∷ []) ∷ toLe 4 0 ∷ [] ∷ [])
 
 -- ours and the peer's under a lock, a type and a source lock, no record
 abbrev under : List ℕ → List ℕ → List ℕ → List ℕ → List ℕ → Case
@@ -80,9 +68,9 @@ limits =
     -- 66; not 3, as if only a first update were limited
     ∷ (answer (untyped (bare 1) (offer (bare 66) [])) gives 4 ∷ [])
     -- ours 1 cell dep, the peer's 9; not 4, as if cell deps were limited in total
-    ∷ (answer (untyped (withDeps 1) (offer (withDeps 9) [])) gives 0 ∷ 0 ∷ 0 ∷ [])
+    ∷ (answer (untyped (withDeps (deps 1)) (offer (withDeps (deps 9)) [])) gives 0 ∷ 0 ∷ 0 ∷ [])
     -- 10; not accepted, as if only a first update were limited
-    ∷ (answer (untyped (withDeps 1) (offer (withDeps 10) [])) gives 4 ∷ [])
+    ∷ (answer (untyped (withDeps (deps 1)) (offer (withDeps (deps 10)) [])) gives 4 ∷ [])
     -- ours 1 output, the peer's 4, and no data; not 4, as if outputs were limited in total
     ∷ (answer (untyped (spending [] (plain 100 ∷ []) []) (offer (spending [] (replicate 4 (plain 100)) []) [])) gives 5 ∷ [])
     -- 5; not 5 for the missing data, as if only a first update were limited
@@ -115,6 +103,13 @@ comparison =
     ∷ (answer (untyped [] (opening (output 3 none 100) [])) gives 5 ∷ [])
     ∷ (answer (untyped [] (opening (token 100) [])) gives 5 ∷ [])
     ∷ (answer (untyped [] (opening (plain 100) (1 ∷ []))) gives 5 ∷ [])
+    ∷ []
+
+-- which bytes are a script
+abbrev scripts : List (Row (List ℕ))
+scripts =
+    -- our source lock with a fourth field; not accepted, as by a reader that passes over further fields
+    (answer (under expectedLock [] fourFields usual usual) gives 3 ∷ [])
     ∷ []
 
 -- which data are an amount, and how much it may be
@@ -191,4 +186,4 @@ order =
     ∷ []
 
 abbrev pub orders : List (Row (List ℕ))
-orders = limits ++ comparison ++ amounts ++ fee ++ order
+orders = limits ++ comparison ++ scripts ++ amounts ++ fee ++ order

@@ -4,13 +4,14 @@ use Prim.Native.Nat.{ℕ}
 use mathlib.Core.List.{List, [], _∷_, _++_}
 use lib.ListN.{replicate}
 use Rattle.rules.specs.Outcome.{fine, refused}
+use Rattle.rules.specs.Judge.{judge}
 use Rattle.negotiation.specs.Updates.{bytesOf, rateOf, callsOf, transactionAt}
-use Rattle.words.specs.Words.{numberOf, valuesOf, surplusWords}
+use Rattle.words.specs.Words.{numberOf, valuesOf, surplusWords, setWords, inWords}
 use Rattle.negotiation.specs.Words.{allWords}
 use Rattle.negotiation.specs.Replay.{acceptedOf, indexAfter, replayOf, leaves}
 use Rattle.known_cases.specs.Cases.{expectedLock, tokenType}
-use Rattle.known_outcomes.specs.Runs.{worked, growing}
-use Rattle.known_outcomes.specs.Replays.{lent}
+use Rattle.known_outcomes.specs.Runs.{worked, opening, growing}
+use Rattle.known_outcomes.specs.Replays.{lent, lentOne}
 use Rattle.known_outcomes.proofs.Computing.{computing}
 
 -- the calls are read back
@@ -28,8 +29,15 @@ pub replayed-in-force : transactionAt [] lent 3 ≡ growing .peer
 unfolding computing bytesOf transactionAt
 replayed-in-force = refl
 
--- a byte too many is no list of updates, and fourteen words are too few
+-- a byte too many is no list of updates; fourteen words are too few for three updates, and four for one
 pub replay-refusals : (leaves (replayOf expectedLock tokenType [] (lent ++ (0 ∷ [])) 16) (replicate 16 7) ≡ (refused 3 [], replicate 16 7))
     × (leaves (replayOf expectedLock tokenType [] lent 14) (replicate 14 7) ≡ (refused 13 [], replicate 14 7))
+    × (leaves (replayOf expectedLock tokenType [] lentOne 4) (replicate 4 7) ≡ (refused 13 [], replicate 4 7))
 unfolding computing replayOf leaves
-replay-refusals = (refl, refl)
+replay-refusals = (refl, refl, refl)
+
+-- the first update's answer by itself: four of the lent words are set, and three are too few
+pub answered-in-words : (inWords surplusWords (judge expectedLock tokenType [] opening) (replicate 5 7) ≡ (0, 860 ∷ 0 ∷ 1 ∷ 0 ∷ 7 ∷ []))
+    × (inWords surplusWords (judge expectedLock tokenType [] opening) (replicate 3 7) ≡ (13, replicate 3 7))
+unfolding computing numberOf valuesOf surplusWords setWords inWords
+answered-in-words = (refl, refl)

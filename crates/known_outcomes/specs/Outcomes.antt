@@ -11,7 +11,6 @@ use Rattle.units.specs.Fee.{requiredFee, changeCapacity}
 use Rattle.molecule.specs.Molecule.{Value, encode}
 use Rattle.transaction.specs.Ckb.{Script, CellOutput, TokenCell, TokenCells}
 use Rattle.rules.specs.Outcome as verdict
-use Rattle.out_points.specs.declared.{OutPoint.OutPoint}
 use Rattle.out_points.specs.OutPoints.{pointList}
 use Rattle.out_points.specs.Tables as table
 use Rattle.hold_records.specs.declared.{Hold.Hold, Held.Held, Taker.Taker}
@@ -23,7 +22,7 @@ use Rattle.case_file.specs.CaseFile.{caseLine}
 use Rattle.known_outcomes.specs.CaseFiles.{ascii, file, fileAt, firstFile}
 use Rattle.known_exclusions.specs.Exclusions.{listed, excludedBy}
 use Rattle.known_cases.specs.Rows.{Row, _gives_}
-use Rattle.known_cases.specs.Cases.{plainScript, expectedLock, ourLock, tokenType, inputs, output, plain, token, amount, ms, spending, crowd, cell, notLive, atRate, offer, untyped, numbers, answer}
+use Rattle.known_cases.specs.Cases.{plainScript, expectedLock, ourLock, tokenType, inputs, output, plain, token, amount, ms, point, holdsOf, spending, withInputs, crowd, cell, notLive, atRate, offer, untyped, numbers, answer}
 
 abbrev bytes : List ℕ → List ℕ
 bytes s = length s ∷ []
@@ -53,20 +52,9 @@ peerTx = spending (inputs 1) (plain 10000000000 ∷ []) ([] ∷ [])
 abbrev pub outputsTx : ℕ → List ℕ
 outputsTx n = spending (inputs 1) (replicate n (plain 100)) (replicate n [])
 
--- so many inputs
-abbrev pub inputsTx : ℕ → List ℕ
-inputsTx n = spending (inputs n) (plain 100 ∷ []) ([] ∷ [])
-
 -- two inputs, and 5 tokens at output 0
 abbrev pub tokensTx : List ℕ
 tokensTx = spending (inputs 2) (token 100 ∷ []) (amount 5 ∷ [])
-
--- two cells, of index 1 and 2
-abbrev pub cellA : OutPoint
-cellA = record { hash = record { a = 0; b = 0; c = 0; d = 0 }; index = 1 }
-
-abbrev pub cellB : OutPoint
-cellB = record { hash = record { a = 0; b = 0; c = 0; d = 0 }; index = 2 }
 
 -- room for so many out points
 abbrev pub room : ℕ → List ℕ
@@ -81,18 +69,15 @@ abbrev meantBy : {T A : Type 0} → table.Outcome T (List A) → List A
 meantBy (table.done l) = l
 meantBy (table.refused n t) = []
 
--- ---- the table of holds
-
-abbrev holdsOf : List Hold → Held
-holdsOf l = record { records = l; count = length l }
+-- ---- the table of holds: A is the cell 1, B the cell 2
 
 -- what is unavailable of A at a time, which the watchtower got at 1,000
 abbrev busyAt : ℕ → List ℕ
-busyAt time = listed (unavailable (holdsOf (meantBy (holdForWatchtower (holdsOf []) (pointList (cellA ∷ [])) (ms 1000)))) (pointList (cellA ∷ [])) (pointList []) (ms time) (room 1))
+busyAt time = listed (unavailable (holdsOf (meantBy (holdForWatchtower (holdsOf []) (pointList (point 1 ∷ [])) (ms 1000)))) (pointList (point 1 ∷ [])) (pointList []) (ms time) (room 1))
 
 -- A, A, B picked from an empty table
 abbrev pickedAAB : table.Outcome Held (List Hold) × List ℕ × List ℕ
-pickedAAB = takeCells (holdsOf []) (pointList (cellA ∷ cellA ∷ cellB ∷ [])) (pointList []) Taker.Watchtower (ms 1000) (room 2) (room 1)
+pickedAAB = takeCells (holdsOf []) (pointList (point 1 ∷ point 1 ∷ point 2 ∷ [])) (pointList []) Taker.Watchtower (ms 1000) (room 2) (room 1)
 
 abbrev taken : table.Outcome Held (List Hold) × List ℕ × List ℕ → List ℕ
 taken (o, out₁, out₂) = listed (numberOf o, out₁)
@@ -172,7 +157,7 @@ outcomes =
     ∷ (answer (untyped [] (crowd 1 1 0 132907)) gives 0 ∷ 199900 ∷ 0 ∷ [])
     ∷ (answer (untyped [] (crowd 1 1 0 132908)) gives 4 ∷ [])
     -- ours 2 inputs, added record 0 under our lock, record 1 not live: 6 2
-    ∷ (caseLine (file (inputsTx 2) [] (inputsTx 4) (cell (output 1 none 5) [] ∷ notLive ∷ [])) gives ascii "6 2\n")
+    ∷ (caseLine (file (withInputs (inputs 2)) [] (withInputs (inputs 4)) (cell (output 1 none 5) [] ∷ notLive ∷ [])) gives ascii "6 2\n")
     -- token records 2^128 - 1 and 1: 7
     ∷ (caseLine (file [] tokenType tokensTx (cell (token 1000) (amount (2 ^ 128 - 1)) ∷ cell (token 1000) (amount 1) ∷ [])) gives ascii "7\n")
     -- figures local 5, reserve 7, remote 11, reserve 13: 12 unfunded, 36 funded; typed 5 and 7 (tokens, and reserves as capacity), then 16 and 20
