@@ -1,4 +1,4 @@
--- What this crate's answers stand for.
+-- What this crate's answers stand for, in the rules' numbers (docs/RULES.md, the table's row "contribution": 5, 7, 8).
 use Prim.Native.Nat.{ℕ}
 use mathlib.Core.List.{[]}
 use Rattle.units.specs.Units.{shannonCount, tokenCount}

@@ -112,7 +112,7 @@ Distinct (x ∷ xs) = (contains x xs ≡ false) × Distinct xs
 
 -- a peer that receives it with the same lock and type finds nothing of its own changed (our base passes the rules' comparison against the present
 -- transaction, but for the cases that DIFFERENCES.md names with their smallest inputs: repeated cell deps, and data entries beyond the outputs, both
--- dropped as in the Rust)"
+-- dropped as in the Rust)
 abbrev pub Passes : Lent → FundingRequest → List ℕ → Type 0
 Passes l request bytes =
     Distinct (txAt (l .ours) .cellDeps) → length (txAt (l .ours) .outputsData) ≤ length (txAt (l .ours) .outputs)

@@ -16,12 +16,12 @@ use Rattle.lists.proofs.AgreeLaws.{extends-is, extends-rest}
 use Rattle.transaction.specs.Tx.{txAt, rawField, lockOf, typeOf}
 use Rattle.molecule.specs.Layout.{itemOf, entryOf}
 use Rattle.rules.specs.Outcome.{Outcome, check, _>>_}
-use Rattle.rules.specs.Cells.{Cell, cells, cellAt}
+use Rattle.rules.specs.Cells.{Cell, cells}
 use Rattle.rules.specs.Surplus.{isEmpty, isOf}
 use Rattle.rules.specs.Judge.{atFirst, hasLock, noDataUntyped, comparison}
 use Rattle.comparison.specs.Together.{noneMissing, keptAfterFirst, fundingCellFirst}
 use Rattle.rules.proofs.Checks.{skip, fail, pass, last-is, last-two, fail-two, fail-apart, pass-two}
-use Rattle.rules.proofs.CellLaws.{empty-is, cells-none, cells-some}
+use Rattle.rules.proofs.CellLaws.{cellAt, empty-is, cells-none, cells-some}
 
 -- ---- a list of ours against the peer's
 

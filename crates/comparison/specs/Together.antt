@@ -1,4 +1,4 @@
--- Lines of the comparison that read one list of each transaction, and that one function answers.
+-- Lines of the comparison (docs/RULES.md, the table's row "comparison") that read one list of each transaction, and that one function answers.
 use Prim.Native.Nat.{ℕ}
 use mathlib.Core.Bool.{Bool, _&&_}
 use mathlib.Core.List.{List}

@@ -16,11 +16,11 @@ use Rattle.error.specs.declared.Refusal.{Refusal}
 use Rattle.error.specs.Refusal.{number, values}
 use Rattle.rules.specs.declared.Update.{Update}
 use Rattle.rules.specs.Outcome.{Outcome, fine, refused, _>>=_}
-use Rattle.rules.specs.Cells.{Cell, cellAt}
+use Rattle.rules.specs.Cells.{Cell}
 use Rattle.rules.specs.Surplus.{isEmpty, total, added, capacityOf}
 use Rattle.rules.specs.Judge.{Figures, unfunded, covered, fundingOutputDelta}
 use Rattle.rules.specs.Told.{refusal, told}
-use Rattle.rules.proofs.CellLaws.{empty-is, added-is}
+use Rattle.rules.proofs.CellLaws.{cellAt, empty-is, added-is}
 use Rattle.accounts.specs.declared.capacity.CapacitySurplus.{CapacitySurplus}
 use Rattle.accounts.specs.declared.token.TokenSum.{TokenSum}
 use Rattle.accounts.specs.Added.{cellIn, cellsFrom}

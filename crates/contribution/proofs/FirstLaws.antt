@@ -19,10 +19,10 @@ use Rattle.molecule.proofs.Offsets.{span-length}
 use Rattle.transaction.specs.Tx.{txAt, rawField}
 use Rattle.transaction.specs.Tx as tx
 use Rattle.rules.specs.Outcome.{Outcome, fine, refused, check, checkWith, _>>_, _>>=_}
-use Rattle.rules.specs.Cells.{Cell, cells, cellAt}
+use Rattle.rules.specs.Cells.{Cell, cells}
 use Rattle.rules.specs.Surplus.{isEmpty, first, capacityOf, hasAmount, amountOf}
 use Rattle.rules.specs.Judge.{Figures, atFirst, growth, tokenDelta, fundingOutputDelta}
-use Rattle.rules.proofs.CellLaws.{empty-is, cells-none, cells-some}
+use Rattle.rules.proofs.CellLaws.{cellAt, empty-is, cells-none, cells-some}
 use Rattle.rules.proofs.Tests.{never, fine-inj}
 use Rattle.accounts.proofs.TokenLaws.{amount-there}
 use Rattle.contribution.specs.declared.OutputDelta.{OutputDelta}

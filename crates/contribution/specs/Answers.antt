@@ -1,4 +1,4 @@
--- What this crate's answers stand for.
+-- What this crate's answers about output 0 stand for, in the rules' numbers (docs/RULES.md, the table's row "contribution").
 use Prim.Native.Nat.{ℕ}
 use mathlib.Core.List.{[]}
 use Rattle.units.specs.declared.TokensRead.{TokensRead}

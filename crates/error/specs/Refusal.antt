@@ -8,7 +8,7 @@ unfoldable pub number : Refusal → ℕ
 number Refusal.OurTransactionUnreadable = 1
 -- entry: the peer's bytes unreadable
 number Refusal.PeerTransactionUnreadable = 2
--- entry, records: a script, a lent list or a record unreadable, or the records not one per added input
+-- entry, records: a script, a lent list, a record, a hash or a table unreadable, the records not one per added input, or no such list or item
 number Refusal.LentBytesUnreadable = 3
 -- limits: size, added inputs, added outputs, added cell deps
 number Refusal.PeerFundingTxExceedsLimit = 4

@@ -3,25 +3,25 @@ ghost use mathlib.Core.Path.{_≡_};
 ghost use lib.ListN.{length, getD};
 ghost use Rattle.error.specs.Refusal.{number, values, answered};
 
-// A refusal. The comment on each case is its sentence for people.
+// A refusal. The comment on each case begins with its sentence for people.
 pub enum Refusal {
     /// Our own transaction's bytes are no transaction.
     OurTransactionUnreadable,
     /// The peer's bytes are no transaction.
     PeerTransactionUnreadable,
-    /// A lent script, list or record is unreadable, or the records are not one for each added input.
+    /// A lent script, list, record, hash or table is unreadable, the records are not one for each added input, or there is no such list or item.
     LentBytesUnreadable,
     /// The peer's transaction is over the size limit, or adds too many inputs, outputs or cell deps.
     PeerFundingTxExceedsLimit,
-    /// The peer sent us an invalid funding transaction.
+    /// The peer's funding transaction is invalid.
     InvalidPeerFundingTx,
-    /// A peer-added input, by its index among all inputs, has the local funding source lock.
+    /// An input that the peer added spends a cell under our own source lock. With its index among all inputs.
     PeerInputUsesOurFundingLock {
         input_index: usize,
     },
     /// A figure, or a sum of figures, is too wide.
     OverflowError,
-    /// The peer funded a fee, in shannons, below what the declared fee rate requires for a transaction of this size.
+    /// The fee is too low. With the fee paid and the one that the rate requires for a transaction of this size, in shannons.
     PeerFundingFeeTooLow {
         peer_fee: u64,
         required_fee: u64,

@@ -22,8 +22,8 @@ abbrev pub handedOf : List (Returned Update) → List (List ℕ)
 handedOf rs = map (λ r. r .handed) rs
 
 module _ (lock udt : List ℕ) where
-  -- A call: `update_for_peer` answers, and then `in_force` of its answer hands back bytes. The two lines are what the contracts of these functions
-  -- (src/lib.rt) say of their arguments and results, word for word.
+  -- A call: `update_for_peer` answers, and then `in_force` of its answer hands back bytes. The two lines are the contract of the one and the clause on bytes of
+  -- the other (src/lib.rt), word for word; the other clause of `in_force`, that these are the lent bytes themselves and no copy, is not needed here.
   pub record Called (ours : List ℕ) (call : Call) (update : Update) (handed : List ℕ) : Type 0 where
     pub answer : told update ≡ judge lock udt ours call
     pub bytes : handed ≡ inForceOf update ours (call .peer)

@@ -16,8 +16,12 @@ use Rattle.molecule.proofs.Offsets.{span-length}
 use Rattle.lists.proofs.SpanLaws.{span-on, span-whole, span-drop}
 use Rattle.transaction.specs.Ckb.{Transaction, Records}
 use Rattle.transaction.specs.Tx.{Tx, txAt, rawField, readTx}
-use Rattle.rules.specs.Cells.{Cell, pair, cells, cellAt, readOurs, recordAt, readRecords}
+use Rattle.rules.specs.Cells.{Cell, pair, cells, readOurs, recordAt, readRecords}
 use Rattle.rules.specs.Surplus.{isEmpty, added}
+
+-- output i of a transaction with its data
+unfoldable pub cellAt : List ℕ → ℕ → Cell
+cellAt s i = record { output = itemOf (rawField s 4) i; cellData = entryOf (rawField s 5) i }
 
 pub empty-is : {A : Type 0} (l : List A) → isEmpty l ≡ eqb (length l) 0
 unfolding isEmpty

@@ -7,9 +7,9 @@ use lib.ListN.{length, getD, drop}
 use lib.Dec.{eqb}
 use Rattle.molecule.specs.Partial.{only}
 use Rattle.molecule.specs.Molecule.{option, readable}
-use Rattle.molecule.specs.Layout.{span, itemCount, itemOf, entryOf}
+use Rattle.molecule.specs.Layout.{span, itemCount, itemOf}
 use Rattle.transaction.specs.Ckb.{Transaction, Records}
-use Rattle.transaction.specs.Tx.{Tx, txAt, rawField, firstOf, dataOf}
+use Rattle.transaction.specs.Tx.{Tx, txAt, firstOf, dataOf}
 
 -- an output's bytes with its data: a resolved record, or an output of a transaction with its data entry
 pub record Cell : Type 0 where
@@ -23,10 +23,6 @@ pair (o ∷ os) ds = record { output = o; cellData = getD ds 0 [] } ∷ pair os 
 
 abbrev pub cells : Tx → List Cell
 cells t = pair (t .outputs) (t .outputsData)
-
--- output i of a transaction with its data
-unfoldable pub cellAt : List ℕ → ℕ → Cell
-cellAt s i = record { output = itemOf (rawField s 4) i; cellData = entryOf (rawField s 5) i }
 
 -- our transaction, which may be none
 unfoldable pub readOurs : List ℕ → Option Tx

@@ -1,4 +1,4 @@
--- Lists of calls on a table of holds, and what holds of them. Each step has what the contract of the call says of it.
+-- Lists of calls on a table of holds (docs/RULES.md, "Holds and exclusions"), and what holds of them. Each step has what the contract of the call says of it.
 use mathlib.Core.Path.{_≡_}
 use Prim.Native.Nat.{ℕ, suc, _≤_}
 use mathlib.Core.Bool.{Bool, true, false, not, cond}
