@@ -11,12 +11,13 @@ ghost use Rattle.exclusion_entries.specs.Exclusions.{hasHash, isRecent};
 ghost use Rattle.exclusion_entries.specs.Entries.{entryOf, isEntry};
 ghost use Rattle.exclusion_entries.specs.Survey.{keeps, takes, stayed, turned, start, wordsOf, mayTouch, surveyOf};
 
-// How many bytes a lent table has: room for its count, 64 entries and 512 out points.
-pub const MAP_BYTES: usize = 21_508;
+// How many entries a map has at most, and how many out points they have together.
+pub const MOST_ENTRIES: usize = 64;
 
-const MOST_ENTRIES: usize = 64;
+pub const MOST_OUT_POINTS: usize = 512;
 
-const MOST_OUT_POINTS: usize = 512;
+// How many bytes a lent map has: room for its count, its entries and their out points.
+pub const MAP_BYTES: usize = 4 + 48 * MOST_ENTRIES + 36 * MOST_OUT_POINTS;
 
 // Number of blocks to keep the committed funding tx in the exclusion map.
 const KEEP_BLOCK_PERIOD: u64 = 13;
