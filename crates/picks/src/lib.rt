@@ -21,8 +21,8 @@ ghost use Rattle.hold_records.specs.Holds.{recordsOf, cellsOf, isBusy, firsts};
 ghost use Rattle.hold_records.specs.Rules.{putIf};
 ghost use Rattle.picks.specs.Places.{isAmong, marked, Marks, asked, isFirst, select, Tallied, unmatched, takeFrom};
 
-// How many bytes the list of a table's cells has at most: a count and 256 out points.
-const CELLS_BYTES: usize = 9220;
+// How many bytes the list of a table's cells has at most.
+const CELLS_BYTES: usize = 4 + 36 * MOST_RECORDS;
 
 // How many marks stand before a search: one for every out point, by the first word of its hash.
 const MARKS: usize = 4096;
@@ -31,7 +31,7 @@ const MARKS: usize = 4096;
 fn mark(marks: &mut [u8], word: u64)
     ensures { λ _. ⌜ now (marks .exit) ≡ set (now (marks .entry)) (word % 4096) 1 ⌝ }
 {
-    let at = (word % 4096) as usize;
+    let at = word as usize % MARKS;
     if marks.len() <= at {
         return;
     }
@@ -65,7 +65,7 @@ fn busy(cells: &[u8], spent: &[u8], marks: &[u8], p: OutPoint) -> bool
     ensures { λ r. ⌜ r ≡ isAmong (points (now (cells .entry))) (points (now (spent .entry))) p ⌝ }
 {
     let hash = p.hash;
-    let at = (hash.a % 4096) as usize;
+    let at = hash.a as usize % MARKS;
     if marks[at] == 0 {
         return false;
     }
