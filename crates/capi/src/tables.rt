@@ -132,13 +132,13 @@ pub extern "C" fn basinpantry_exclusions_remove(map: &mut [u8], hash: &[u8]) -> 
 #[no_mangle]
 pub extern "C" fn basinpantry_exclusions_migrate_funding_tx(
     map: &mut [u8],
-    old: &[u8],
-    new: &[u8],
+    old_hash: &[u8],
+    new_hash: &[u8],
     tx: &[u8],
 ) -> u32
-    ensures { λ r. ⌜ toldNumber (withBytes excludedAt) r (now (map .exit)) ≡ lentTx (now (tx .entry)) (now (map .entry)) (migrateOn (excludedAt (now (map .entry))) (now (old .entry)) (now (new .entry)) (now (tx .entry))) ⌝ }
+    ensures { λ r. ⌜ toldNumber (withBytes excludedAt) r (now (map .exit)) ≡ lentTx (now (tx .entry)) (now (map .entry)) (migrateOn (excludedAt (now (map .entry))) (now («old_hash» .entry)) (now («new_hash» .entry)) (now (tx .entry))) ⌝ }
 {
-    let a = exclusions::migrate_funding_tx(map, old, new, tx);
+    let a = exclusions::migrate_funding_tx(map, old_hash, new_hash, tx);
     a.number() as u32
 }
 
