@@ -25,7 +25,7 @@ use Rattle.base_lists.specs.BaseLists.{outputList, dataList, witnessList}
 use Rattle.cell_deps.specs.CellDeps.{depsAt}
 use Rattle.base_writer.specs.declared.{Plan.Plan, Sizes.Sizes}
 use Rattle.base_writer.specs.Answer.{inRoom, leaves, written, told}
-use Rattle.base_writer.specs.Lists.{orEmpty, Present, Beside, Lists, listsOf, bytesOf, Capped, total, Fitting, FrontFits, BackFits, front, back}
+use Rattle.base_writer.specs.Lists.{orEmpty, Present, presentOf, Beside, besideOf, Lists, listsOf, bytesOf, Capped, total, Fitting, FrontFits, BackFits, front, back}
 
 -- ---- lengths capped one by one, or together
 
@@ -147,7 +147,7 @@ module _ (version : ℕ) (z : Sizes) (x : Lists) (out : List ℕ) where
 
 -- of the lists that a call is lent
 module _ (version : ℕ) (deps headers inputs outputs datas lock udt source cells udtDeps lockDep extraDeps : List ℕ) (k : List ℕ) (p : Plan) (z : Sizes) (out : List ℕ)
-    (g : Fitting z (listsOf (record { deps = deps; headers = headers; inputs = inputs; outputs = outputs; datas = datas }) (record { lock = lock; udt = udt; source = source; cells = cells; udtDeps = udtDeps; lockDep = lockDep; extraDeps = extraDeps }) k p) out) where
+    (g : Fitting z (listsOf (presentOf deps headers inputs outputs datas) (besideOf lock udt source cells udtDeps lockDep extraDeps) k p) out) where
   abbrev first₁ : List ℕ
   first₁ = fixList (depsAt deps udtDeps lockDep extraDeps k)
 
@@ -168,13 +168,13 @@ module _ (version : ℕ) (deps headers inputs outputs datas lock udt source cell
 
   pub base-front : FrontFits z first₁ first₂ first₃ out
   unfolding listsOf
-  base-front = front-fits version z (listsOf (record { deps = deps; headers = headers; inputs = inputs; outputs = outputs; datas = datas }) (record { lock = lock; udt = udt; source = source; cells = cells; udtDeps = udtDeps; lockDep = lockDep; extraDeps = extraDeps }) k p) out g
+  base-front = front-fits version z (listsOf (presentOf deps headers inputs outputs datas) (besideOf lock udt source cells udtDeps lockDep extraDeps) k p) out g
 
   module _ {o₁ : List ℕ} {n₁ : ℕ} (q : Put out 0 (front version z first₁ first₂ first₃) o₁ n₁) where
     pub base-back : BackFits n₁ last₁ last₂ last₃ o₁
     unfolding listsOf
-    base-back = back-fits version z (listsOf (record { deps = deps; headers = headers; inputs = inputs; outputs = outputs; datas = datas }) (record { lock = lock; udt = udt; source = source; cells = cells; udtDeps = udtDeps; lockDep = lockDep; extraDeps = extraDeps }) k p) out g q
+    base-back = back-fits version z (listsOf (presentOf deps headers inputs outputs datas) (besideOf lock udt source cells udtDeps lockDep extraDeps) k p) out g q
 
-    pub base-put : {o₂ : List ℕ} {n₂ : ℕ} → Put o₁ n₁ (back last₁ last₂ last₃) o₂ n₂ → Put out 0 (bytesOf version (listsOf (record { deps = deps; headers = headers; inputs = inputs; outputs = outputs; datas = datas }) (record { lock = lock; udt = udt; source = source; cells = cells; udtDeps = udtDeps; lockDep = lockDep; extraDeps = extraDeps }) k p)) o₂ n₂
+    pub base-put : {o₂ : List ℕ} {n₂ : ℕ} → Put o₁ n₁ (back last₁ last₂ last₃) o₂ n₂ → Put out 0 (bytesOf version (listsOf (presentOf deps headers inputs outputs datas) (besideOf lock udt source cells udtDeps lockDep extraDeps) k p)) o₂ n₂
     unfolding listsOf
-    base-put r = whole version z (listsOf (record { deps = deps; headers = headers; inputs = inputs; outputs = outputs; datas = datas }) (record { lock = lock; udt = udt; source = source; cells = cells; udtDeps = udtDeps; lockDep = lockDep; extraDeps = extraDeps }) k p) out g q r
+    base-put r = whole version z (listsOf (presentOf deps headers inputs outputs datas) (besideOf lock udt source cells udtDeps lockDep extraDeps) k p) out g q r

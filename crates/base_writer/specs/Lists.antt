@@ -29,6 +29,9 @@ pub record Present : Type 0 where
   pub outputs : List ℕ
   pub datas : List ℕ
 
+abbrev pub presentOf : List ℕ → List ℕ → List ℕ → List ℕ → List ℕ → Present
+presentOf deps headers inputs outputs datas = record { deps = deps; headers = headers; inputs = inputs; outputs = outputs; datas = datas }
+
 -- what is lent beside it
 pub record Beside : Type 0 where
   pub lock : List ℕ
@@ -38,6 +41,10 @@ pub record Beside : Type 0 where
   pub udtDeps : List ℕ
   pub lockDep : List ℕ
   pub extraDeps : List ℕ
+
+abbrev pub besideOf : List ℕ → List ℕ → List ℕ → List ℕ → List ℕ → List ℕ → List ℕ → Beside
+besideOf lock udt source cells udtDeps lockDep extraDeps =
+    record { lock = lock; udt = udt; source = source; cells = cells; udtDeps = udtDeps; lockDep = lockDep; extraDeps = extraDeps }
 
 -- the six lists of the base, in bytes
 pub record Lists : Type 0 where

@@ -19,7 +19,7 @@ ghost use Rattle.base_inputs.specs.BaseInputs.{inputList};
 ghost use Rattle.base_lists.specs.BaseLists.{outputList, dataList, witnessList};
 ghost use Rattle.list_writer.specs.ListWriter.{fixList, putList, putListEnd};
 ghost use Rattle.cell_deps.specs.CellDeps.{depsAt};
-ghost use Rattle.base_writer.specs.Lists.{orEmpty, listsOf, bytesOf, Capped, Fitting, FrontFits, BackFits, front, back};
+ghost use Rattle.base_writer.specs.Lists.{orEmpty, presentOf, besideOf, listsOf, bytesOf, Capped, Fitting, FrontFits, BackFits, front, back};
 
 // The figures of a base transaction: the funding cell's, how many token cells are taken, what change is left of them, and the capacity of its
 // output, 0 where there is none.
@@ -90,7 +90,7 @@ fn measure<'a>(
     chosen: &[usize],
     plan: Plan,
 ) -> Sizes
-    ensures { λ r. ⌜ Capped r (listsOf (record { deps = now (deps .entry); headers = now (headers .entry); inputs = now (inputs .entry); outputs = now (outputs .entry); datas = now (datas .entry) }) (record { lock = now (lock .entry); udt = now (udt .entry); source = now (source .entry); cells = now (cells .entry); udtDeps = now («udt_deps» .entry); lockDep = now («lock_dep» .entry); extraDeps = now («extra_deps» .entry) }) (now (chosen .entry)) plan) ⌝ }
+    ensures { λ r. ⌜ Capped r (listsOf (presentOf (now (deps .entry)) (now (headers .entry)) (now (inputs .entry)) (now (outputs .entry)) (now (datas .entry))) (besideOf (now (lock .entry)) (now (udt .entry)) (now (source .entry)) (now (cells .entry)) (now («udt_deps» .entry)) (now («lock_dep» .entry)) (now («extra_deps» .entry))) (now (chosen .entry)) plan) ⌝ }
 {
     let later = later_count(outputs);
     let typed = udt.len() != 0;
@@ -213,8 +213,8 @@ fn put_lists<'a>(
     plan: Plan,
     z: Sizes,
 ) -> usize
-    requires { ⌜ Fitting z (listsOf (record { deps = now deps; headers = now headers; inputs = now inputs; outputs = now outputs; datas = now datas }) (record { lock = now lock; udt = now udt; source = now source; cells = now cells; udtDeps = now «udt_deps»; lockDep = now «lock_dep»; extraDeps = now «extra_deps» }) (now chosen) plan) (now out) ⌝ }
-    ensures { λ r. ⌜ Put (now (out .entry)) 0 (bytesOf version (listsOf (record { deps = now (deps .entry); headers = now (headers .entry); inputs = now (inputs .entry); outputs = now (outputs .entry); datas = now (datas .entry) }) (record { lock = now (lock .entry); udt = now (udt .entry); source = now (source .entry); cells = now (cells .entry); udtDeps = now («udt_deps» .entry); lockDep = now («lock_dep» .entry); extraDeps = now («extra_deps» .entry) }) (now (chosen .entry)) plan)) (now (out .exit)) r ⌝ }
+    requires { ⌜ Fitting z (listsOf (presentOf (now deps) (now headers) (now inputs) (now outputs) (now datas)) (besideOf (now lock) (now udt) (now source) (now cells) (now «udt_deps») (now «lock_dep») (now «extra_deps»)) (now chosen) plan) (now out) ⌝ }
+    ensures { λ r. ⌜ Put (now (out .entry)) 0 (bytesOf version (listsOf (presentOf (now (deps .entry)) (now (headers .entry)) (now (inputs .entry)) (now (outputs .entry)) (now (datas .entry))) (besideOf (now (lock .entry)) (now (udt .entry)) (now (source .entry)) (now (cells .entry)) (now («udt_deps» .entry)) (now («lock_dep» .entry)) (now («extra_deps» .entry))) (now (chosen .entry)) plan)) (now (out .exit)) r ⌝ }
 {
     let at = put_front(
         out,
@@ -252,7 +252,7 @@ pub fn write_base<'a>(
     plan: Plan,
     out: &mut [u8],
 ) -> Written
-    ensures { λ r. ⌜ (told r, now (out .exit)) ≡ written (fine (bytesOf version (listsOf (record { deps = now (deps .entry); headers = now (headers .entry); inputs = now (inputs .entry); outputs = now (outputs .entry); datas = now (datas .entry) }) (record { lock = now (lock .entry); udt = now (udt .entry); source = now (source .entry); cells = now (cells .entry); udtDeps = now («udt_deps» .entry); lockDep = now («lock_dep» .entry); extraDeps = now («extra_deps» .entry) }) (now (chosen .entry)) plan))) (now (out .entry)) ⌝ }
+    ensures { λ r. ⌜ (told r, now (out .exit)) ≡ written (fine (bytesOf version (listsOf (presentOf (now (deps .entry)) (now (headers .entry)) (now (inputs .entry)) (now (outputs .entry)) (now (datas .entry))) (besideOf (now (lock .entry)) (now (udt .entry)) (now (source .entry)) (now (cells .entry)) (now («udt_deps» .entry)) (now («lock_dep» .entry)) (now («extra_deps» .entry))) (now (chosen .entry)) plan))) (now (out .entry)) ⌝ }
 {
     let z = measure(
         deps,

@@ -11,7 +11,7 @@ use Rattle.hold_records.specs.declared.{Taker.Taker}
 use Rattle.hold_records.specs.Holds.{takeCells}
 use Rattle.table_bytes.specs.Lent.{lentWithTwo, withBytes, toldNumber}
 use Rattle.table_bytes.proofs.LentLaws.{number-two}
-use Rattle.held_bytes.specs.HeldBytes.{heldOf, heldAt, heldBytes}
+use Rattle.held_bytes.specs.HeldBytes.{heldSize, heldOf, heldAt, heldBytes}
 
 module _ {watchtower : Bool} (holder : ℕ) where
   pub by-tower : watchtower ≡ true → Taker.Watchtower ≡ cond watchtower Taker.Watchtower (Taker.Funding holder)
@@ -21,7 +21,7 @@ module _ {watchtower : Bool} (holder : ℕ) where
   by-funding e = rw e
 
 pub taken-by : (s picked spent : List ℕ) (t : Taker) (time : Millis) (out₁ out₂ : List ℕ) (a : Answer) (o : List ℕ) {taker : Taker} {n : ℕ} {b₁ b₂ : List ℕ} → taker ≡ t → n ≡ answered a
-    → (told (withBytes heldAt) a o, b₁, b₂) ≡ lentWithTwo heldBytes 12292 s out₁ out₂ (takeCells (heldOf s) picked spent taker time out₁ out₂)
-    → (toldNumber (withBytes heldAt) n o, b₁, b₂) ≡ lentWithTwo heldBytes 12292 s out₁ out₂ (takeCells (heldOf s) picked spent t time out₁ out₂)
+    → (told (withBytes heldAt) a o, b₁, b₂) ≡ lentWithTwo heldBytes heldSize s out₁ out₂ (takeCells (heldOf s) picked spent taker time out₁ out₂)
+    → (toldNumber (withBytes heldAt) n o, b₁, b₂) ≡ lentWithTwo heldBytes heldSize s out₁ out₂ (takeCells (heldOf s) picked spent t time out₁ out₂)
 taken-by s picked spent t time out₁ out₂ a o et en h =
-    number-two (withBytes heldAt) o a en h ∙ ap (λ (k : Taker). lentWithTwo heldBytes 12292 s out₁ out₂ (takeCells (heldOf s) picked spent k time out₁ out₂)) et
+    number-two (withBytes heldAt) o a en h ∙ ap (λ (k : Taker). lentWithTwo heldBytes heldSize s out₁ out₂ (takeCells (heldOf s) picked spent k time out₁ out₂)) et

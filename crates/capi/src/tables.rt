@@ -8,7 +8,7 @@ ghost use Rattle.hold_records.specs.declared.{Taker.Taker};
 ghost use Rattle.hold_records.specs.Holds.{holdFunding, releaseForWatchtower, holdForWatchtower, lockHeld, unavailable, takeCells};
 ghost use Rattle.exclusion_entries.specs.Exclusions.{commitOn, removeOn, truncateOn, applyOn, addOn, migrateOn};
 ghost use Rattle.table_bytes.specs.Lent.{lentTable, lentWith, lentWithTwo, lentRead, withBytes, toldNumber};
-ghost use Rattle.held_bytes.specs.HeldBytes.{heldOf, heldAt, heldBytes};
+ghost use Rattle.held_bytes.specs.HeldBytes.{heldSize, heldOf, heldAt, heldBytes};
 ghost use Rattle.exclusion_entries.specs.Entries.{excludedAt};
 ghost use Rattle.exclusion_entries.specs.LentMap.{lentMap, lentTx, lentList};
 
@@ -17,7 +17,7 @@ ghost use Rattle.exclusion_entries.specs.LentMap.{lentMap, lentTx, lentList};
 // The funding inputs that `holder` holds now, in place of the ones that it held before.
 #[no_mangle]
 pub extern "C" fn basinpantry_hold_funding(held: &mut [u8], holder: u64, cells: &[u8]) -> u32
-    ensures { λ r. ⌜ toldNumber (withBytes heldAt) r (now (held .exit)) ≡ lentTable heldBytes 12292 (now (held .entry)) (holdFunding (heldOf (now (held .entry))) holder (now (cells .entry))) ⌝ }
+    ensures { λ r. ⌜ toldNumber (withBytes heldAt) r (now (held .exit)) ≡ lentTable heldBytes heldSize (now (held .entry)) (holdFunding (heldOf (now (held .entry))) holder (now (cells .entry))) ⌝ }
 {
     let a = held_bytes::calls::hold_funding(held, holder, cells);
     a.number() as u32
@@ -26,7 +26,7 @@ pub extern "C" fn basinpantry_hold_funding(held: &mut [u8], holder: u64, cells: 
 // The cells of a transaction that the watchtower sent at `time`.
 #[no_mangle]
 pub extern "C" fn basinpantry_hold_for_watchtower(held: &mut [u8], cells: &[u8], time: u64) -> u32
-    ensures { λ r. ⌜ toldNumber (withBytes heldAt) r (now (held .exit)) ≡ lentTable heldBytes 12292 (now (held .entry)) (holdForWatchtower (heldOf (now (held .entry))) (now (cells .entry)) (record { 0 = time })) ⌝ }
+    ensures { λ r. ⌜ toldNumber (withBytes heldAt) r (now (held .exit)) ≡ lentTable heldBytes heldSize (now (held .entry)) (holdForWatchtower (heldOf (now (held .entry))) (now (cells .entry)) (record { 0 = time })) ⌝ }
 {
     let now = Millis(time);
     let a = held_bytes::calls::hold_for_watchtower(held, cells, now);
@@ -36,7 +36,7 @@ pub extern "C" fn basinpantry_hold_for_watchtower(held: &mut [u8], cells: &[u8],
 // The cells of a transaction that the watchtower could not send are free again.
 #[no_mangle]
 pub extern "C" fn basinpantry_release_for_watchtower(held: &mut [u8], cells: &[u8]) -> u32
-    ensures { λ r. ⌜ toldNumber (withBytes heldAt) r (now (held .exit)) ≡ lentTable heldBytes 12292 (now (held .entry)) (releaseForWatchtower (heldOf (now (held .entry))) (now (cells .entry))) ⌝ }
+    ensures { λ r. ⌜ toldNumber (withBytes heldAt) r (now (held .exit)) ≡ lentTable heldBytes heldSize (now (held .entry)) (releaseForWatchtower (heldOf (now (held .entry))) (now (cells .entry))) ⌝ }
 {
     let a = held_bytes::calls::release_for_watchtower(held, cells);
     a.number() as u32
@@ -45,7 +45,7 @@ pub extern "C" fn basinpantry_release_for_watchtower(held: &mut [u8], cells: &[u
 // Writes the out points of every cell that is held at `time`.
 #[no_mangle]
 pub extern "C" fn basinpantry_lock_held(held: &mut [u8], time: u64, out: &mut [u8]) -> u32
-    ensures { λ r. ⌜ (toldNumber (withBytes heldAt) r (now (held .exit)), now (out .exit)) ≡ lentWith heldBytes 12292 (now (held .entry)) (now (out .entry)) (lockHeld (heldOf (now (held .entry))) (record { 0 = time }) (now (out .entry))) ⌝ }
+    ensures { λ r. ⌜ (toldNumber (withBytes heldAt) r (now (held .exit)), now (out .exit)) ≡ lentWith heldBytes heldSize (now (held .entry)) (now (out .entry)) (lockHeld (heldOf (now (held .entry))) (record { 0 = time }) (now (out .entry))) ⌝ }
 {
     let now = Millis(time);
     let a = held_bytes::calls::lock_held(held, now, out);
@@ -61,7 +61,7 @@ pub extern "C" fn basinpantry_unavailable(
     time: u64,
     out: &mut [u8],
 ) -> u32
-    ensures { λ r. ⌜ (r, now (out .exit)) ≡ lentRead 12292 (now (held .entry)) (now (out .entry)) (unavailable (heldOf (now (held .entry))) (now (picked .entry)) (now (spent .entry)) (record { 0 = time }) (now (out .entry))) ⌝ }
+    ensures { λ r. ⌜ (r, now (out .exit)) ≡ lentRead heldSize (now (held .entry)) (now (out .entry)) (unavailable (heldOf (now (held .entry))) (now (picked .entry)) (now (spent .entry)) (record { 0 = time }) (now (out .entry))) ⌝ }
 {
     let now = Millis(time);
     let a = held_bytes::calls::unavailable(held, picked, spent, now, out);
@@ -90,7 +90,7 @@ pub extern "C" fn basinpantry_take(
     taken: &mut [u8],
     refused: &mut [u8],
 ) -> u32
-    ensures { λ r. ⌜ (toldNumber (withBytes heldAt) r (now (held .exit)), now (taken .exit), now (refused .exit)) ≡ lentWithTwo heldBytes 12292 (now (held .entry)) (now (taken .entry)) (now (refused .entry)) (takeCells (heldOf (now (held .entry))) (now (picked .entry)) (now (spent .entry)) (cond watchtower Taker.Watchtower (Taker.Funding holder)) (record { 0 = time }) (now (taken .entry)) (now (refused .entry))) ⌝ }
+    ensures { λ r. ⌜ (toldNumber (withBytes heldAt) r (now (held .exit)), now (taken .exit), now (refused .exit)) ≡ lentWithTwo heldBytes heldSize (now (held .entry)) (now (taken .entry)) (now (refused .entry)) (takeCells (heldOf (now (held .entry))) (now (picked .entry)) (now (spent .entry)) (cond watchtower Taker.Watchtower (Taker.Funding holder)) (record { 0 = time }) (now (taken .entry)) (now (refused .entry))) ⌝ }
 {
     let now = Millis(time);
     let taker = taker_for(watchtower, holder);
@@ -132,13 +132,13 @@ pub extern "C" fn basinpantry_exclusions_remove(map: &mut [u8], hash: &[u8]) -> 
 #[no_mangle]
 pub extern "C" fn basinpantry_exclusions_migrate_funding_tx(
     map: &mut [u8],
-    old: &[u8],
-    new: &[u8],
+    old_hash: &[u8],
+    new_hash: &[u8],
     tx: &[u8],
 ) -> u32
-    ensures { λ r. ⌜ toldNumber (withBytes excludedAt) r (now (map .exit)) ≡ lentTx (now (tx .entry)) (now (map .entry)) (migrateOn (excludedAt (now (map .entry))) (now (old .entry)) (now (new .entry)) (now (tx .entry))) ⌝ }
+    ensures { λ r. ⌜ toldNumber (withBytes excludedAt) r (now (map .exit)) ≡ lentTx (now (tx .entry)) (now (map .entry)) (migrateOn (excludedAt (now (map .entry))) (now («old_hash» .entry)) (now («new_hash» .entry)) (now (tx .entry))) ⌝ }
 {
-    let a = exclusions::migrate_funding_tx(map, old, new, tx);
+    let a = exclusions::migrate_funding_tx(map, old_hash, new_hash, tx);
     a.number() as u32
 }
 

@@ -1,4 +1,5 @@
 // Items of a case file: where they end, and their bodies.
+use crate::FILE_BYTES;
 use arithmetic::little_endian;
 ghost use mathlib.Core.Path.{_≡_};
 ghost use Prim.Native.Nat.{_≤_, _<_};
@@ -6,8 +7,27 @@ ghost use lib.ListN.{length};
 ghost use Rattle.case_file.specs.CaseFile.{kindAt, lengthAt, bodyAt, allZero, itemAt, optionalAt, rateAt};
 ghost use Rattle.case_file.specs.Walk.{endOf, placesOf, optionalBody};
 
-// A case file has at most 65,536 bytes; the place after it stands for no item.
-pub const NOWHERE: usize = 65_537;
+// The place after the longest case file stands for no item.
+pub const NOWHERE: usize = FILE_BYTES + 1;
+
+// The kinds of the items, in the order in which they stand. A record is an output and its data, or one item where its cell is not live.
+pub const OURS: u32 = 1;
+
+pub const PEER: u32 = 2;
+
+pub const LOCK: u32 = 3;
+
+pub const UDT: u32 = 4;
+
+pub const SOURCE: u32 = 5;
+
+pub const RATE: u32 = 6;
+
+pub const OUTPUT: u32 = 7;
+
+pub const DATA: u32 = 8;
+
+pub const NOT_LIVE: u32 = 9;
 
 // The places of the items before the records, each but the first after the one before it, and of the records. Our transaction stands at 0.
 pub struct Places {
@@ -117,18 +137,18 @@ fn rate_end(s: &[u8], at: usize) -> usize
     if length_at(s, at) != 8 {
         return NOWHERE;
     }
-    item_end(s, 6, at)
+    item_end(s, RATE, at)
 }
 
 // The places of a file. Past the end no item stands, so where one is not in its shape the records are nowhere.
 pub(crate) fn find_places(s: &[u8]) -> Places
     ensures { λ r. ⌜ r ≡ placesOf (now (s .entry)) ⌝ }
 {
-    let peer = optional_end(s, 1, 0);
-    let lock = item_end(s, 2, peer);
-    let udt = item_end(s, 3, lock);
-    let source = optional_end(s, 4, udt);
-    let rate = item_end(s, 5, source);
+    let peer = optional_end(s, OURS, 0);
+    let lock = item_end(s, PEER, peer);
+    let udt = item_end(s, LOCK, lock);
+    let source = optional_end(s, UDT, udt);
+    let rate = item_end(s, SOURCE, source);
     let records = rate_end(s, rate);
     Places {
         peer,

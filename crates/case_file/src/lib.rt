@@ -18,17 +18,17 @@ ghost use Rattle.case_file.specs.Walk.{verdictAt};
 pub const FILE_BYTES: usize = 65_536;
 
 // Room for the list of the records of any case file: 4 bytes, and 5 for every 2 of the file.
-const RECORD_BYTES: usize = 163_844;
+const RECORD_BYTES: usize = 4 + FILE_BYTES / 2 * 5;
 
 // Judges the update whose bodies stand at these places of a file, over a list of records.
 fn judge_at(s: &[u8], places: Places, records: &[u8]) -> Update
     requires { ⌜ length (now s) ≤ 65536 ⌝ }
     ensures { λ r. ⌜ told r ≡ verdictAt (now (s .entry)) places (now (records .entry)) ⌝ }
 {
-    let ours = items::optional_body(s, 1, 0);
+    let ours = items::optional_body(s, items::OURS, 0);
     let peer = items::body(s, places.peer);
     let lock = items::body(s, places.lock);
-    let udt = items::optional_body(s, 4, places.udt);
+    let udt = items::optional_body(s, items::UDT, places.udt);
     let source = items::body(s, places.source);
     let rate = little_endian::u64_at(items::body(s, places.rate), 0);
     funding_tx::update_for_peer(ours, peer, lock, udt, source, rate, records)

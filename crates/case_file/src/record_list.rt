@@ -16,23 +16,23 @@ pub struct Measured {
     pub size: usize,
 }
 
-// The place after a record that is not live: item 9, of length 0.
+// The place after a record that is not live: an item of length 0.
 fn dead_end(s: &[u8], at: usize) -> usize
     ensures { λ r. ⌜ r ≡ endOf (deadAt (now (s .entry)) at) ⌝ }
 {
     if items::length_at(s, at) != 0 {
         return items::NOWHERE;
     }
-    items::item_end(s, 9, at)
+    items::item_end(s, items::NOT_LIVE, at)
 }
 
-// The place after a cell: items 7 and 8.
+// The place after a cell: its output and its data.
 fn cell_end(s: &[u8], at: usize) -> usize
     requires { ⌜ length (now s) ≤ 65536 ⌝ }
     ensures { λ r. ⌜ r ≡ endOf (cellAt (now (s .entry)) at) ⌝ }
 {
-    let second = items::item_end(s, 7, at);
-    items::item_end(s, 8, second)
+    let second = items::item_end(s, items::OUTPUT, at);
+    items::item_end(s, items::DATA, second)
 }
 
 // The place after the record at a place.
@@ -40,7 +40,7 @@ fn record_end(s: &[u8], at: usize) -> usize
     requires { ⌜ length (now s) ≤ 65536 ⌝ }
     ensures { λ r. ⌜ r ≡ endOf (recordAt (now (s .entry)) at) ⌝ }
 {
-    if items::kind_at(s, at) == 9 {
+    if items::kind_at(s, at) == items::NOT_LIVE {
         return dead_end(s, at);
     }
     cell_end(s, at)
@@ -52,10 +52,10 @@ fn entry_len(s: &[u8], at: usize) -> usize
     ensures { λ r. ⌜ r ≡ length (entryAt (now (s .entry)) at) ⌝ }
     ensures { λ r. ⌜ r ≤ 131088 ⌝ }
 {
-    if items::kind_at(s, at) == 9 {
+    if items::kind_at(s, at) == items::NOT_LIVE {
         return 0;
     }
-    let second = items::item_end(s, 7, at);
+    let second = items::item_end(s, items::OUTPUT, at);
     let output = items::body(s, at);
     let content = items::body(s, second);
     16 + output.len() + content.len()
@@ -110,10 +110,10 @@ fn put_entry(out: &mut [u8], to: usize, s: &[u8], at: usize) -> usize
     requires { ⌜ (length (now s) ≤ 65536) × (to + length (entryAt (now s) at) ≤ length (now out)) ⌝ }
     ensures { λ r. ⌜ Put (now (out .entry)) to (entryAt (now (s .entry)) at) (now (out .exit)) r ⌝ }
 {
-    if items::kind_at(s, at) == 9 {
+    if items::kind_at(s, at) == items::NOT_LIVE {
         return to;
     }
-    let second = items::item_end(s, 7, at);
+    let second = items::item_end(s, items::OUTPUT, at);
     let output = items::body(s, at);
     let content = items::body(s, second);
     put_cell(out, to, output, content)

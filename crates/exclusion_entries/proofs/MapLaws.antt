@@ -16,24 +16,24 @@ use Rattle.molecule.proofs.WriteLaws.{put-yes, splice-zero}
 use Rattle.molecule.proofs.ItemsLaws.{bytes-drop}
 use Rattle.out_points.proofs.AgainLaws.{word-again, word-back, behind}
 use Rattle.exclusion_entries.specs.Exclusions.{Entry, excluded}
-use Rattle.exclusion_entries.specs.Entries.{entryBytes, entriesBytes, mapBytes, FitEntry, entryOf, sizeOf, entriesIn, excludedAt, areEntries, isMap}
+use Rattle.exclusion_entries.specs.Entries.{entryBytes, entriesBytes, mapBytes, FitEntry, entryOf, sizeOf, entriesIn, excludedAt, areEntries, mapSize, isMap}
 use Rattle.exclusion_entries.proofs.EntryLaws.{length-entry, points-count, entries-long, entries-fit, entries-back, entries-are, first-room, rest-are, entries-again, entries-size, points-most}
 use Rattle.exclusion_entries.proofs.SpliceLaws.{splice-same}
 
 -- ---- what the form says
 
 module _ (s : List ℕ) (g : isMap s ≡ true) where
-  form : (length s ≡ 21508) × (u32At s 0 ≤ 64) × (areEntries (u32At s 0) 512 (drop 4 s) ≡ true)
+  form : (length s ≡ mapSize) × (u32At s 0 ≤ 64) × (areEntries (u32At s 0) 512 (drop 4 s) ≡ true)
   unfolding isMap
-  form = by (eqb (length s) 21508) (leb (u32At s 0) 64) refl refl g
+  form = by (eqb (length s) mapSize) (leb (u32At s 0) 64) refl refl g
     where
-      by : (a b : Bool) → eqb (length s) 21508 ≡ a → leb (u32At s 0) 64 ≡ b → cond a (cond b (areEntries (u32At s 0) 512 (drop 4 s)) false) false ≡ true
-          → (length s ≡ 21508) × (u32At s 0 ≤ 64) × (areEntries (u32At s 0) 512 (drop 4 s) ≡ true)
+      by : (a b : Bool) → eqb (length s) mapSize ≡ a → leb (u32At s 0) 64 ≡ b → cond a (cond b (areEntries (u32At s 0) 512 (drop 4 s)) false) false ≡ true
+          → (length s ≡ mapSize) × (u32At s 0 ≤ 64) × (areEntries (u32At s 0) 512 (drop 4 s) ≡ true)
       by true true e f h = (eqb-true _ _ e, leb-true _ _ f, h)
       by true false e f h = absurd (let z : _≡_ {A = ℕ} 0 1 = cc in omega arith)
       by false b e f h = absurd (let z : _≡_ {A = ℕ} 0 1 = cc in omega arith)
 
-  pub map-long : length s ≡ 21508
+  pub map-long : length s ≡ mapSize
   map-long = form .0
 
   pub map-few : u32At s 0 ≤ 64
@@ -125,10 +125,10 @@ module _ (l : List Entry) (z : List ℕ) where
   unfolding excludedAt
   map-back h f = ap₂ entriesIn (count-back h) rest-back ∙ entries-back l z f
 
-  map-is : length l ≤ 64 → length (excluded l) ≤ 512 → length (mapBytes l ++ z) ≡ 21508 → isMap (mapBytes l ++ z) ≡ true
+  map-is : length l ≤ 64 → length (excluded l) ≤ 512 → length (mapBytes l ++ z) ≡ mapSize → isMap (mapBytes l ++ z) ≡ true
   unfolding isMap
   map-is h k n =
-      rw (eq-eqb (length (mapBytes l ++ z)) 21508 n, count-back (omega arith), le-leb (length l) 64 h, rest-back) (entries-are l 512 z k (omega arith))
+      rw (eq-eqb (length (mapBytes l ++ z)) mapSize n, count-back (omega arith), le-leb (length l) 64 h, rest-back) (entries-are l 512 z k (omega arith))
 
 -- a table of at most so many entries and out points, put where one was
 pub put-is : (s : List ℕ) (l : List Entry) → isMap s ≡ true → length l ≤ 64 → length (excluded l) ≤ 512 → isMap (putAt s 0 (mapBytes l)) ≡ true
@@ -143,14 +143,14 @@ pub splice-back : (s : List ℕ) (l : List Entry) {o : List ℕ} → length l < 
 splice-back s l h f e = ap excludedAt (e ∙ splice-zero s (mapBytes l)) ∙ map-back l (drop (length (mapBytes l)) s) h f
 
 -- all zeros are the empty table
-pub map-zeros : excludedAt (replicate 21508 0) ≡ []
+pub map-zeros : excludedAt (replicate mapSize 0) ≡ []
 unfolding excludedAt entriesIn numAt le
-map-zeros = ap (λ (n : ℕ). entriesIn n (drop 4 (replicate 21508 0))) (num-some 4 (replicate 21508 0) 0 (omega arith))
+map-zeros = ap (λ (n : ℕ). entriesIn n (drop 4 (replicate mapSize 0))) (num-some 4 (replicate mapSize 0) 0 (omega arith))
 
-pub zeros-are : isMap (replicate 21508 0) ≡ true
+pub zeros-are : isMap (replicate mapSize 0) ≡ true
 unfolding isMap areEntries numAt le
 zeros-are =
-    let z : List ℕ = replicate 21508 0 in
-    let l : length z ≡ 21508 = length-replicate {A = ℕ} 21508 0 in
+    let z : List ℕ = replicate mapSize 0 in
+    let l : length z ≡ mapSize = length-replicate {A = ℕ} mapSize 0 in
     let c : u32At z 0 ≡ 0 = num-some 4 z 0 (omega arith) in
-    rw (eq-eqb (length z) 21508 l) (ap (λ (n : ℕ). cond (leb n 64) (areEntries n 512 (drop 4 z)) false) c)
+    rw (eq-eqb (length z) mapSize l) (ap (λ (n : ℕ). cond (leb n 64) (areEntries n 512 (drop 4 z)) false) c)

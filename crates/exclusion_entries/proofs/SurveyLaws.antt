@@ -15,7 +15,7 @@ use Rattle.out_points.specs.declared.{Byte32.Byte32}
 use Rattle.out_points.specs.OutPoints.{eqHash, byte32At}
 use Rattle.exclusion_entries.specs.Exclusions.{hasHash}
 use Rattle.exclusion_entries.specs.declared.{Rule.Rule, Words.Words, Survey.Survey}
-use Rattle.exclusion_entries.specs.Entries.{entryOf, sizeOf, entriesIn, excludedAt, isEntry, areEntries, isMap}
+use Rattle.exclusion_entries.specs.Entries.{entryOf, sizeOf, entriesIn, excludedAt, isEntry, areEntries, mapSize, isMap}
 use Rattle.exclusion_entries.specs.Survey.{keeps, takes, lostOne, tookOne, stayed, turned, sweep, start, wordsOf, mayTouch, surveyOf}
 use Rattle.exclusion_entries.proofs.EntryLaws.{points-count}
 
@@ -27,15 +27,15 @@ module _ (n : ℕ) (v : Survey) where
   unfolding stayed
   stayed-taken e = rw e
 
-  pub stayed-lost : v .taken ≡ false → v .lost ≡ true
-      → _≡_ {A = Survey} (record { good = v .good; lost = v .lost; taken = v .taken; stays = v .stays + 1; points = v .points + n; place = v .place + (48 + 36 * n); from = v .from; index = v .index }) (stayed n v)
+  pub stayed-lost : {z : ℕ} → z ≡ 48 + 36 * n → v .taken ≡ false → v .lost ≡ true
+      → _≡_ {A = Survey} (record { good = v .good; lost = v .lost; taken = v .taken; stays = v .stays + 1; points = v .points + n; place = v .place + z; from = v .from; index = v .index }) (stayed n v)
   unfolding stayed
-  stayed-lost e f = rw (e, f)
+  stayed-lost ez e f = rw (ez, e, f)
 
-  pub stayed-front : v .taken ≡ false → v .lost ≡ false
-      → _≡_ {A = Survey} (record { good = v .good; lost = v .lost; taken = v .taken; stays = v .stays + 1; points = v .points + n; place = v .place + (48 + 36 * n); from = v .from + (48 + 36 * n); index = v .index + 1 }) (stayed n v)
+  pub stayed-front : {z : ℕ} → z ≡ 48 + 36 * n → v .taken ≡ false → v .lost ≡ false
+      → _≡_ {A = Survey} (record { good = v .good; lost = v .lost; taken = v .taken; stays = v .stays + 1; points = v .points + n; place = v .place + z; from = v .from + z; index = v .index + 1 }) (stayed n v)
   unfolding stayed
-  stayed-front e f = rw (e, f)
+  stayed-front ez e f = rw (ez, e, f)
 
   module _ (kept taken : Bool) where
     pub turned-lost : not kept ≡ true
@@ -177,30 +177,30 @@ bounded-turn {v} {i} {at} {left} n true taken b h = by (v .taken) (v .lost) take
 -- ---- the pass
 
 pub record Sweeping (rule : Rule) (s : List ℕ) (n : ℕ) (v : Survey) (at left i : ℕ) : Type 0 where
-  pub long : length s ≡ 21508
+  pub long : length s ≡ mapSize
   pub within : i ≤ n
   pub few : n ≤ 64
-  pub room : at + 48 * (n - i) + 36 * left ≤ 21508
+  pub room : at + 48 * (n - i) + 36 * left ≤ mapSize
   pub bounded : Bounded v i at left
   pub reads : areEntries (n - i) left (drop at s) ≡ isMap s
   pub swept : sweep (keeps rule) (takes rule) v (entriesIn (n - i) (drop at s)) ≡ sweep (keeps rule) (takes rule) (start true) (excludedAt s)
 
 module _ (rule : Rule) (s : List ℕ) where
-  pub sweep-other : {v : Survey} → (length s ≡ 21508 → ⊥) → v ≡ start false → v ≡ surveyOf rule s
+  pub sweep-other : {v : Survey} → (length s ≡ mapSize → ⊥) → v ≡ start false → v ≡ surveyOf rule s
   unfolding surveyOf isMap
-  sweep-other h e = e ∙ rw (ne-eqb (length s) 21508 h)
+  sweep-other h e = e ∙ rw (ne-eqb (length s) mapSize h)
 
-  module _ {n : ℕ} (l : length s ≡ 21508) (e : n ≡ fixCount s) where
+  module _ {n : ℕ} (l : length s ≡ mapSize) (e : n ≡ fixCount s) where
     pub sweep-many : {v : Survey} → 64 < n → v ≡ start false → v ≡ surveyOf rule s
     unfolding surveyOf isMap word
-    sweep-many h f = f ∙ rw (eq-eqb (length s) 21508 l, lt-leb (u32At s 0) 64 (omega arith))
+    sweep-many h f = f ∙ rw (eq-eqb (length s) mapSize l, lt-leb (u32At s 0) 64 (omega arith))
 
     pub sweep-none : {v : Survey} → n ≤ 64 → v ≡ start true → Sweeping rule s n v 4 512 0
     unfolding isMap word excludedAt start
     sweep-none {v} h f =
         let z : u32At s 0 ≡ n - 0 = omega arith in
         let b : Bounded v 0 4 512 = rw f (bounded-start true) in
-        let m : isMap s ≡ areEntries (u32At s 0) 512 (drop 4 s) = rw (eq-eqb (length s) 21508 l, le-leb (u32At s 0) 64 (omega arith)) in
+        let m : isMap s ≡ areEntries (u32At s 0) 512 (drop 4 s) = rw (eq-eqb (length s) mapSize l, le-leb (u32At s 0) 64 (omega arith)) in
         record {
           long = l;
           within = omega arith;
@@ -244,9 +244,9 @@ module _ {rule : Rule} {s : List ℕ} {n : ℕ} {v : Survey} {at left i : ℕ} (
         sweep-bad g f = f ∙ rw (← reads-on, ← eb, not-true b g)
 
         module _ (g : not b ≡ false) {u : Survey} where
-          pub sweep-touched : u ≡ turned (keeps rule (entryOf x)) (takes rule (entryOf x)) c v → Sweeping rule s n u (at + (48 + 36 * c)) (left - c) (i + 1)
+          turned-one : u ≡ turned (keeps rule (entryOf x)) (takes rule (entryOf x)) c v → Sweeping rule s n u (at + (48 + 36 * c)) (left - c) (i + 1)
           unfolding areEntries entriesIn sweep
-          sweep-touched on =
+          turned-one on =
               let r = w .room in
               let yes : isEntry x ≡ true = sym eb ∙ not-false b g in
               let p = keeps rule (entryOf x) in
@@ -269,8 +269,11 @@ module _ {rule : Rule} {s : List ℕ} {n : ℕ} {v : Survey} {at left i : ℕ} (
                     ∙ w .swept;
               }
 
-          pub sweep-passed : {o : Words} {m : Bool} → o ≡ wordsOf rule → m ≡ mayTouch o x → m ≡ false → u ≡ stayed c v → Sweeping rule s n u (at + (48 + 36 * c)) (left - c) (i + 1)
-          sweep-passed eo em f e = sweep-touched (e ∙ passes rule c v x (ap (λ (y : Words). mayTouch y x) (sym eo) ∙ sym em ∙ f))
+          pub sweep-touched : {z : ℕ} → z ≡ 48 + 36 * c → u ≡ turned (keeps rule (entryOf x)) (takes rule (entryOf x)) c v → Sweeping rule s n u (at + z) (left - c) (i + 1)
+          sweep-touched ez on = rw ez (turned-one on)
+
+          pub sweep-passed : {o : Words} {m : Bool} {z : ℕ} → o ≡ wordsOf rule → m ≡ mayTouch o x → z ≡ 48 + 36 * c → m ≡ false → u ≡ stayed c v → Sweeping rule s n u (at + z) (left - c) (i + 1)
+          sweep-passed eo em ez f e = sweep-touched ez (e ∙ passes rule c v x (ap (λ (y : Words). mayTouch y x) (sym eo) ∙ sym em ∙ f))
 
   pub sweep-end : n ≤ i → v ≡ surveyOf rule s
   unfolding surveyOf areEntries entriesIn sweep

@@ -74,6 +74,10 @@ unfoldable pub areEntries : ℕ → ℕ → List ℕ → Bool
 areEntries zero m x = true
 areEntries (suc n) m x = cond (isEntry x) (cond (leb (u32At x 44) m) (areEntries n (m - u32At x 44) (drop (sizeOf x) x)) false) false
 
--- room for 64 entries and 512 out points, and no more of them
+-- how many bytes a lent table has: the count, and room for 64 entries and 512 out points
+abbrev pub mapSize : ℕ
+mapSize = 4 + 48 * 64 + 36 * 512
+
+-- that many bytes, and no more entries and out points
 unfoldable pub isMap : List ℕ → Bool
-isMap s = cond (eqb (length s) 21508) (cond (leb (u32At s 0) 64) (areEntries (u32At s 0) 512 (drop 4 s)) false) false
+isMap s = cond (eqb (length s) mapSize) (cond (leb (u32At s 0) 64) (areEntries (u32At s 0) 512 (drop 4 s)) false) false

@@ -5,18 +5,19 @@ use out_points::Byte32;
 use units::BlockNumber;
 ghost use mathlib.Core.Path.{_≡_};
 ghost use mathlib.Core.Bool.{true, false};
-ghost use Prim.Native.Nat.{_≤_};
+ghost use Prim.Native.Nat.{_+_, _*_, _≤_};
 ghost use Rattle.arithmetic.specs.LittleEndian.{u32At};
 ghost use Rattle.exclusion_entries.specs.Exclusions.{hasHash, isRecent};
-ghost use Rattle.exclusion_entries.specs.Entries.{entryOf, isEntry};
+ghost use Rattle.exclusion_entries.specs.Entries.{entryOf, isEntry, mapSize};
 ghost use Rattle.exclusion_entries.specs.Survey.{keeps, takes, stayed, turned, start, wordsOf, mayTouch, surveyOf};
 
-// How many bytes a lent table has: room for its count, 64 entries and 512 out points.
-pub const MAP_BYTES: usize = 21_508;
+// How many entries a map has at most, and how many out points they have together.
+pub const MOST_ENTRIES: usize = 64;
 
-const MOST_ENTRIES: usize = 64;
+pub const MOST_OUT_POINTS: usize = 512;
 
-const MOST_OUT_POINTS: usize = 512;
+// How many bytes a lent map has: room for its count, its entries and their out points.
+pub const MAP_BYTES: usize = 4 + 48 * MOST_ENTRIES + 36 * MOST_OUT_POINTS;
 
 // Number of blocks to keep the committed funding tx in the exclusion map.
 const KEEP_BLOCK_PERIOD: u64 = 13;
@@ -67,6 +68,13 @@ pub fn point_count(x: &[u8]) -> u32
     ensures { λ r. ⌜ r ≡ u32At (now (x .entry)) 44 ⌝ }
 {
     little_endian::u32_at(x, 44)
+}
+
+// How many bytes an entry with n out points has.
+pub fn entry_size(n: u32) -> usize
+    ensures { λ r. ⌜ r ≡ 48 + 36 * n ⌝ }
+{
+    48 + 36 * n as usize
 }
 
 // Whether its kind and its block are in form.
@@ -150,19 +158,19 @@ fn start(good: bool) -> Survey
 }
 
 // After an entry that stays, with n out points.
-fn stayed(v: Survey, n: usize) -> Survey
+fn stayed(v: Survey, n: u32) -> Survey
     requires { ⌜ n ≤ 512 ⌝ }
     requires { ⌜ v .stays ≤ 64 ⌝ }
     requires { ⌜ v .points ≤ 512 ⌝ }
-    requires { ⌜ v .place ≤ 21508 ⌝ }
-    requires { ⌜ v .from ≤ 21508 ⌝ }
+    requires { ⌜ v .place ≤ mapSize ⌝ }
+    requires { ⌜ v .from ≤ mapSize ⌝ }
     requires { ⌜ v .index ≤ 64 ⌝ }
     ensures { λ r. ⌜ r ≡ stayed n v ⌝ }
 {
-    let size = 48 + 36 * n;
+    let size = entry_size(n);
     let mut r = v;
     r.stays = v.stays + 1;
-    r.points = v.points + n;
+    r.points = v.points + n as usize;
     if v.taken {
         return r;
     }
@@ -176,12 +184,12 @@ fn stayed(v: Survey, n: usize) -> Survey
 }
 
 // After an entry with n out points.
-fn turned(v: Survey, kept: bool, taken: bool, n: usize) -> Survey
+fn turned(v: Survey, kept: bool, taken: bool, n: u32) -> Survey
     requires { ⌜ n ≤ 512 ⌝ }
     requires { ⌜ v .stays ≤ 64 ⌝ }
     requires { ⌜ v .points ≤ 512 ⌝ }
-    requires { ⌜ v .place ≤ 21508 ⌝ }
-    requires { ⌜ v .from ≤ 21508 ⌝ }
+    requires { ⌜ v .place ≤ mapSize ⌝ }
+    requires { ⌜ v .from ≤ mapSize ⌝ }
     requires { ⌜ v .index ≤ 64 ⌝ }
     ensures { λ r. ⌜ r ≡ turned kept taken n v ⌝ }
 {
@@ -248,12 +256,12 @@ fn may_touch(w: Words, x: &[u8]) -> bool
 }
 
 // After the entry at the start of x, with n out points, that the rule may touch.
-fn touched(v: Survey, rule: Rule, x: &[u8], n: usize) -> Survey
+fn touched(v: Survey, rule: Rule, x: &[u8], n: u32) -> Survey
     requires { ⌜ n ≤ 512 ⌝ }
     requires { ⌜ v .stays ≤ 64 ⌝ }
     requires { ⌜ v .points ≤ 512 ⌝ }
-    requires { ⌜ v .place ≤ 21508 ⌝ }
-    requires { ⌜ v .from ≤ 21508 ⌝ }
+    requires { ⌜ v .place ≤ mapSize ⌝ }
+    requires { ⌜ v .from ≤ mapSize ⌝ }
     requires { ⌜ v .index ≤ 64 ⌝ }
     ensures { λ r. ⌜ r ≡ turned (keeps rule (entryOf (now (x .entry)))) (takes rule (entryOf (now (x .entry)))) n v ⌝ }
 {
@@ -276,11 +284,11 @@ pub fn read_map(s: &[u8], rule: Rule) -> Survey
     let w = words_of(rule);
     let mut v = start(true);
     let mut at: usize = 4;
-    let mut left = MOST_OUT_POINTS;
+    let mut left = MOST_OUT_POINTS as u32;
     let mut i: usize = 0;
     while i < n {
         let x = &s[at..s.len()];
-        let c = point_count(x) as usize;
+        let c = point_count(x);
         if left < c {
             return start(false);
         }
@@ -289,7 +297,7 @@ pub fn read_map(s: &[u8], rule: Rule) -> Survey
         }
         let touch = may_touch(w, x);
         left -= c;
-        at += 48 + 36 * c;
+        at += entry_size(c);
         i += 1;
         // What the rule does not touch is passed over with no look at the rule.
         if touch {

@@ -15,7 +15,7 @@ use Rattle.out_points.specs.OutPoints.{pointBytes, bytesOf}
 use Rattle.out_points.proofs.ListLaws.{length-bytes}
 use Rattle.molecule.proofs.ItemsLaws.{bytes-drop}
 use Rattle.exclusion_entries.specs.Exclusions.{excluded}
-use Rattle.exclusion_entries.specs.Entries.{entryOf, sizeOf, entriesIn, excludedAt, areEntries, isMap}
+use Rattle.exclusion_entries.specs.Entries.{entryOf, sizeOf, entriesIn, excludedAt, areEntries, mapSize, isMap}
 use Rattle.exclusion_entries.proofs.EntryLaws.{from-here, points-again, first-room, rest-are}
 use Rattle.exclusion_entries.proofs.MapLaws.{map-long, map-few, map-are}
 use Rattle.exclusion_entries.proofs.SpliceLaws.{splice-none, splice-then}
@@ -28,9 +28,9 @@ bytes-append (p ∷ l) r = ap (λ (x : List ℕ). pointBytes p ++ x) (bytes-appe
 pub record Listing (s : List ℕ) (n : ℕ) (out₀ out : List ℕ) (to at i : ℕ) : Type 0 where
   pub left : ℕ
   pub bytes : AllBytes s
-  pub long : length s ≡ 21508
+  pub long : length s ≡ mapSize
   pub within : i ≤ n
-  pub room : at + 48 * (n - i) + 36 * left ≤ 21508
+  pub room : at + 48 * (n - i) + 36 * left ≤ mapSize
   pub reads : areEntries (n - i) left (drop at s) ≡ true
   pub kept : length out ≡ length out₀
   pub fits : to + length (bytesOf (excluded (entriesIn (n - i) (drop at s)))) ≤ length out₀
@@ -54,7 +54,7 @@ list-start s out {n} b g r e =
     }
 
 module _ {s : List ℕ} {n : ℕ} {out₀ out : List ℕ} {to at i : ℕ} (w : Listing s n out₀ out to at i) where
-  module _ (h : i < n) {x : List ℕ} {c : ℕ} (ex : x ≡ part s at (length s)) (ec : c ≡ u32At x 44) where
+  module _ (h : i < n) {x : List ℕ} {c z : ℕ} (ex : x ≡ part s at (length s)) (ec : c ≡ u32At x 44) (ez : z ≡ 48 + 36 * c) where
     next : n - i ≡ suc (n - (i + 1))
     next = omega arith
 
@@ -70,19 +70,16 @@ module _ {s : List ℕ} {n : ℕ} {out₀ out : List ℕ} {to at i : ℕ} (w : L
     long-x : sizeOf x ≤ length x
     long-x = let r = w .room in let k = count-most in omega (arith, ap length here, length-drop at s, w .long)
 
-    pub list-size : 36 * c ≤ 21508
-    list-size = let r = w .room in let k = count-most in omega arith
-
-    pub list-at : at + (48 + 36 * c) ≤ 21508
+    pub list-at : at + z ≤ mapSize
     list-at = let r = w .room in let k = count-most in omega arith
 
-    run-is : {run : List ℕ} → run ≡ part x 48 (48 + 36 * c) → run ≡ bytesOf (entryOf x .points)
+    run-is : {run : List ℕ} → run ≡ part x 48 z → run ≡ bytesOf (entryOf x .points)
     unfolding part
     run-is er =
-        let z : 48 + 36 * c - 48 ≡ 36 * c = omega arith in
-        er ∙ ap (λ (k : ℕ). take k (drop 48 x)) (z ∙ ap (λ (k : ℕ). 36 * k) ec) ∙ sym (points-again x (rw here (bytes-drop at s (w .bytes))) long-x)
+        let d : z - 48 ≡ 36 * c = omega arith in
+        er ∙ ap (λ (k : ℕ). take k (drop 48 x)) (d ∙ ap (λ (k : ℕ). 36 * k) ec) ∙ sym (points-again x (rw here (bytes-drop at s (w .bytes))) long-x)
 
-    pub list-more : {run o : List ℕ} {t : ℕ} → run ≡ part x 48 (48 + 36 * c) → o ≡ putAt out to run → t ≡ putEnd out to run → Listing s n out₀ o t (at + (48 + 36 * c)) (i + 1)
+    pub list-more : {run o : List ℕ} {t : ℕ} → run ≡ part x 48 z → o ≡ putAt out to run → t ≡ putEnd out to run → Listing s n out₀ o t (at + z) (i + 1)
     unfolding entriesIn excluded
     list-more {run} {o} {t} er eo et =
         let r = w .room in
@@ -93,7 +90,7 @@ module _ {s : List ℕ} {n : ℕ} {out₀ out : List ℕ} {to at i : ℕ} (w : L
         let is : run ≡ bytesOf P = run-is er in
         let all : excluded (entriesIn (n - i) (drop at s)) ≡ P ++ R = ap₂ (λ (j : ℕ) (z : List ℕ). excluded (entriesIn j z)) next (sym here) in
         let joined : bytesOf (excluded (entriesIn (n - i) (drop at s))) ≡ run ++ bytesOf R = ap bytesOf all ∙ bytes-append P R ∙ ap (λ (z : List ℕ). z ++ bytesOf R) (sym is) in
-        let beyond : y ≡ drop (at + (48 + 36 * c)) s = rw (← ec) (ap (drop (48 + 36 * c)) here ∙ drop-drop (48 + 36 * c) at s) in
+        let beyond : y ≡ drop (at + z) s = rw (← ec, ← ez) (ap (drop z) here ∙ drop-drop z at s) in
         let f = w .fits in
         let q : to + length run + length (bytesOf R) ≤ length out = omega (arith, ap length joined, length-append run (bytesOf R), w .kept) in
         let e : o ≡ splice out to run = eo ∙ put-yes out to run (omega arith) in

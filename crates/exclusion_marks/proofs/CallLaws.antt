@@ -4,6 +4,8 @@ use Prim.Native.Nat.{ℕ, _+_, _*_, _≤_, _<_}
 use mathlib.Core.Bool.{Bool, true, false, not}
 use mathlib.Core.List.{List, _++_, map}
 use native.Mathlib.Omega.{arith}
+use mir.Syntax.{w32}
+use mir.Val.{Fits}
 use borrow.Author.Tests.{le-leb, lt-leb, eq-eqb, ne-eqb}
 use lib.ListN.{length}
 use Rattle.arithmetic.specs.LittleEndian.{toLe}
@@ -25,7 +27,7 @@ use Rattle.exclusion_entries.specs.Survey.{keeps, takes, stay, surveyOf}
 use Rattle.exclusion_entries.specs.LentMap.{lentMap, lentList}
 use Rattle.exclusion_entries.proofs.LentLaws.{lent-on, stay-keep, keep-all}
 use Rattle.exclusion_entries.proofs.SpliceLaws.{splice-under}
-use Rattle.exclusion_entries.proofs.StayLaws.{told-points, told-bad, told-good}
+use Rattle.exclusion_entries.proofs.StayLaws.{told-points, told-bad, told-good, points-few}
 
 -- ---- commit
 
@@ -42,6 +44,9 @@ module _ (s hash : List ℕ) (rule : Rule) {v : Survey} (ev : v ≡ surveyOf rul
       (rw (eq-eqb (length hash) 32 n, ← eh) (ap₂ (λ (l : List Entry) (x : List ℕ). done (l, x)) m e))
 
 -- ---- apply
+
+pub points-fit : (s : List ℕ) {v : Survey} → v ≡ surveyOf Rule.All s → Fits w32 (v .points)
+points-fit s ev = record { fits = omega (arith, points-few Rule.All s ev) }
 
 module _ (s out : List ℕ) {v : Survey} (ev : v ≡ surveyOf Rule.All s) where
   pub apply-bad : (o : ℕ × List ℕ) → not (v .good) ≡ true → (answered (Answer.Refused Refusal.LentBytesUnreadable), out) ≡ lentList s out o

@@ -22,7 +22,7 @@ use Rattle.out_points.proofs.EqualLaws.{hash-same}
 use Rattle.molecule.proofs.ItemsLaws.{bytes-drop}
 use Rattle.out_points.proofs.AgainLaws.{word-again}
 use Rattle.exclusion_entries.specs.Exclusions.{Entry, hasHash, committedAt}
-use Rattle.exclusion_entries.specs.Entries.{kindOf, blockOf, stateBytes, entryBytes, entriesBytes, mapBytes, FitEntry, entryOf, sizeOf, entriesIn, excludedAt, areEntries, isMap}
+use Rattle.exclusion_entries.specs.Entries.{kindOf, blockOf, stateBytes, entryBytes, entriesBytes, mapBytes, FitEntry, entryOf, sizeOf, entriesIn, excludedAt, areEntries, mapSize, isMap}
 use Rattle.exclusion_entries.proofs.EntryLaws.{from-here, entry-again, points-count, length-entry, first-is, first-room, rest-are, entries-long, entries-size, points-most}
 use Rattle.exclusion_entries.proofs.MapLaws.{map-long, map-few, map-are, map-count, map-points, map-fits, splice-back}
 use Rattle.exclusion_entries.proofs.SpliceLaws.{splice-none, drop-splice, splice-same, splice-then}
@@ -30,25 +30,25 @@ use Rattle.exclusion_marks.specs.Steps.{commitOneBytes}
 
 -- ---- one entry
 
-module _ (s : List ℕ) (at : ℕ) (hash : Byte32) (block : BlockNumber) {x : List ℕ} {b : Bool} {n : ℕ} (ex : x ≡ part s at (length s)) (eb : b ≡ hasHash hash (entryOf x)) (en : n ≡ u32At x 44) where
+module _ (s : List ℕ) (at : ℕ) (hash : Byte32) (block : BlockNumber) {x : List ℕ} {b : Bool} {n z : ℕ} (ex : x ≡ part s at (length s)) (eb : b ≡ hasHash hash (entryOf x)) (en : n ≡ u32At x 44) (ez : z ≡ 48 + 36 * n) where
   here : x ≡ drop at s
   here = from-here s at ex
 
-  pub mark-next : at + (48 + 36 * n) ≡ at + sizeOf (drop at s)
-  mark-next = rw (← here, ← en)
+  pub mark-next : at + z ≡ at + sizeOf (drop at s)
+  mark-next = rw (ez, ← here, ← en)
 
   pub mark-other : not b ≡ true → s ≡ commitOneBytes hash block at s
   unfolding commitOneBytes
   mark-other h = rw (← here, ← eb, not-true b h)
 
-  pub mark-room : at + sizeOf (drop at s) ≤ length s → at + (48 + 36 * n) ≤ length s
-  mark-room h = let z = mark-next in omega arith
+  pub mark-room : at + sizeOf (drop at s) ≤ length s → at + z ≤ length s
+  mark-room h = let e = mark-next in omega arith
 
   pub mark-put : {o₁ o₂ : List ℕ} {n₁ : ℕ} → not b ≡ false → at + sizeOf (drop at s) ≤ length s → o₁ ≡ putAt s (at + 32) (toLe 4 1) → n₁ ≡ putEnd s (at + 32) (toLe 4 1) → o₂ ≡ putAt o₁ n₁ (toLe 8 (block .0))
       → o₂ ≡ commitOneBytes hash block at s
   unfolding commitOneBytes stateBytes kindOf blockOf
   mark-put {o₁} {o₂} {n₁} h r e₁ f₁ e₂ =
-      let z = mark-next in
+      let e = mark-next in
       let k₁ = length-toLe 4 1 in
       let k₂ = length-toLe 8 (block .0) in
       let p = did (toLe 4 1) e₁ f₁ (omega arith) in
@@ -105,10 +105,10 @@ module _ (s : List ℕ) (at : ℕ) (hash : Byte32) (block : BlockNumber) (e : En
 pub record Marking (hash : Byte32) (block : BlockNumber) (s₀ : List ℕ) (n : ℕ) (s : List ℕ) (at i : ℕ) : Type 0 where
   pub left : ℕ
   pub bytes : AllBytes s₀
-  pub long₀ : length s₀ ≡ 21508
-  pub long : length s ≡ 21508
+  pub long₀ : length s₀ ≡ mapSize
+  pub long : length s ≡ mapSize
   pub within : i ≤ n
-  pub room : at + 48 * (n - i) + 36 * left ≤ 21508
+  pub room : at + 48 * (n - i) + 36 * left ≤ mapSize
   pub reads : areEntries (n - i) left (drop at s₀) ≡ true
   pub unread : drop at s ≡ drop at s₀
   pub made : splice s at (entriesBytes (map (committedAt hash block) (entriesIn (n - i) (drop at s₀)))) ≡ splice s₀ 4 (entriesBytes (map (committedAt hash block) (excludedAt s₀)))

@@ -12,7 +12,7 @@ ghost use mathlib.Core.Bool.{true};
 ghost use mathlib.Core.List.{map};
 ghost use Prim.Native.Nat.{_+_, _*_, _≤_};
 ghost use lib.ListN.{length, drop};
-ghost use Rattle.arithmetic.specs.LittleEndian.{toLe, AllBytes};
+ghost use Rattle.arithmetic.specs.LittleEndian.{AllBytes};
 ghost use Rattle.error.specs.Refusal.{answered};
 ghost use Rattle.molecule.specs.Write.{splice, putAt};
 ghost use Rattle.out_points.specs.OutPoints.{bytesOf};
@@ -31,7 +31,8 @@ fn commit_one(s: &mut [u8], at: usize, hash: Byte32, block: BlockNumber) -> usiz
 {
     let x = molecule::part(s, at, s.len());
     let found = exclusion_entries::has_hash(x, hash);
-    let next = at + (48 + 36 * exclusion_entries::point_count(x) as usize);
+    let n = exclusion_entries::point_count(x);
+    let next = at + exclusion_entries::entry_size(n);
     if !found {
         return next;
     }
@@ -86,28 +87,13 @@ fn put_excluded(s: &[u8], out: &mut [u8])
     let mut i: usize = 0;
     while i < n {
         let x = molecule::part(s, at, s.len());
-        let size = 36 * exclusion_entries::point_count(x) as usize;
-        let run = molecule::part(x, 48, 48 + size);
+        let c = exclusion_entries::point_count(x);
+        let size = exclusion_entries::entry_size(c);
+        let run = molecule::part(x, 48, size);
         to = write::put(out, to, run);
-        at += 48 + size;
+        at += size;
         i += 1;
     }
-}
-
-// Puts a count at the start.
-fn put_count(s: &mut [u8], n: usize)
-    requires { ⌜ n ≤ 512 ⌝ }
-    ensures { λ _. ⌜ now (s .exit) ≡ putAt (now (s .entry)) 0 (toLe 4 n) ⌝ }
-{
-    write::put_u32(s, 0, n as u32);
-}
-
-// How long a list of n out points is.
-fn list_size(n: usize) -> usize
-    requires { ⌜ n ≤ 512 ⌝ }
-    ensures { λ r. ⌜ r ≡ 4 + 36 * n ⌝ }
-{
-    4 + 36 * n
 }
 
 // Writes the out points of all transactions, in their order, as a list.
@@ -118,12 +104,12 @@ pub fn apply(map: &[u8], out: &mut [u8]) -> Answer
     if !v.good {
         return Answer::Refused(Refusal::LentBytesUnreadable);
     }
-    let n = v.points;
-    if out.len() < list_size(n) {
+    let n = v.points as u32;
+    if out.len() < out_points::list_size(n) {
         return Answer::Refused(Refusal::BufferTooShort);
     }
     are_bytes(map);
     put_excluded(map, out);
-    put_count(out, n);
+    write::put_u32(out, 0, n);
     Answer::Done
 }

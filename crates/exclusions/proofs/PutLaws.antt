@@ -178,9 +178,9 @@ module _ (s : List ℕ) (v : Survey) (hash : Byte32) (tx : List ℕ) {n : ℕ} (
   length-tail : length tail ≡ 4 + 48 * v .stays + 36 * v .points - v .place
   length-tail = length-take-le _ (drop (v .place) s) (rw (length-drop (v .place) s) (omega arith))
 
-  module _ {s₂ : List ℕ} (e₂ : s₂ ≡ splice s (v .place + (48 + 36 * n)) tail) where
+  module _ {s₂ : List ℕ} {z : ℕ} (ez : z ≡ 48 + 36 * n) (e₂ : s₂ ≡ splice s (v .place + z) tail) where
     length-moved : length s₂ ≡ length s
-    length-moved = ap length e₂ ∙ splice-length s (v .place + (48 + 36 * n)) tail (omega (arith, length-tail))
+    length-moved = ap length e₂ ∙ splice-length s (v .place + z) tail (omega (arith, length-tail))
 
     pub new-room : v .place + (48 + 36 * n) ≤ length s₂
     new-room = omega (arith, length-moved)
@@ -192,7 +192,7 @@ module _ (s : List ℕ) (v : Survey) (hash : Byte32) (tx : List ℕ) {n : ℕ} (
         let C = toLe 4 (v .stays + 1) in
         let l : length X ≡ 48 + 36 * n = length-entry (pending hash tx) ∙ ap (λ (k : ℕ). 48 + 36 * k) (pending-count hash tx en) in
         let u : s₃ ≡ splice s (v .place) (X ++ tail) =
-        e₃ ∙ ap (λ (x : List ℕ). splice x (v .place) X) (e₂ ∙ ap (λ (k : ℕ). splice s (v .place + k) tail) (sym l)) ∙ splice-under s (v .place) X tail (omega (arith, length-tail)) in
+        e₃ ∙ ap (λ (x : List ℕ). splice x (v .place) X) (e₂ ∙ ap (λ (k : ℕ). splice s (v .place + k) tail) (ez ∙ sym l)) ∙ splice-under s (v .place) X tail (omega (arith, length-tail)) in
         let l₃ : length s₃ ≡ length s = ap length e₃ ∙ splice-length s₂ (v .place) X (omega (arith, length-moved)) ∙ length-moved in
         e₄ ∙ put-yes s₃ 0 C (omega (arith, length-toLe 4 (v .stays + 1))) ∙ ap (λ (x : List ℕ). splice x 0 C) u
 

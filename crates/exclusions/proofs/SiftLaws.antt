@@ -14,7 +14,7 @@ use Rattle.molecule.proofs.WriteLaws.{splice-length}
 use Rattle.molecule.proofs.ItemsLaws.{bytes-drop}
 use Rattle.exclusion_entries.specs.Exclusions.{Entry}
 use Rattle.exclusion_entries.specs.declared.{Rule.Rule, Survey.Survey}
-use Rattle.exclusion_entries.specs.Entries.{entryBytes, entriesBytes, entryOf, sizeOf, entriesIn, excludedAt, areEntries, isMap}
+use Rattle.exclusion_entries.specs.Entries.{entryBytes, entriesBytes, entryOf, sizeOf, entriesIn, excludedAt, areEntries, mapSize, isMap}
 use Rattle.exclusion_entries.specs.Survey.{keeps, takes, stay, front, surveyOf}
 use Rattle.exclusion_entries.proofs.EntryLaws.{from-here, entry-again, first-is, first-room, rest-are, entries-size, points-most, entries-long, bytes-join}
 use Rattle.exclusion_entries.proofs.MapLaws.{map-long, map-few, map-are, map-again, Cut, cut}
@@ -34,23 +34,23 @@ module _ (rule : Rule) (x : List ℕ) where
   unfolding gives
   gives-first taken e f = f ∙ rw e
 
-module _ (rule : Rule) (c : Sift) (s : List ℕ) {x : List ℕ} {k g : Bool} {n : ℕ} (ex : x ≡ part s (c .at) (length s)) (ek : k ≡ keeps rule (entryOf x)) (eg : g ≡ gives rule (c .taken) x) (en : n ≡ u32At x 44) where
+module _ (rule : Rule) (c : Sift) (s : List ℕ) {x : List ℕ} {k g : Bool} {n z : ℕ} (ex : x ≡ part s (c .at) (length s)) (ek : k ≡ keeps rule (entryOf x)) (eg : g ≡ gives rule (c .taken) x) (en : n ≡ u32At x 44) (ez : z ≡ 48 + 36 * n) where
   at-is : x ≡ drop (c .at) s
   at-is = from-here s (c .at) ex
 
-  one-is : siftOne rule c s ≡ sifted k g (48 + 36 * n) c
+  one-is : siftOne rule c s ≡ sifted k g z c
   unfolding siftOne
-  one-is = rw (← at-is, ← ek, ← eg, ← en)
+  one-is = rw (← at-is, ← ek, ← eg, ← en, ← ez)
 
-  bytes-is : siftOneBytes rule c s ≡ siftedBytes k g (48 + 36 * n) c s
+  bytes-is : siftOneBytes rule c s ≡ siftedBytes k g z c s
   unfolding siftOneBytes
-  bytes-is = rw (← at-is, ← ek, ← eg, ← en)
+  bytes-is = rw (← at-is, ← ek, ← eg, ← en, ← ez)
 
-  pub one-room : c .at + sizeOf (drop (c .at) s) ≤ length s → c .at + (48 + 36 * n) ≤ length s
-  one-room h = let z : c .at + (48 + 36 * n) ≡ c .at + sizeOf (drop (c .at) s) = rw (← at-is, ← en) in omega arith
+  pub one-room : c .at + sizeOf (drop (c .at) s) ≤ length s → c .at + z ≤ length s
+  one-room h = let e : c .at + z ≡ c .at + sizeOf (drop (c .at) s) = rw (← at-is, ← en, ← ez) in omega arith
 
   module _ (h : not k ≡ true) where
-    pub one-goes : _≡_ {A = Sift} (record { at = c .at + (48 + 36 * n); to = c .to; taken = c .taken }) (siftOne rule c s)
+    pub one-goes : _≡_ {A = Sift} (record { at = c .at + z; to = c .to; taken = c .taken }) (siftOne rule c s)
     unfolding sifted
     one-goes = sym (one-is ∙ rw (not-true k h))
 
@@ -60,7 +60,7 @@ module _ (rule : Rule) (c : Sift) (s : List ℕ) {x : List ℕ} {k g : Bool} {n 
 
   module _ (h : not k ≡ false) where
     module _ (e : g ≡ true) where
-      pub one-gives : _≡_ {A = Sift} (record { at = c .at + (48 + 36 * n); to = c .to; taken = true }) (siftOne rule c s)
+      pub one-gives : _≡_ {A = Sift} (record { at = c .at + z; to = c .to; taken = true }) (siftOne rule c s)
       unfolding sifted
       one-gives = sym (one-is ∙ rw (not-false k h, e))
 
@@ -69,11 +69,11 @@ module _ (rule : Rule) (c : Sift) (s : List ℕ) {x : List ℕ} {k g : Bool} {n 
       bytes-give = sym (bytes-is ∙ rw (not-false k h, e))
 
     module _ (e : g ≡ false) where
-      pub one-stays : _≡_ {A = Sift} (record { at = c .at + (48 + 36 * n); to = c .to + (48 + 36 * n); taken = c .taken }) (siftOne rule c s)
+      pub one-stays : _≡_ {A = Sift} (record { at = c .at + z; to = c .to + z; taken = c .taken }) (siftOne rule c s)
       unfolding sifted
       one-stays = sym (one-is ∙ rw (not-false k h, e))
 
-      pub bytes-stay : {o : List ℕ} → o ≡ splice s (c .to) (take (48 + 36 * n) (drop (c .at) s)) → o ≡ siftOneBytes rule c s
+      pub bytes-stay : {o : List ℕ} → o ≡ splice s (c .to) (take z (drop (c .at) s)) → o ≡ siftOneBytes rule c s
       unfolding siftedBytes
       bytes-stay f = f ∙ sym (bytes-is ∙ rw (not-false k h, e))
 
@@ -82,11 +82,11 @@ module _ (rule : Rule) (c : Sift) (s : List ℕ) {x : List ℕ} {k g : Bool} {n 
 pub record Sifting (rule : Rule) (s₀ : List ℕ) (n : ℕ) (s : List ℕ) (c : Sift) (i : ℕ) : Type 0 where
   pub left : ℕ
   pub bytes : AllBytes s₀
-  pub long₀ : length s₀ ≡ 21508
-  pub long : length s ≡ 21508
+  pub long₀ : length s₀ ≡ mapSize
+  pub long : length s ≡ mapSize
   pub within : i ≤ n
   pub order : c .to ≤ c .at
-  pub room : c .at + 48 * (n - i) + 36 * left ≤ 21508
+  pub room : c .at + 48 * (n - i) + 36 * left ≤ mapSize
   pub reads : areEntries (n - i) left (drop (c .at) s₀) ≡ true
   pub unread : drop (c .at) s ≡ drop (c .at) s₀
   pub made : splice s (c .to) (entriesBytes (stay (keeps rule) (takes rule) (c .taken) (entriesIn (n - i) (drop (c .at) s₀)))) ≡ splice s₀ 4 (entriesBytes (stay (keeps rule) (takes rule) false (excludedAt s₀)))
@@ -119,7 +119,7 @@ module _ {rule : Rule} {s₀ : List ℕ} {n : ℕ} {s : List ℕ} {c : Sift} {i 
       beyond : drop (sizeOf x) x ≡ drop (c .at + sizeOf x) s₀
       beyond = drop-drop (sizeOf x) (c .at) s₀
 
-      on : d .at ≡ c .at + sizeOf x → d .to ≤ d .at → length o ≡ 21508 → drop (c .at + sizeOf x) o ≡ drop (c .at + sizeOf x) s
+      on : d .at ≡ c .at + sizeOf x → d .to ≤ d .at → length o ≡ mapSize → drop (c .at + sizeOf x) o ≡ drop (c .at + sizeOf x) s
           → splice o (d .to) (entriesBytes (stay (keeps rule) (takes rule) (d .taken) rest)) ≡ splice s₀ 4 (entriesBytes (stay (keeps rule) (takes rule) false (excludedAt s₀)))
           → Sifting rule s₀ n o d (i + 1)
       on ea q l u m =
@@ -139,7 +139,7 @@ module _ {rule : Rule} {s₀ : List ℕ} {n : ℕ} {s : List ℕ} {c : Sift} {i 
             made = rw (ea, ← beyond) m;
           }
 
-    stays-within : (taken : Bool) → c .at + sizeOf x + length (entriesBytes (stay (keeps rule) (takes rule) taken (entriesIn (n - (i + 1)) (drop (sizeOf x) x)))) ≤ 21508
+    stays-within : (taken : Bool) → c .at + sizeOf x + length (entriesBytes (stay (keeps rule) (takes rule) taken (entriesIn (n - (i + 1)) (drop (sizeOf x) x)))) ≤ mapSize
     stays-within taken =
         let y = drop (sizeOf x) x in
         let r = w .room in

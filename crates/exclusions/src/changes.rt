@@ -50,7 +50,8 @@ fn sift_one(s: &mut [u8], rule: Rule, c: Sift) -> Sift
     let x = molecule::part(s, at, s.len());
     let kept = exclusion_entries::keeps(rule, x);
     let gives = gives(rule, c.taken, x);
-    let size = 48 + 36 * exclusion_entries::point_count(x) as usize;
+    let n = exclusion_entries::point_count(x);
+    let size = exclusion_entries::entry_size(n);
     let next = at + size;
     if !kept {
         return Sift {
@@ -151,7 +152,7 @@ fn put_new(s: &mut [u8], v: Survey, hash: Byte32, tx: &[u8], n: u32)
 {
     let place = v.place;
     let end = 4 + 48 * v.stays + 36 * v.points;
-    let size = 48 + 36 * n as usize;
+    let size = exclusion_entries::entry_size(n);
     moves::move_up(s, place, place + size, end - place);
     put_entry(s, place, hash, tx, n);
     write::put_u32(s, 0, v.stays as u32 + 1);

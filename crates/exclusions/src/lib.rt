@@ -2,6 +2,8 @@
 // place. A transaction that can't be read is refused first, then bytes that are no map; a refusal leaves the map's bytes and the buffer as they were.
 use error::Answer;
 use error::Refusal;
+use exclusion_entries::MOST_ENTRIES;
+use exclusion_entries::MOST_OUT_POINTS;
 use exclusion_entries::Rule;
 use exclusion_entries::Survey;
 use out_points::Byte32;
@@ -24,10 +26,6 @@ ghost use Rattle.exclusion_entries.specs.LentMap.{lentMap, lentTx};
 
 mod changes;
 mod moves;
-
-const MOST_ENTRIES: usize = 64;
-
-const MOST_OUT_POINTS: usize = 512;
 
 // Enters a transaction into the table that the rule leaves, where there is room.
 fn enter(map: &mut [u8], rule: Rule, v: Survey, hash: Byte32, tx: &[u8]) -> Answer

@@ -26,9 +26,9 @@ use Rattle.cell_deps.specs.CellDeps.{cellDeps, depCount, depsAt, Chooses}
 use Rattle.cell_deps.proofs.LongLaws.{too-many, deps-most}
 use Rattle.base_writer.specs.declared.Plan.{Plan}
 use Rattle.base_writer.specs.Answer.{inRoom, leaves, written, told}
-use Rattle.base_writer.specs.Lists.{listsOf, bytesOf}
-use Rattle.funding_builder.specs.Base.{Lent, Packed, packed, baseTx}
-use Rattle.funding_builder.specs.Steps.{Ready, Roomy, Planned, cellOf, pickOf}
+use Rattle.base_writer.specs.Lists.{presentOf, besideOf, listsOf, bytesOf}
+use Rattle.funding_builder.specs.Base.{Lent, lentOf, Packed, packed, baseTx}
+use Rattle.funding_builder.specs.Steps.{Ready, Roomy, Planned, presentIn, cellOf, pickOf}
 use Rattle.funding_builder.proofs.PresentLaws.{deps-readable, headers-again, option-of}
 
 packed-long : (t : Packed) → length (fixList (t .cellDeps)) ≤ length (packed t)
@@ -38,7 +38,7 @@ packed-long t =
 
 module _ (ours lock udt source cells udtDeps lockDep extraDeps : List ℕ) (capacity : Shannons) (token : Tokens) (taken : ℕ) (change : Tokens) (out : List ℕ) where
   abbrev l : Lent
-  l = record { ours = ours; lock = lock; udt = udt; source = source; cells = cells; udtDeps = udtDeps; lockDep = lockDep; extraDeps = extraDeps }
+  l = lentOf ours lock udt source cells udtDeps lockDep extraDeps
 
   abbrev base : List ℕ
   base = packed (baseTx l (cellOf capacity token) (pickOf taken change))
@@ -65,8 +65,8 @@ module _ (ours lock udt source cells udtDeps lockDep extraDeps : List ℕ) (capa
 
     module _ (f : Plan) (plan : Planned f capacity token taken change source udt) (b : AllBytes ours) where
       -- `take (r - 0) p` is what `&places[0..count]` gives
-      same : r ≤ l₁ → bytesOf (txAt ours .version) (listsOf (record { deps = rawField ours 1; headers = rawField ours 2; inputs = rawField ours 3; outputs = rawField ours 4; datas = rawField ours 5 })
-          (record { lock = lock; udt = udt; source = source; cells = cells; udtDeps = ifPositive (f .taken) udtDeps; lockDep = ifPositive (f .taken) lockDep; extraDeps = extraDeps }) (take (r - 0) p) f) ≡ base
+      same : r ≤ l₁ → bytesOf (txAt ours .version) (listsOf (presentIn ours)
+          (besideOf lock udt source cells (ifPositive (f .taken) udtDeps) (ifPositive (f .taken) lockDep) extraDeps) (take (r - 0) p) f) ≡ base
       unfolding bytesOf listsOf packed baseTx
       same h =
           let e = roomy .same in
@@ -77,26 +77,26 @@ module _ (ours lock udt source cells udtDeps lockDep extraDeps : List ℕ) (capa
           rw (plan .cell, plan .tokens, plan .picked, plan .left, plan .back, whole, dep, many, ins, ← headers-again ours (ready .lent .ours) b)
 
       pub assembled : {y : Outcome ℕ × List ℕ} → r ≤ l₁
-          → y ≡ written (fine (bytesOf (txAt ours .version) (listsOf (record { deps = rawField ours 1; headers = rawField ours 2; inputs = rawField ours 3; outputs = rawField ours 4; datas = rawField ours 5 })
-          (record { lock = lock; udt = udt; source = source; cells = cells; udtDeps = ifPositive (f .taken) udtDeps; lockDep = ifPositive (f .taken) lockDep; extraDeps = extraDeps }) (take (r - 0) p) f))) out
+          → y ≡ written (fine (bytesOf (txAt ours .version) (listsOf (presentIn ours)
+          (besideOf lock udt source cells (ifPositive (f .taken) udtDeps) (ifPositive (f .taken) lockDep) extraDeps) (take (r - 0) p) f))) out
           → y ≡ written (fine base) out
       assembled h e = e ∙ ap (λ (t : List ℕ). written (fine t) out) (same h)
 
 -- the lists of the present transaction, each read by its accessor
 pub read-lists : (ours lock udt source cells udtDeps lockDep extraDeps out : List ℕ) (x : List ℕ) (p : Plan) {version : ℕ} {deps headers inputs outputs datas : List ℕ} {y : Outcome ℕ × List ℕ}
     → version ≡ txAt ours .version → deps ≡ rawField ours 1 → headers ≡ rawField ours 2 → inputs ≡ rawField ours 3 → outputs ≡ rawField ours 4 → datas ≡ rawField ours 5
-    → y ≡ written (fine (bytesOf version (listsOf (record { deps = deps; headers = headers; inputs = inputs; outputs = outputs; datas = datas })
-    (record { lock = lock; udt = udt; source = source; cells = cells; udtDeps = udtDeps; lockDep = lockDep; extraDeps = extraDeps }) x p))) out
-    → y ≡ written (fine (bytesOf (txAt ours .version) (listsOf (record { deps = rawField ours 1; headers = rawField ours 2; inputs = rawField ours 3; outputs = rawField ours 4; datas = rawField ours 5 })
-    (record { lock = lock; udt = udt; source = source; cells = cells; udtDeps = udtDeps; lockDep = lockDep; extraDeps = extraDeps }) x p))) out
+    → y ≡ written (fine (bytesOf version (listsOf (presentOf deps headers inputs outputs datas)
+    (besideOf lock udt source cells udtDeps lockDep extraDeps) x p))) out
+    → y ≡ written (fine (bytesOf (txAt ours .version) (listsOf (presentIn ours)
+    (besideOf lock udt source cells udtDeps lockDep extraDeps) x p))) out
 read-lists ours lock udt source cells udtDeps lockDep extraDeps out x p ev ed eh ei eo ea e = e ∙ rw (ev, ed, eh, ei, eo, ea)
 
 pub read-picked : (ours lock udt source cells udtDeps lockDep extraDeps out : List ℕ) (x : List ℕ) (p : Plan) {u k : List ℕ} {y : Outcome ℕ × List ℕ}
     → u ≡ ifPositive (p .taken) udtDeps → k ≡ ifPositive (p .taken) lockDep
-    → y ≡ written (fine (bytesOf (txAt ours .version) (listsOf (record { deps = rawField ours 1; headers = rawField ours 2; inputs = rawField ours 3; outputs = rawField ours 4; datas = rawField ours 5 })
-    (record { lock = lock; udt = udt; source = source; cells = cells; udtDeps = u; lockDep = k; extraDeps = extraDeps }) x p))) out
-    → y ≡ written (fine (bytesOf (txAt ours .version) (listsOf (record { deps = rawField ours 1; headers = rawField ours 2; inputs = rawField ours 3; outputs = rawField ours 4; datas = rawField ours 5 })
-    (record { lock = lock; udt = udt; source = source; cells = cells; udtDeps = ifPositive (p .taken) udtDeps; lockDep = ifPositive (p .taken) lockDep; extraDeps = extraDeps }) x p))) out
+    → y ≡ written (fine (bytesOf (txAt ours .version) (listsOf (presentIn ours)
+    (besideOf lock udt source cells u k extraDeps) x p))) out
+    → y ≡ written (fine (bytesOf (txAt ours .version) (listsOf (presentIn ours)
+    (besideOf lock udt source cells (ifPositive (p .taken) udtDeps) (ifPositive (p .taken) lockDep) extraDeps) x p))) out
 read-picked ours lock udt source cells udtDeps lockDep extraDeps out x p eu ek e = e ∙ rw (eu, ek)
 
 module _ (ours udtDeps lockDep extraDeps : List ℕ) (taken : ℕ) {deps u k : List ℕ} (ed : deps ≡ rawField ours 1) (eu : u ≡ ifPositive taken udtDeps) (ek : k ≡ ifPositive taken lockDep) where

@@ -29,7 +29,7 @@ use Rattle.funding_cell.proofs.FundingCellLaws.{capacity-below}
 use Rattle.udt_cells.specs.declared.Picked.{Picked}
 use Rattle.udt_cells.specs.Pick.{Pick, pickTyped, told as toldPick}
 use Rattle.base_writer.specs.Answer.{inRoom, leaves, written, told}
-use Rattle.funding_builder.specs.Base.{Lent, lists, supplied, packed, baseTx, withPick, withCell, withRequest, buildBase}
+use Rattle.funding_builder.specs.Base.{Lent, lentOf, lists, supplied, packed, baseTx, withPick, withCell, withRequest, buildBase}
 use Rattle.funding_builder.specs.Steps.{Readable, Ready, cellOf, pickOf}
 
 -- a refusal leaves the buffer
@@ -39,7 +39,7 @@ refused-is e out h = rw h
 
 module _ (ours lock udt source cells udtDeps lockDep extraDeps out : List ℕ) where
   abbrev l : Lent
-  l = record { ours = ours; lock = lock; udt = udt; source = source; cells = cells; udtDeps = udtDeps; lockDep = lockDep; extraDeps = extraDeps }
+  l = lentOf ours lock udt source cells udtDeps lockDep extraDeps
 
   -- ---- with_pick
 
@@ -139,7 +139,7 @@ module _ (ours lock udt source cells udtDeps lockDep extraDeps : List ℕ) {p : 
   unfolding check checkWith
   all-lists = sym er ∙ rw (not-false r hr)
 
-  pub base-readable : Readable (record { ours = ours; lock = lock; udt = udt; source = source; cells = cells; udtDeps = udtDeps; lockDep = lockDep; extraDeps = extraDeps })
+  pub base-readable : Readable (lentOf ours lock udt source cells udtDeps lockDep extraDeps)
   unfolding scripts lists
   base-readable =
       let a = check-fine 3 (readable Script lock) _ tt all-scripts in

@@ -36,7 +36,12 @@ pub record Lent : Type 0 where
   pub lockDep : List ℕ
   pub extraDeps : List ℕ
 
--- a transaction as the lists of its packed items, and in bytes. Not `Tx`, whose data entries and witnesses are what they hold: here they are items, with the word of their length
+abbrev pub lentOf : List ℕ → List ℕ → List ℕ → List ℕ → List ℕ → List ℕ → List ℕ → List ℕ → Lent
+lentOf ours lock udt source cells udtDeps lockDep extraDeps =
+    record { ours = ours; lock = lock; udt = udt; source = source; cells = cells; udtDeps = udtDeps; lockDep = lockDep; extraDeps = extraDeps }
+
+-- a transaction as the lists of its packed items, and in bytes. Not `Tx`, whose data entries and witnesses are what they hold: here they are items, with the
+-- word of their length
 pub record Packed : Type 0 where
   pub version : ℕ
   pub cellDeps : List (List ℕ)

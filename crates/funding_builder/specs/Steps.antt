@@ -14,6 +14,7 @@ use Rattle.list_writer.specs.ListWriter.{ifPositive}
 use Rattle.cell_deps.specs.CellDeps.{cellDeps}
 use Rattle.udt_cells.specs.Pick.{Pick}
 use Rattle.base_writer.specs.declared.Plan.{Plan}
+use Rattle.base_writer.specs.Lists.{Present, presentOf}
 use Rattle.funding_builder.specs.Base.{Lent, changeCapacity}
 
 -- what the checks at entry have shown; with the funding cell's capacity, which is a number of 64 bits
@@ -41,6 +42,10 @@ pub record Planned (p : Plan) (capacity : Shannons) (token : Tokens) (taken : �
   pub picked : p .taken ≡ taken
   pub left : p .change ≡ change
   pub back : p .«change_capacity» ≡ changeCapacity (tokenCount change) source udt
+
+-- the parts of our transaction that stay
+abbrev pub presentIn : List ℕ → Present
+presentIn ours = presentOf (rawField ours 1) (rawField ours 2) (rawField ours 3) (rawField ours 4) (rawField ours 5)
 
 -- a funding cell and a pick by their figures
 abbrev pub cellOf : Shannons → Tokens → Figures

@@ -19,9 +19,9 @@ ghost use Rattle.list_writer.specs.ListWriter.{ifPositive};
 ghost use Rattle.transaction.specs.Tx.{txAt, rawField};
 ghost use Rattle.cell_deps.specs.CellDeps.{depCount, Chooses};
 ghost use Rattle.base_writer.specs.Answer.{written, told};
-ghost use Rattle.base_writer.specs.Lists.{listsOf, bytesOf};
-ghost use Rattle.funding_builder.specs.Base.{changeCapacity, packed, baseTx};
-ghost use Rattle.funding_builder.specs.Steps.{Ready, Roomy, Planned, cellOf, pickOf};
+ghost use Rattle.base_writer.specs.Lists.{besideOf, listsOf, bytesOf};
+ghost use Rattle.funding_builder.specs.Base.{lentOf, changeCapacity, packed, baseTx};
+ghost use Rattle.funding_builder.specs.Steps.{Ready, Roomy, Planned, presentIn, cellOf, pickOf};
 
 // How many cell deps 133,116 bytes have room for.
 const MOST_DEPS: usize = 3597;
@@ -76,7 +76,7 @@ fn write_plan<'a>(
     plan: Plan,
     out: &mut [u8],
 ) -> Written
-    ensures { λ r. ⌜ (told r, now (out .exit)) ≡ written (fine (bytesOf (txAt (now (ours .entry)) .version) (listsOf (record { deps = rawField (now (ours .entry)) 1; headers = rawField (now (ours .entry)) 2; inputs = rawField (now (ours .entry)) 3; outputs = rawField (now (ours .entry)) 4; datas = rawField (now (ours .entry)) 5 }) (record { lock = now (lock .entry); udt = now (udt .entry); source = now (source .entry); cells = now (cells .entry); udtDeps = now («udt_deps» .entry); lockDep = now («lock_dep» .entry); extraDeps = now («extra_deps» .entry) }) (now (chosen .entry)) plan))) (now (out .entry)) ⌝ }
+    ensures { λ r. ⌜ (told r, now (out .exit)) ≡ written (fine (bytesOf (txAt (now (ours .entry)) .version) (listsOf (presentIn (now (ours .entry))) (besideOf (now (lock .entry)) (now (udt .entry)) (now (source .entry)) (now (cells .entry)) (now («udt_deps» .entry)) (now («lock_dep» .entry)) (now («extra_deps» .entry))) (now (chosen .entry)) plan))) (now (out .entry)) ⌝ }
 {
     let deps = fields::cell_deps(ours);
     let headers = fields::header_deps(ours);
@@ -117,7 +117,7 @@ fn write_picked<'a>(
     plan: Plan,
     out: &mut [u8],
 ) -> Written
-    ensures { λ r. ⌜ (told r, now (out .exit)) ≡ written (fine (bytesOf (txAt (now (ours .entry)) .version) (listsOf (record { deps = rawField (now (ours .entry)) 1; headers = rawField (now (ours .entry)) 2; inputs = rawField (now (ours .entry)) 3; outputs = rawField (now (ours .entry)) 4; datas = rawField (now (ours .entry)) 5 }) (record { lock = now (lock .entry); udt = now (udt .entry); source = now (source .entry); cells = now (cells .entry); udtDeps = ifPositive (plan .taken) (now («udt_deps» .entry)); lockDep = ifPositive (plan .taken) (now («lock_dep» .entry)); extraDeps = now («extra_deps» .entry) }) (now (chosen .entry)) plan))) (now (out .entry)) ⌝ }
+    ensures { λ r. ⌜ (told r, now (out .exit)) ≡ written (fine (bytesOf (txAt (now (ours .entry)) .version) (listsOf (presentIn (now (ours .entry))) (besideOf (now (lock .entry)) (now (udt .entry)) (now (source .entry)) (now (cells .entry)) (ifPositive (plan .taken) (now («udt_deps» .entry))) (ifPositive (plan .taken) (now («lock_dep» .entry))) (now («extra_deps» .entry))) (now (chosen .entry)) plan))) (now (out .entry)) ⌝ }
 {
     let udt_used = if_picked(plan.taken, udt_deps);
     let lock_used = if_picked(plan.taken, lock_dep);
@@ -213,9 +213,9 @@ fn assemble_with<'a>(
     sorted: &mut [usize],
     out: &mut [u8],
 ) -> Written
-    requires { ⌜ Ready (record { ours = now ours; lock = now lock; udt = now udt; source = now source; cells = now cells; udtDeps = now «udt_deps»; lockDep = now «lock_dep»; extraDeps = now «extra_deps» }) capacity ⌝ }
-    requires { ⌜ Roomy (record { ours = now ours; lock = now lock; udt = now udt; source = now source; cells = now cells; udtDeps = now «udt_deps»; lockDep = now «lock_dep»; extraDeps = now «extra_deps» }) taken (length (now places)) (length (now sorted)) ⌝ }
-    ensures { λ r. ⌜ (told r, now (out .exit)) ≡ written (fine (packed (baseTx (record { ours = now (ours .entry); lock = now (lock .entry); udt = now (udt .entry); source = now (source .entry); cells = now (cells .entry); udtDeps = now («udt_deps» .entry); lockDep = now («lock_dep» .entry); extraDeps = now («extra_deps» .entry) }) (cellOf capacity token) (pickOf taken change)))) (now (out .entry)) ⌝ }
+    requires { ⌜ Ready (lentOf (now ours) (now lock) (now udt) (now source) (now cells) (now «udt_deps») (now «lock_dep») (now «extra_deps»)) capacity ⌝ }
+    requires { ⌜ Roomy (lentOf (now ours) (now lock) (now udt) (now source) (now cells) (now «udt_deps») (now «lock_dep») (now «extra_deps»)) taken (length (now places)) (length (now sorted)) ⌝ }
+    ensures { λ r. ⌜ (told r, now (out .exit)) ≡ written (fine (packed (baseTx (lentOf (now (ours .entry)) (now (lock .entry)) (now (udt .entry)) (now (source .entry)) (now (cells .entry)) (now («udt_deps» .entry)) (now («lock_dep» .entry)) (now («extra_deps» .entry))) (cellOf capacity token) (pickOf taken change)))) (now (out .entry)) ⌝ }
 {
     let room = places.len();
     let count = choose_deps(ours, udt_deps, lock_dep, extra_deps, taken, places, sorted);
@@ -255,8 +255,8 @@ pub(crate) fn assemble_base_tx<'a>(
     change: Tokens,
     out: &mut [u8],
 ) -> Written
-    requires { ⌜ Ready (record { ours = now ours; lock = now lock; udt = now udt; source = now source; cells = now cells; udtDeps = now «udt_deps»; lockDep = now «lock_dep»; extraDeps = now «extra_deps» }) capacity ⌝ }
-    ensures { λ r. ⌜ (told r, now (out .exit)) ≡ written (fine (packed (baseTx (record { ours = now (ours .entry); lock = now (lock .entry); udt = now (udt .entry); source = now (source .entry); cells = now (cells .entry); udtDeps = now («udt_deps» .entry); lockDep = now («lock_dep» .entry); extraDeps = now («extra_deps» .entry) }) (cellOf capacity token) (pickOf taken change)))) (now (out .entry)) ⌝ }
+    requires { ⌜ Ready (lentOf (now ours) (now lock) (now udt) (now source) (now cells) (now «udt_deps») (now «lock_dep») (now «extra_deps»)) capacity ⌝ }
+    ensures { λ r. ⌜ (told r, now (out .exit)) ≡ written (fine (packed (baseTx (lentOf (now (ours .entry)) (now (lock .entry)) (now (udt .entry)) (now (source .entry)) (now (cells .entry)) (now («udt_deps» .entry)) (now («lock_dep» .entry)) (now («extra_deps» .entry))) (cellOf capacity token) (pickOf taken change)))) (now (out .entry)) ⌝ }
 {
     if dep_count(ours, udt_deps, lock_dep, extra_deps, taken) <= FEW_DEPS {
         let mut places = [0usize; FEW_DEPS];

@@ -17,7 +17,7 @@ ghost use Rattle.molecule.specs.Molecule.{readable, option};
 ghost use Rattle.transaction.specs.Ckb.{CellDep, CellDeps};
 ghost use Rattle.rules.specs.Outcome.{check};
 ghost use Rattle.base_writer.specs.Answer.{written, told};
-ghost use Rattle.funding_builder.specs.Base.{lists, supplied, withPick, withCell, withRequest, buildBase};
+ghost use Rattle.funding_builder.specs.Base.{lentOf, lists, supplied, withPick, withCell, withRequest, buildBase};
 ghost use Rattle.funding_builder.specs.Steps.{Readable, Ready, cellOf, pickOf};
 
 // Whether the bytes are a list of cell deps, or nothing.
@@ -82,8 +82,8 @@ fn with_pick<'a>(
     change: Tokens,
     out: &mut [u8],
 ) -> Written
-    requires { ⌜ Ready (record { ours = now ours; lock = now lock; udt = now udt; source = now source; cells = now cells; udtDeps = now «udt_deps»; lockDep = now «lock_dep»; extraDeps = now «extra_deps» }) capacity ⌝ }
-    ensures { λ r. ⌜ (told r, now (out .exit)) ≡ written (withPick (record { ours = now (ours .entry); lock = now (lock .entry); udt = now (udt .entry); source = now (source .entry); cells = now (cells .entry); udtDeps = now («udt_deps» .entry); lockDep = now («lock_dep» .entry); extraDeps = now («extra_deps» .entry) }) (cellOf capacity token) (pickOf taken change)) (now (out .entry)) ⌝ }
+    requires { ⌜ Ready (lentOf (now ours) (now lock) (now udt) (now source) (now cells) (now «udt_deps») (now «lock_dep») (now «extra_deps»)) capacity ⌝ }
+    ensures { λ r. ⌜ (told r, now (out .exit)) ≡ written (withPick (lentOf (now (ours .entry)) (now (lock .entry)) (now (udt .entry)) (now (source .entry)) (now (cells .entry)) (now («udt_deps» .entry)) (now («lock_dep» .entry)) (now («extra_deps» .entry))) (cellOf capacity token) (pickOf taken change)) (now (out .entry)) ⌝ }
 {
     if !is_supplied(taken, udt_deps) {
         return Written::Refused(Refusal::MissingCellDep);
@@ -123,8 +123,8 @@ fn with_cell<'a>(
     wanted: Tokens,
     out: &mut [u8],
 ) -> Written
-    requires { ⌜ Ready (record { ours = now ours; lock = now lock; udt = now udt; source = now source; cells = now cells; udtDeps = now «udt_deps»; lockDep = now «lock_dep»; extraDeps = now «extra_deps» }) capacity ⌝ }
-    ensures { λ r. ⌜ (told r, now (out .exit)) ≡ written (withCell (record { ours = now (ours .entry); lock = now (lock .entry); udt = now (udt .entry); source = now (source .entry); cells = now (cells .entry); udtDeps = now («udt_deps» .entry); lockDep = now («lock_dep» .entry); extraDeps = now («extra_deps» .entry) }) (cellOf capacity token) (tokenCount wanted)) (now (out .entry)) ⌝ }
+    requires { ⌜ Ready (lentOf (now ours) (now lock) (now udt) (now source) (now cells) (now «udt_deps») (now «lock_dep») (now «extra_deps»)) capacity ⌝ }
+    ensures { λ r. ⌜ (told r, now (out .exit)) ≡ written (withCell (lentOf (now (ours .entry)) (now (lock .entry)) (now (udt .entry)) (now (source .entry)) (now (cells .entry)) (now («udt_deps» .entry)) (now («lock_dep» .entry)) (now («extra_deps» .entry))) (cellOf capacity token) (tokenCount wanted)) (now (out .entry)) ⌝ }
 {
     match udt_cells::pick_typed(cells, udt, wanted) {
         Picked::Cells { taken, change } => with_pick(
@@ -159,8 +159,8 @@ fn with_request<'a>(
     request: FundingRequest,
     out: &mut [u8],
 ) -> Written
-    requires { ⌜ Readable (record { ours = now ours; lock = now lock; udt = now udt; source = now source; cells = now cells; udtDeps = now «udt_deps»; lockDep = now «lock_dep»; extraDeps = now «extra_deps» }) ⌝ }
-    ensures { λ r. ⌜ (told r, now (out .exit)) ≡ written (withRequest (record { ours = now (ours .entry); lock = now (lock .entry); udt = now (udt .entry); source = now (source .entry); cells = now (cells .entry); udtDeps = now («udt_deps» .entry); lockDep = now («lock_dep» .entry); extraDeps = now («extra_deps» .entry) }) request) (now (out .entry)) ⌝ }
+    requires { ⌜ Readable (lentOf (now ours) (now lock) (now udt) (now source) (now cells) (now «udt_deps») (now «lock_dep») (now «extra_deps»)) ⌝ }
+    ensures { λ r. ⌜ (told r, now (out .exit)) ≡ written (withRequest (lentOf (now (ours .entry)) (now (lock .entry)) (now (udt .entry)) (now (source .entry)) (now (cells .entry)) (now («udt_deps» .entry)) (now («lock_dep» .entry)) (now («extra_deps» .entry))) request) (now (out .entry)) ⌝ }
 {
     let funded = fields::output_count(ours) != 0;
     let typed = udt.len() != 0;
@@ -200,7 +200,7 @@ pub fn build_base<'a>(
     request: FundingRequest,
     out: &mut [u8],
 ) -> Written
-    ensures { λ r. ⌜ (told r, now (out .exit)) ≡ written (buildBase (record { ours = now (ours .entry); lock = now (lock .entry); udt = now (udt .entry); source = now (source .entry); cells = now (cells .entry); udtDeps = now («udt_deps» .entry); lockDep = now («lock_dep» .entry); extraDeps = now («extra_deps» .entry) }) request) (now (out .entry)) ⌝ }
+    ensures { λ r. ⌜ (told r, now (out .exit)) ≡ written (buildBase (lentOf (now (ours .entry)) (now (lock .entry)) (now (udt .entry)) (now (source .entry)) (now (cells .entry)) (now («udt_deps» .entry)) (now («lock_dep» .entry)) (now («extra_deps» .entry))) request) (now (out .entry)) ⌝ }
 {
     if !transaction::is_optional_transaction(ours) {
         return Written::Refused(Refusal::OurTransactionUnreadable);

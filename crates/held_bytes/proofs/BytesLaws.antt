@@ -25,7 +25,7 @@ use Rattle.table_bytes.specs.Places.{FitPlace, placeOf, places, placesBytes}
 use Rattle.table_bytes.proofs.AgainLaws.{count-zero}
 use Rattle.table_bytes.proofs.LoopLaws.{Reading, read-end, Putting, put-end, put-fit, put-long}
 use Rattle.table_bytes.proofs.TableLaws.{table-short, table-room, table-put, records-back, records-put, records-again}
-use Rattle.held_bytes.specs.HeldBytes.{ownerOf, holdOf, heldOf, heldAt, kindOf, numberOf, placeFor, heldBytes}
+use Rattle.held_bytes.specs.HeldBytes.{heldSize, ownerOf, holdOf, heldOf, heldAt, kindOf, numberOf, placeFor, heldBytes}
 
 -- ---- one record
 
@@ -115,7 +115,7 @@ module _ (h : Held) (out : List ℕ) {n : ℕ} (e : n ≡ min (h .count) 256) (w
   unfolding heldBytes
   held-short l = table-short (map placeFor (recordsOf h)) out counted l
 
-  pub held-none : length out < 4 + 48 * n → (12292 ≤ length out → heldAt out ≡ recordsOf h)
+  pub held-none : length out < 4 + 48 * n → (heldSize ≤ length out → heldAt out ≡ recordsOf h)
   held-none l b = absurd (omega arith)
 
   module _ (room : 4 + 48 * n ≤ length out) {o : List ℕ} {at : ℕ} (eo : o ≡ putAt out 0 (toLe 4 n)) (ea : at ≡ putEnd out 0 (toLe 4 n)) where
@@ -130,7 +130,7 @@ module _ (h : Held) (out : List ℕ) {n : ℕ} (e : n ≡ min (h .count) 256) (w
       unfolding heldBytes
       held-put = table-put (map placeFor (recordsOf h)) out counted room eo ea (held-end q l)
 
-      pub held-means : (12292 ≤ length out → heldAt o₂ ≡ recordsOf h)
+      pub held-means : (heldSize ≤ length out → heldAt o₂ ≡ recordsOf h)
       unfolding heldAt heldOf recordsOf heldBytes
       held-means b = records-put holdOf placeFor same-hold (recordsOf h) out 256 (omega (arith, stands h w)) (omega arith) (omega arith) (held-fit q l) held-put
 
@@ -157,6 +157,6 @@ unfolding heldAt heldOf recordsOf heldBytes
 held-again s z b = records-again holdOf placeFor same-hold hold-fits s z 256 b (omega arith)
 
 -- all zeros are the empty table
-pub held-zeros : heldAt (replicate 12292 0) ≡ []
+pub held-zeros : heldAt (replicate heldSize 0) ≡ []
 unfolding heldAt heldOf recordsOf
-held-zeros = ap (λ (n : ℕ). take n (map holdOf (places 256 (replicate 12292 0)))) (count-zero (replicate 12288 0))
+held-zeros = ap (λ (n : ℕ). take n (map holdOf (places 256 (replicate heldSize 0)))) (count-zero (replicate 12288 0))

@@ -1,5 +1,5 @@
 -- The table of holds in bytes: what lent bytes mean, and the bytes of a list of records.
-use Prim.Native.Nat.{ℕ}
+use Prim.Native.Nat.{ℕ, _+_, _*_}
 use mathlib.Core.Bool.{cond}
 use mathlib.Core.List.{List, map}
 use lib.Dec.{eqb}
@@ -8,6 +8,10 @@ use Rattle.hold_records.specs.declared.{Owner.Owner, Hold.Hold, Held.Held}
 use Rattle.hold_records.specs.Holds.{recordsOf}
 use Rattle.table_bytes.specs.declared.{Place.Place}
 use Rattle.table_bytes.specs.Places.{places, tableBytes}
+
+-- how many bytes a lent table has: the count, and 256 places
+abbrev pub heldSize : ℕ
+heldSize = 4 + 48 * 256
 
 -- kind 0 is a funding, and the number its holder; any other kind the watchtower, and the number the end
 unfoldable pub ownerOf : ℕ → ℕ → Owner

@@ -15,12 +15,12 @@ ghost use Rattle.out_points.specs.Tables.{keep};
 ghost use Rattle.hold_records.specs.Holds.{recordsOf};
 ghost use Rattle.hold_records.specs.Rules.{isKept};
 ghost use Rattle.table_bytes.specs.Places.{FitPlace};
-ghost use Rattle.held_bytes.specs.HeldBytes.{holdOf, placeFor, heldOf, heldAt, heldBytes};
+ghost use Rattle.held_bytes.specs.HeldBytes.{heldSize, holdOf, placeFor, heldOf, heldAt, heldBytes};
 
 pub mod calls;
 
-// How many bytes a lent table has: a count and 256 places.
-pub const HELD_BYTES: usize = 12_292;
+// How many bytes a lent table has: a count and a place for each record.
+pub const HELD_BYTES: usize = 4 + 48 * MOST_RECORDS;
 
 // What a place holds: kind 0 is a funding, and the number its holder; any other the watchtower, and the number the end.
 fn hold_of(p: Place) -> Hold
@@ -102,7 +102,7 @@ pub fn read_kept(s: &[u8], rule: Rule) -> Held
 // Puts the table at the start of s, and nothing where there is no room for its records; the bytes behind them keep their value.
 pub fn write_held(h: Held, s: &mut [u8])
     ensures { λ _. ⌜ now (s .exit) ≡ putAt (now (s .entry)) 0 (heldBytes (recordsOf h)) ⌝ }
-    ensures { λ _. ⌜ (12292 ≤ length (now (s .entry)) → heldAt (now (s .exit)) ≡ recordsOf h) ⌝ }
+    ensures { λ _. ⌜ (heldSize ≤ length (now (s .entry)) → heldAt (now (s .exit)) ≡ recordsOf h) ⌝ }
 {
     let n = hold_records::used(h.count);
     if s.len() < 4 + 48 * n {

@@ -173,11 +173,11 @@ pub fn put_cells(h: Held, from: usize, out: &mut [u8]) -> bool
     ensures { λ r. ⌜ r ≡ hasRoom (cellsOf (drop from (recordsOf h))) (now (out .entry)) ⌝ }
     ensures { λ _. ⌜ now (out .exit) ≡ putIf (cellsOf (drop from (recordsOf h))) (now (out .entry)) ⌝ }
 {
-    let n = sizes::saturating_sub(used(h.count), from);
-    if out.len() < 4 + 36 * n {
+    let n = sizes::saturating_sub(used(h.count), from) as u32;
+    if out.len() < out_points::list_size(n) {
         return false;
     }
-    let at = write::put_u32(out, 0, n as u32);
+    let at = write::put_u32(out, 0, n);
     put_points(h, from, out, at);
     true
 }
@@ -187,11 +187,11 @@ pub fn list_cells(h: Held, out: &mut [u8])
     ensures { λ _. ⌜ now (out .exit) ≡ putIf (cellsOf (recordsOf h)) (now (out .entry)) ⌝ }
     ensures { λ _. ⌜ (9220 ≤ length (now (out .entry)) → points (now (out .exit)) ≡ cellsOf (recordsOf h)) ⌝ }
 {
-    let n = used(h.count);
-    if out.len() < 4 + 36 * n {
+    let n = used(h.count) as u32;
+    if out.len() < out_points::list_size(n) {
         return;
     }
-    let at = write::put_u32(out, 0, n as u32);
+    let at = write::put_u32(out, 0, n);
     put_points(h, 0, out, at);
 }
 

@@ -31,6 +31,13 @@ pub length-list : (l : List OutPoint) → length (pointList l) ≡ 4 + 36 * leng
 unfolding pointList
 length-list l = simp length-append (omega (arith, length-toLe 4 (length l), length-bytes l))
 
+-- a test of a length by the size of a list
+pub size-fits : (n : ℕ) {z m : ℕ} → z ≡ 4 + 36 * n → z ≤ m → 4 + 36 * n ≤ m
+size-fits n e h = omega arith
+
+pub size-over : (n : ℕ) {z m : ℕ} → z ≡ 4 + 36 * n → m < z → m < 4 + 36 * n
+size-over n e h = omega arith
+
 -- what is readable has its length
 module _ (s : List ℕ) (h : readable OutPointsForm s ≡ true) where
   tests : (ltb (length s) (2 ^ 32) && leb 4 (length s) && eqb (length s) (4 + 36 * fixCount s)) ≡ true

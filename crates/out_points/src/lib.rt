@@ -86,6 +86,13 @@ pub fn out_point_at(s: &[u8], at: usize) -> OutPoint
     OutPoint { hash, index }
 }
 
+// How many bytes a list of n out points has.
+pub fn list_size(n: u32) -> usize
+    ensures { λ r. ⌜ r ≡ 4 + 36 * n ⌝ }
+{
+    4 + 36 * n as usize
+}
+
 // Item i of a lent list.
 pub fn point_of(s: &[u8], i: usize) -> OutPoint
     ensures { λ r. ⌜ r ≡ pointOf (now (s .entry)) i ⌝ }

@@ -120,7 +120,7 @@ module _ {f : OutPoint → Bool} {g : ℕ → OutPoint} {n m i : ℕ} {out₀ : 
   pub name-long : length out ≡ length out₀
   name-long = list-long (k .listing)
 
--- ---- put_named
+-- ---- put_busy_list
 
 module _ (cells picked spent out : List ℕ) {n : ℕ} (en : n ≡ length (select (λ p. asked true (isAmong (points cells) (points spent) p)) (pointOf picked) 0 (fixCount picked))) where
   abbrev named : List OutPoint

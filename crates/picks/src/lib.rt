@@ -21,8 +21,8 @@ ghost use Rattle.hold_records.specs.Holds.{recordsOf, cellsOf, isBusy, firsts};
 ghost use Rattle.hold_records.specs.Rules.{putIf};
 ghost use Rattle.picks.specs.Places.{isAmong, marked, Marks, asked, isFirst, select, Tallied, unmatched, takeFrom};
 
-// How many bytes the list of a table's cells has at most: a count and 256 out points.
-const CELLS_BYTES: usize = 9220;
+// How many bytes the list of a table's cells has at most.
+const CELLS_BYTES: usize = 4 + 36 * MOST_RECORDS;
 
 // How many marks stand before a search: one for every out point, by the first word of its hash.
 const MARKS: usize = 4096;
@@ -31,7 +31,7 @@ const MARKS: usize = 4096;
 fn mark(marks: &mut [u8], word: u64)
     ensures { λ _. ⌜ now (marks .exit) ≡ set (now (marks .entry)) (word % 4096) 1 ⌝ }
 {
-    let at = (word % 4096) as usize;
+    let at = word as usize % MARKS;
     if marks.len() <= at {
         return;
     }
@@ -65,7 +65,7 @@ fn busy(cells: &[u8], spent: &[u8], marks: &[u8], p: OutPoint) -> bool
     ensures { λ r. ⌜ r ≡ isAmong (points (now (cells .entry))) (points (now (spent .entry))) p ⌝ }
 {
     let hash = p.hash;
-    let at = (hash.a % 4096) as usize;
+    let at = hash.a as usize % MARKS;
     if marks[at] == 0 {
         return false;
     }
@@ -88,7 +88,7 @@ fn passes(cells: &[u8], spent: &[u8], marks: &[u8], want: bool, p: OutPoint) -> 
 }
 
 // Whether pick i passes, and no pick before it is the same.
-fn first(cells: &[u8], picked: &[u8], spent: &[u8], marks: &[u8], want: bool, i: usize) -> bool
+fn is_first(cells: &[u8], picked: &[u8], spent: &[u8], marks: &[u8], want: bool, i: usize) -> bool
     requires { ⌜ i < fixCount (now picked) ⌝ }
     requires { ⌜ Marks (points (now cells)) (points (now spent)) (now marks) ⌝ }
     ensures { λ r. ⌜ r ≡ isFirst (λ p. asked want (isAmong (points (now (cells .entry))) (points (now (spent .entry))) p)) (pointOf (now (picked .entry))) i ⌝ }
@@ -111,7 +111,7 @@ fn count_busy(cells: &[u8], picked: &[u8], spent: &[u8], marks: &[u8]) -> u32
     while i < n {
         let k = i;
         i += 1;
-        if first(cells, picked, spent, marks, true, k) {
+        if is_first(cells, picked, spent, marks, true, k) {
             count += 1;
         }
     }
@@ -137,7 +137,7 @@ fn put_busy(
     while i < n {
         let k = i;
         i += 1;
-        if first(cells, picked, spent, marks, true, k) {
+        if is_first(cells, picked, spent, marks, true, k) {
             let p = out_points::point_of(picked, k);
             to = out_points::put_out_point(out, to, p);
         }
@@ -146,14 +146,13 @@ fn put_busy(
 }
 
 // Puts the list of the busy picks at the start of out, and answers whether there is room for all of it: else it puts nothing.
-fn put_named(cells: &[u8], picked: &[u8], spent: &[u8], marks: &[u8], out: &mut [u8]) -> bool
+fn put_busy_list(cells: &[u8], picked: &[u8], spent: &[u8], marks: &[u8], out: &mut [u8]) -> bool
     requires { ⌜ Marks (points (now cells)) (points (now spent)) (now marks) ⌝ }
     ensures { λ r. ⌜ r ≡ hasRoom (firsts (isAmong (points (now (cells .entry))) (points (now (spent .entry)))) [] (points (now (picked .entry)))) (now (out .entry)) ⌝ }
     ensures { λ _. ⌜ now (out .exit) ≡ putIf (firsts (isAmong (points (now (cells .entry))) (points (now (spent .entry)))) [] (points (now (picked .entry)))) (now (out .entry)) ⌝ }
 {
     let n = count_busy(cells, picked, spent, marks);
-    let w = n as usize;
-    if out.len() < 4 + 36 * w {
+    if out.len() < out_points::list_size(n) {
         return false;
     }
     let at = write::put_u32(out, 0, n);
@@ -170,7 +169,7 @@ pub fn put_unavailable(h: Held, picked: &[u8], spent: &[u8], out: &mut [u8]) -> 
     hold_records::list_cells(h, &mut cells);
     let mut marks = [0u8; MARKS];
     mark_both(&cells, spent, &mut marks);
-    put_named(&cells, picked, spent, &marks, out)
+    put_busy_list(&cells, picked, spent, &marks, out)
 }
 
 // How many picks are taken, and the table with a record for each, as far as there is room.
@@ -192,7 +191,7 @@ fn tally(h: Held, cells: &[u8], picked: &[u8], spent: &[u8], marks: &[u8], owner
     while i < n {
         let k = i;
         i += 1;
-        if first(cells, picked, spent, marks, false, k) {
+        if is_first(cells, picked, spent, marks, false, k) {
             count += 1;
             let last = g.count;
             if last < MOST_RECORDS {
@@ -206,7 +205,7 @@ fn tally(h: Held, cells: &[u8], picked: &[u8], spent: &[u8], marks: &[u8], owner
 }
 
 // Puts the picks that were not taken, one after the other from `at` on: the records from `from` on are the taken ones, in pick order.
-fn put_rest(g: Held, from: usize, picked: &[u8], out: &mut [u8], at: usize) -> usize
+fn put_refused(g: Held, from: usize, picked: &[u8], out: &mut [u8], at: usize) -> usize
     requires { ⌜ (from ≤ 256) × (at + 36 * length (unmatched (cellsOf (drop from (recordsOf g))) (points (now picked))) ≤ length (now out)) ⌝ }
     ensures { λ r. ⌜ Put (now (out .entry)) at (bytesOf (unmatched (cellsOf (drop from (recordsOf g))) (points (now (picked .entry))))) (now (out .exit)) r ⌝ }
 {
@@ -234,22 +233,29 @@ fn put_rest(g: Held, from: usize, picked: &[u8], out: &mut [u8], at: usize) -> u
 }
 
 // Puts the list of those n picks at the start of out.
-fn put_others(g: Held, from: usize, picked: &[u8], n: u32, out: &mut [u8])
+fn put_refused_list(g: Held, from: usize, picked: &[u8], n: u32, out: &mut [u8])
     requires { ⌜ (from ≤ 256) × (n ≡ length (unmatched (cellsOf (drop from (recordsOf g))) (points (now picked)))) × (4 + 36 * n ≤ length (now out)) ⌝ }
     ensures { λ _. ⌜ now (out .exit) ≡ written (unmatched (cellsOf (drop from (recordsOf g))) (points (now (picked .entry)))) (now (out .entry)) ⌝ }
 {
     let at = write::put_u32(out, 0, n);
-    put_rest(g, from, picked, out, at);
+    put_refused(g, from, picked, out, at);
 }
 
 // Puts both lists: the cells of the records from `from` on, and the n picks that are not among them.
-fn put_both(g: Held, from: usize, picked: &[u8], n: u32, taken: &mut [u8], refused: &mut [u8])
+fn put_taken_and_refused(
+    g: Held,
+    from: usize,
+    picked: &[u8],
+    n: u32,
+    taken: &mut [u8],
+    refused: &mut [u8],
+)
     requires { ⌜ (from ≤ 256) × (n ≡ length (unmatched (cellsOf (drop from (recordsOf g))) (points (now picked)))) × (4 + 36 * n ≤ length (now refused)) ⌝ }
     ensures { λ _. ⌜ now (taken .exit) ≡ putIf (cellsOf (drop from (recordsOf g))) (now (taken .entry)) ⌝ }
     ensures { λ _. ⌜ now (refused .exit) ≡ written (unmatched (cellsOf (drop from (recordsOf g))) (points (now (picked .entry)))) (now (refused .entry)) ⌝ }
 {
     hold_records::put_cells(g, from, taken);
-    put_others(g, from, picked, n, refused);
+    put_refused_list(g, from, picked, n, refused);
 }
 
 // Takes the picks that are not among the cells of `live`; a refusal hands back `held`.
@@ -272,10 +278,10 @@ fn take_free(
     let count = t.count;
     let n = molecule::fix_count(picked);
     let rest = n - count;
-    if taken.len() < 4 + 36 * (count as usize) {
+    if taken.len() < out_points::list_size(count) {
         return hold_records::refuse(held, Refusal::BufferTooShort);
     }
-    if refused.len() < 4 + 36 * (rest as usize) {
+    if refused.len() < out_points::list_size(rest) {
         return hold_records::refuse(held, Refusal::BufferTooShort);
     }
     let from = hold_records::used(live.count);
@@ -283,7 +289,7 @@ fn take_free(
         return hold_records::refuse(held, Refusal::TooManyHolds);
     }
     let after = t.held;
-    put_both(after, from, picked, rest, taken, refused);
+    put_taken_and_refused(after, from, picked, rest, taken, refused);
     hold_records::done(after)
 }
 

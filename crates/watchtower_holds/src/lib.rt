@@ -33,7 +33,7 @@ fn hint(hints: &mut [u8], p: OutPoint, most: usize) -> usize
     ensures { λ _. ⌜ now (hints .exit) ≡ hinted (now (hints .entry)) p most ⌝ }
 {
     let hash = p.hash;
-    let at = (hash.a % 4096) as usize;
+    let at = hash.a as usize % HINTS;
     let k = little_endian::byte(hints, at) as usize;
     if k <= most {
         return k;
@@ -63,7 +63,7 @@ fn named(s: &[u8], hints: &[u8], p: OutPoint) -> bool
 {
     let n = molecule::fix_count(s) as usize;
     let hash = p.hash;
-    let at = (hash.a % 4096) as usize;
+    let at = hash.a as usize % HINTS;
     let k = little_endian::byte(hints, at) as usize;
     if n <= k {
         return false;

@@ -10,7 +10,7 @@ ghost use Rattle.words.specs.Words.{setWords, inWords, surplusWords};
 // How many words an answer has.
 pub const WORDS: usize = 4;
 
-// The answer where fewer are lent.
+// The answer where fewer are lent: the number of Refusal::BufferTooShort.
 pub const TOO_FEW: u32 = 13;
 
 // Sets the first four words, and answers the number; where there are fewer, sets none and answers 13.

@@ -24,21 +24,20 @@ read-map-spec =
     (λ c. search ways)  -- returns-2
     (λ c κs. search ways)  -- words-of-requires
     (λ c κs. search ways)  -- start-requires-3
+    (λ c. search ways)  -- cast-left
     (λ c. search ways)  -- loop-holds
     (λ c. search ways)  -- sub-x
     (λ c. search ways)  -- part-x-start
     (λ c. search ways)  -- part-x-end
     (λ c κs. search ways)  -- point-count-requires
-    (λ c. search ways)  -- cast-c
     (λ c κs. search ways)  -- start-requires-4
     (λ c. search ways)  -- returns-3
     (λ c κs. search ways)  -- is-entry-requires
     (λ c κs. search ways)  -- start-requires-5
     (λ c. search ways)  -- returns-4
     (λ c κs. search ways)  -- may-touch-requires
-    (λ c. search ways)  -- mul-at
+    (λ c κs. search ways)  -- entry-size-requires
     (λ c. search ways)  -- add-at
-    (λ c. search ways)  -- add-at-2
     (λ c. search ways)  -- add-i
     (λ c κs. search ways)  -- touched-requires
     (λ c. search ways)  -- loop-less

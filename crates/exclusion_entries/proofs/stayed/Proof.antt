@@ -6,8 +6,7 @@ pub stayed-spec : {M : Type 1} → statement M
 stayed-spec =
     tie.close
     (tie.spec
-    (λ c. search ways)  -- mul-size
-    (λ c. search ways)  -- add-size
+    (λ c κs. search ways)  -- entry-size-requires
     (λ c. search ways)  -- add-r
     (λ c. search ways)  -- add-r-2
     (λ c. search ways)  -- returns

@@ -8,10 +8,11 @@ apply-spec =
     (tie.spec
     (λ c κs. search ways)  -- read-map-requires
     (λ c. search ways)  -- returns
+    (λ c. search ways)  -- cast-n
     (λ c κs. search ways)  -- list-size-requires
     (λ c. search ways)  -- returns-2
     (λ c κs. search ways)  -- are-bytes-requires
     (λ c κs. search ways)  -- put-excluded-requires
-    (λ c κs. search ways)  -- put-count-requires
+    (λ c κs. search ways)  -- put-u32-requires
     (λ c. search ways)  -- same-length
     (λ c. search ways))  -- returns-3

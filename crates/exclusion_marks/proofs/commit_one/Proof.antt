@@ -9,10 +9,8 @@ commit-one-spec =
     (λ c κs. search ways)  -- part-requires
     (λ c κs. search ways)  -- has-hash-requires
     (λ c κs. search ways)  -- point-count-requires
-    (λ c. search ways)  -- cast-next
-    (λ c. search ways)  -- mul-next
+    (λ c κs. search ways)  -- entry-size-requires
     (λ c. search ways)  -- add-next
-    (λ c. search ways)  -- add-next-2
     (λ c. search ways)  -- same-length
     (λ c. search ways)  -- returns
     (λ c. search ways)  -- add-put-u32

@@ -21,13 +21,10 @@ put-excluded-spec =
     (λ c. search ways)  -- loop-holds
     (λ c κs. search ways)  -- part-requires
     (λ c κs. search ways)  -- point-count-requires
-    (λ c. search ways)  -- cast-size
-    (λ c. search ways)  -- mul-size
-    (λ c. search ways)  -- add-part
+    (λ c κs. search ways)  -- entry-size-requires
     (λ c κs. search ways)  -- part-requires-2
     (λ c κs. search ways)  -- put-requires
     (λ c. search ways)  -- add-at
-    (λ c. search ways)  -- add-at-2
     (λ c. search ways)  -- add-i
     (λ c. search ways)  -- loop-less
     (λ c. search ways)  -- loop-again

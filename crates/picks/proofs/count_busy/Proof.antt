@@ -25,7 +25,7 @@ count-busy-spec =
     (λ c. search ways)  -- cast-n
     (λ c. search ways)  -- loop-holds
     (λ c. search ways)  -- add-i
-    (λ c κs. search ways)  -- first-requires
+    (λ c κs. search ways)  -- is-first-requires
     (λ c. search ways)  -- add-count
     (λ c. search ways)  -- loop-less
     (λ c. search ways)  -- loop-again

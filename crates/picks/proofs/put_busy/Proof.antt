@@ -25,7 +25,7 @@ put-busy-spec =
     (λ c. search ways)  -- cast-n
     (λ c. search ways)  -- loop-holds
     (λ c. search ways)  -- add-i
-    (λ c κs. search ways)  -- first-requires
+    (λ c κs. search ways)  -- is-first-requires
     (λ c κs. search ways)  -- point-of-requires
     (λ c κs. search ways)  -- put-out-point-requires
     (λ c. search ways)  -- loop-less

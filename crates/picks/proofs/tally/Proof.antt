@@ -25,7 +25,7 @@ tally-spec =
     (λ c κs. search ways)  -- used-requires
     (λ c. search ways)  -- loop-holds
     (λ c. search ways)  -- add-i
-    (λ c κs. search ways)  -- first-requires
+    (λ c κs. search ways)  -- is-first-requires
     (λ c. search ways)  -- add-count
     (λ c κs. search ways)  -- point-of-requires
     (λ c. search ways)  -- mul-t20

@@ -10,8 +10,7 @@ put-new-spec =
     (λ c. search ways)  -- add-end
     (λ c. search ways)  -- mul-end-2
     (λ c. search ways)  -- add-end-2
-    (λ c. search ways)  -- mul-size
-    (λ c. search ways)  -- add-size
+    (λ c κs. search ways)  -- entry-size-requires
     (λ c. search ways)  -- add-move-up
     (λ c. search ways)  -- sub-move-up
     (λ c κs. search ways)  -- move-up-requires

@@ -10,15 +10,13 @@ sift-one-spec =
     (λ c κs. search ways)  -- keeps-requires
     (λ c κs. search ways)  -- gives-requires
     (λ c κs. search ways)  -- point-count-requires
-    (λ c. search ways)  -- cast-size
-    (λ c. search ways)  -- mul-size
-    (λ c. search ways)  -- add-size
+    (λ c κs. search ways)  -- entry-size-requires
     (λ c. search ways)  -- add-next
     (λ c. search ways)  -- same-length
     (λ c. search ways)  -- returns
     (λ c. search ways)  -- same-length-2
     (λ c. search ways)  -- returns-2
     (λ c κs. search ways)  -- move-down-requires
-    (λ c. search ways)  -- add-t13
+    (λ c. search ways)  -- add-t14
     (λ c. search ways)  -- same-length-3
     (λ c. search ways))  -- returns-3

@@ -1,8 +1,8 @@
 use Prim.Native.Nat.{_-_}
 use Rattle.picks.proofs.TakeLaws.{Leaving}
 use Rattle.picks.proofs.Ways.{ways}
-use Rattle.picks.proofs.put_rest.Statement.{statement}
-use Rattle.picks.proofs.put_rest.Tie as tie
+use Rattle.picks.proofs.put_refused.Statement.{statement}
+use Rattle.picks.proofs.put_refused.Tie as tie
 
 abbrev Inv-loop : tie.InvT-loop
 Inv-loop from picked out₀ at g n end to₀ k₀ i₀ out to k i = Leaving g from picked end n i k out₀ at out to
@@ -10,8 +10,8 @@ Inv-loop from picked out₀ at g n end to₀ k₀ i₀ out to k i = Leaving g fr
 abbrev μ-loop : tie.MeasureT-loop
 μ-loop from picked out₀ at g n end to₀ k₀ i₀ out to k i = n - i
 
-pub put-rest-spec : {M : Type 1} → statement M
-put-rest-spec =
+pub put-refused-spec : {M : Type 1} → statement M
+put-refused-spec =
     tie.close
     (tie.spec
     Inv-loop

@@ -1,9 +1,9 @@
 use Rattle.picks.proofs.Ways.{ways}
-use Rattle.picks.proofs.first.Statement.{statement}
-use Rattle.picks.proofs.first.Tie as tie
+use Rattle.picks.proofs.is_first.Statement.{statement}
+use Rattle.picks.proofs.is_first.Tie as tie
 
-pub first-spec : {M : Type 1} → statement M
-first-spec =
+pub is-first-spec : {M : Type 1} → statement M
+is-first-spec =
     tie.close
     (tie.spec
     (λ c κs. search ways)  -- point-of-requires
