@@ -1,5 +1,6 @@
--- The base transaction of our own side (docs/RULES.md, "Our own side"; the Rust's `build_base`, with `assemble_base_tx`, `add_udt_lock_dep` and
--- `with_extra_cell_deps`): what is refused, in the order of the rules' table, and the transaction that is written, list by list.
+-- The base transaction of our own side (docs/RULES.md, "Our own side"; the Rust's `build_base_async` and `build_base_from_funding_cell`, with
+-- `assemble_base_tx`, `add_udt_lock_dep` and `with_extra_cell_deps`): what is refused, in the order of the rules' table, and the transaction that is written,
+-- list by list.
 use Prim.Native.Nat.{ℕ, zero, suc, _-_}
 use mathlib.Core.Bool.{Bool, not, _||_}
 use mathlib.Core.List.{List}

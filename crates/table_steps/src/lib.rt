@@ -6,6 +6,7 @@ use hold_records::Taker;
 use transaction_writer::are_bytes;
 use units::Millis;
 ghost use mathlib.Core.Path.{_≡_};
+ghost use Prim.Native.Nat.{_≤_};
 ghost use Rattle.error.specs.declared.{Answer.Answer};
 ghost use Rattle.out_points.specs.Tables.{told};
 ghost use Rattle.hold_records.specs.Holds.{recordsOf, holdFunding, releaseForWatchtower, holdForWatchtower, lockHeld, takeCells};
@@ -16,6 +17,7 @@ pub mod maps;
 
 pub fn hold_funding(held: Held, holder: u64, cells: &[u8]) -> Holds
     ensures { λ r. ⌜ told recordsOf (r .answer) (r .held) ≡ holdFunding held holder (now (cells .entry)) ⌝ }
+    ensures { λ r. ⌜ (r .answer ≡ Answer.Done → r .held .count ≤ 256) ⌝ }
     ensures { λ r. ⌜ Called byValue held (r .held) ⌝ }
 {
     held_cells::hold_funding(held, holder, cells)
@@ -23,6 +25,7 @@ pub fn hold_funding(held: Held, holder: u64, cells: &[u8]) -> Holds
 
 pub fn release_for_watchtower(held: Held, cells: &[u8]) -> Holds
     ensures { λ r. ⌜ told recordsOf (r .answer) (r .held) ≡ releaseForWatchtower held (now (cells .entry)) ⌝ }
+    ensures { λ r. ⌜ (r .answer ≡ Answer.Done → r .held .count ≤ 256) ⌝ }
     ensures { λ r. ⌜ Called byValue held (r .held) ⌝ }
 {
     watchtower_holds::release_for_watchtower(held, cells)
@@ -30,6 +33,7 @@ pub fn release_for_watchtower(held: Held, cells: &[u8]) -> Holds
 
 pub fn hold_for_watchtower(held: Held, cells: &[u8], time: Millis) -> Holds
     ensures { λ r. ⌜ told recordsOf (r .answer) (r .held) ≡ holdForWatchtower held (now (cells .entry)) time ⌝ }
+    ensures { λ r. ⌜ (r .answer ≡ Answer.Done → r .held .count ≤ 256) ⌝ }
     ensures { λ r. ⌜ Called byValue held (r .held) ⌝ }
 {
     watchtower_holds::hold_for_watchtower(held, cells, time)
@@ -37,6 +41,7 @@ pub fn hold_for_watchtower(held: Held, cells: &[u8], time: Millis) -> Holds
 
 pub fn lock_held(held: Held, time: Millis, out: &mut [u8]) -> Holds
     ensures { λ r. ⌜ (told recordsOf (r .answer) (r .held), now (out .exit)) ≡ lockHeld held time (now (out .entry)) ⌝ }
+    ensures { λ r. ⌜ (r .answer ≡ Answer.Done → r .held .count ≤ 256) ⌝ }
     ensures { λ r. ⌜ Called byValue held (r .held) ⌝ }
     ensures { λ r. ⌜ (r .answer ≡ Answer.Done → Locked byValue held (r .held) time (now (out .exit))) ⌝ }
 {
@@ -53,6 +58,7 @@ pub fn take(
     refused: &mut [u8],
 ) -> Holds
     ensures { λ r. ⌜ (told recordsOf (r .answer) (r .held), now (taken .exit), now (refused .exit)) ≡ takeCells held (now (picked .entry)) (now (spent .entry)) taker time (now (taken .entry)) (now (refused .entry)) ⌝ }
+    ensures { λ r. ⌜ (r .answer ≡ Answer.Done → r .held .count ≤ 256) ⌝ }
     ensures { λ r. ⌜ Called byValue held (r .held) ⌝ }
     ensures { λ r. ⌜ (r .answer ≡ Answer.Done → Took byValue held (r .held) (now (picked .entry)) (now (spent .entry)) taker time (now (taken .exit)) (now (refused .exit))) ⌝ }
 {

@@ -8,4 +8,4 @@ lock-held-spec =
     (tie.spec
     (λ c κs. search ways)  -- lock-held-requires
     (λ c. search ways)  -- same-length
-    (λ c. search ways))  -- returns
+    (λ c. (search ways, (search ways, (search ways, search ways)))))  -- returns

@@ -10,4 +10,4 @@ take-spec =
     (λ c κs. search ways)  -- take-requires
     (λ c. search ways)  -- same-length
     (λ c. search ways)  -- same-length-2
-    (λ c. (search ways, (search ways, search ways))))  -- returns
+    (λ c. (search ways, (search ways, (search ways, search ways)))))  -- returns
