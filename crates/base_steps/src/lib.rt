@@ -6,7 +6,7 @@ ghost use mathlib.Core.Path.{_≡_};
 ghost use Prim.Native.Nat.{ℕ};
 ghost use lib.ListN.{take};
 ghost use Rattle.base_writer.specs.Answer.{written, told};
-ghost use Rattle.funding_builder.specs.Base.{buildBase};
+ghost use Rattle.funding_builder.specs.Base.{lentOf, buildBase};
 ghost use Rattle.base_theorems.proofs.Claims.{Based};
 ghost use Rattle.transaction_writer.specs.declared.{Written.Written};
 
@@ -22,8 +22,8 @@ pub fn build_base<'a>(
     request: FundingRequest,
     out: &mut [u8],
 ) -> Written
-    ensures { λ r. ⌜ (told r, now (out .exit)) ≡ written (buildBase (record { ours = now (ours .entry); lock = now (lock .entry); udt = now (udt .entry); source = now (source .entry); cells = now (cells .entry); udtDeps = now («udt_deps» .entry); lockDep = now («lock_dep» .entry); extraDeps = now («extra_deps» .entry) }) request) (now (out .entry)) ⌝ }
-    ensures { λ r. ⌜ ((n : ℕ) → r ≡ Written.Wrote n → Based (record { ours = now (ours .entry); lock = now (lock .entry); udt = now (udt .entry); source = now (source .entry); cells = now (cells .entry); udtDeps = now («udt_deps» .entry); lockDep = now («lock_dep» .entry); extraDeps = now («extra_deps» .entry) }) request (take n (now (out .exit)))) ⌝ }
+    ensures { λ r. ⌜ (told r, now (out .exit)) ≡ written (buildBase (lentOf (now (ours .entry)) (now (lock .entry)) (now (udt .entry)) (now (source .entry)) (now (cells .entry)) (now («udt_deps» .entry)) (now («lock_dep» .entry)) (now («extra_deps» .entry))) request) (now (out .entry)) ⌝ }
+    ensures { λ r. ⌜ ((n : ℕ) → r ≡ Written.Wrote n → Based (lentOf (now (ours .entry)) (now (lock .entry)) (now (udt .entry)) (now (source .entry)) (now (cells .entry)) (now («udt_deps» .entry)) (now («lock_dep» .entry)) (now («extra_deps» .entry))) request (take n (now (out .exit)))) ⌝ }
 {
     transaction_writer::are_bytes(ours);
     let answer = funding_builder::build_base(

@@ -16,7 +16,7 @@ ghost use Rattle.case_file.specs.CaseFile.{caseLine};
 ghost use Rattle.funding_cell.specs.FundingCell.{buildFundingCell};
 ghost use Rattle.udt_cells.specs.Change.{udtInputsOutputs};
 ghost use Rattle.base_writer.specs.Answer.{written};
-ghost use Rattle.funding_builder.specs.Base.{buildBase};
+ghost use Rattle.funding_builder.specs.Base.{lentOf, buildBase};
 ghost use Rattle.words.specs.Words.{inWords, writing, surplusWords};
 ghost use Rattle.transaction_lists.specs.Lists.{versionOf, listIn};
 ghost use Rattle.answer_words.specs.Answers.{countWords, cellWords, pickWords, request};
@@ -230,7 +230,7 @@ pub extern "C" fn basinpantry_build_base<'a>(
     out: &mut [u8],
     values: &mut [u64],
 ) -> u32
-    ensures { λ r. ⌜ ((r, now (values .exit)), now (out .exit)) ≡ writing countWords (written (buildBase (record { ours = now (ours .entry); lock = now (lock .entry); udt = now (udt .entry); source = now (source .entry); cells = now (cells .entry); udtDeps = now («udt_deps» .entry); lockDep = now («lock_dep» .entry); extraDeps = now («extra_deps» .entry) }) (request «local_low» «local_high» «local_reserved» «remote_low» «remote_high» «remote_reserved»)) (now (out .entry))) (now (out .entry)) (now (values .entry)) ⌝ }
+    ensures { λ r. ⌜ ((r, now (values .exit)), now (out .exit)) ≡ writing countWords (written (buildBase (lentOf (now (ours .entry)) (now (lock .entry)) (now (udt .entry)) (now (source .entry)) (now (cells .entry)) (now («udt_deps» .entry)) (now («lock_dep» .entry)) (now («extra_deps» .entry))) (request «local_low» «local_high» «local_reserved» «remote_low» «remote_high» «remote_reserved»)) (now (out .entry))) (now (out .entry)) (now (values .entry)) ⌝ }
 {
     if values.len() < words::WORDS {
         return words::TOO_FEW;

@@ -9,7 +9,7 @@ use Rattle.error.specs.declared.{Refusal.Refusal, Answer.Answer}
 use Rattle.units.specs.declared.{Millis.Millis}
 use Rattle.molecule.specs.Write.{putAt}
 use Rattle.out_points.specs.Tables.{keep, Outcome, told, hasRoom}
-use Rattle.hold_records.specs.declared.{Hold.Hold, Held.Held, Holds.Holds, Rule.Rule, Taker.Taker}
+use Rattle.hold_records.specs.declared.{Hold.Hold, Held.Held, HeldAnswer.HeldAnswer, Rule.Rule, Taker.Taker}
 use Rattle.hold_records.specs.Rules.{isKept, putIf}
 use Rattle.hold_records.specs.Holds.{recordsOf, cellsOf, holdFunding, releaseForWatchtower, holdForWatchtower, lockHeld, unavailable, takeCells}
 use Rattle.table_bytes.specs.Lent.{After, leaving, lentTable, lentWith, lentWithTwo, lentRead, withBytes}
@@ -17,11 +17,11 @@ use Rattle.table_bytes.proofs.LentLaws.{lent-is, with-is, two-is, only-is, leav
 use Rattle.held_cells.proofs.CallLaws.{lock-short, lock-done}
 use Rattle.held_bytes.specs.HeldBytes.{heldSize, heldOf, heldAt, heldBytes}
 
-pub left-done : (s : List ℕ) (r : Holds) (o : List ℕ) → length s ≡ heldSize → r .answer ≡ Answer.Done → (heldSize ≤ length s → heldAt o ≡ recordsOf (r .held))
+pub left-done : (s : List ℕ) (r : HeldAnswer) (o : List ℕ) → length s ≡ heldSize → r .answer ≡ Answer.Done → (heldSize ≤ length s → heldAt o ≡ recordsOf (r .held))
     → o ≡ putAt s 0 (heldBytes (recordsOf (r .held))) → told (withBytes heldAt) Answer.Done o ≡ leaving heldBytes s (told recordsOf (r .answer) (r .held))
 left-done s r o l e h k = leave-done heldBytes recordsOf s (r .held) heldAt e (h (omega arith)) k
 
-module _ (s : List ℕ) (r : Holds) {h : Held} (l : length s ≡ heldSize) (e : h ≡ heldOf s) where
+module _ (s : List ℕ) (r : HeldAnswer) {h : Held} (l : length s ≡ heldSize) (e : h ≡ heldOf s) where
   abbrev before : Outcome Held (List Hold)
   before = told recordsOf (r .answer) (r .held)
 

@@ -2,7 +2,7 @@
 use crate::HELD_BYTES;
 use error::Answer;
 use error::Refusal;
-use hold_records::Holds;
+use hold_records::HeldAnswer;
 use hold_records::Rule;
 use hold_records::Taker;
 use units::Millis;
@@ -15,7 +15,7 @@ ghost use Rattle.table_bytes.specs.Lent.{leaving, lentTable, lentWith, lentWith
 ghost use Rattle.held_bytes.specs.HeldBytes.{heldSize, heldOf, heldAt, heldBytes};
 
 // Writes the table that a call returned, if the call is done.
-fn leave(s: &mut [u8], r: Holds) -> Answer
+fn leave(s: &mut [u8], r: HeldAnswer) -> Answer
     requires { ⌜ length (now s) ≡ heldSize ⌝ }
     ensures { λ a. ⌜ told (withBytes heldAt) a (now (s .exit)) ≡ leaving heldBytes (now (s .entry)) (told recordsOf (r .answer) (r .held)) ⌝ }
 {

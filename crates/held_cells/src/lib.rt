@@ -3,8 +3,8 @@
 use error::Answer;
 use error::Refusal;
 use hold_records::Held;
+use hold_records::HeldAnswer;
 use hold_records::Hold;
-use hold_records::Holds;
 use hold_records::MOST_RECORDS;
 use hold_records::Owner;
 use hold_records::Rule;
@@ -58,7 +58,7 @@ fn owner_for(taker: Taker, time: Millis) -> Owner
 }
 
 // The funding inputs that `holder` holds now, in place of the ones that it held before.
-pub fn hold_funding(held: Held, holder: u64, cells: &[u8]) -> Holds
+pub fn hold_funding(held: Held, holder: u64, cells: &[u8]) -> HeldAnswer
     ensures { λ r. ⌜ told recordsOf (r .answer) (r .held) ≡ holdFunding held holder (now (cells .entry)) ⌝ }
     ensures { λ r. ⌜ (r .answer ≡ Answer.Done → r .held .count ≤ 256) ⌝ }
 {
@@ -77,7 +77,7 @@ pub fn hold_funding(held: Held, holder: u64, cells: &[u8]) -> Holds
 }
 
 // Every cell that is held, for a collector to pick none of them. The watchtower's cells past their hold are let go first.
-pub fn lock_held(held: Held, time: Millis, out: &mut [u8]) -> Holds
+pub fn lock_held(held: Held, time: Millis, out: &mut [u8]) -> HeldAnswer
     ensures { λ r. ⌜ (told recordsOf (r .answer) (r .held), now (out .exit)) ≡ lockHeld held time (now (out .entry)) ⌝ }
     ensures { λ r. ⌜ (r .answer ≡ Answer.Done → r .held .count ≤ 256) ⌝ }
 {
@@ -117,7 +117,7 @@ pub fn take(
     time: Millis,
     taken: &mut [u8],
     refused: &mut [u8],
-) -> Holds
+) -> HeldAnswer
     ensures { λ r. ⌜ (told recordsOf (r .answer) (r .held), now (taken .exit), now (refused .exit)) ≡ takeCells held (now (picked .entry)) (now (spent .entry)) taker time (now (taken .entry)) (now (refused .entry)) ⌝ }
     ensures { λ r. ⌜ (r .answer ≡ Answer.Done → r .held .count ≤ 256) ⌝ }
 {

@@ -46,7 +46,7 @@ pub struct Held {
 }
 
 // What a call answers, and the table after it.
-pub struct Holds {
+pub struct HeldAnswer {
     pub held: Held,
     pub answer: Answer,
 }
@@ -195,20 +195,20 @@ pub fn list_cells(h: Held, out: &mut [u8])
     put_points(h, 0, out, at);
 }
 
-pub fn done(held: Held) -> Holds
+pub fn done(held: Held) -> HeldAnswer
     ensures { λ r. ⌜ told recordsOf (r .answer) (r .held) ≡ told recordsOf Answer.Done held ⌝ }
     ensures { λ r. ⌜ r ≡ record { held = held; answer = Answer.Done } ⌝ }
 {
-    Holds {
+    HeldAnswer {
         held,
         answer: Answer::Done,
     }
 }
 
-pub fn refuse(held: Held, why: Refusal) -> Holds
+pub fn refuse(held: Held, why: Refusal) -> HeldAnswer
     ensures { λ r. ⌜ told recordsOf (r .answer) (r .held) ≡ told recordsOf (Answer.Refused why) held ⌝ }
     ensures { λ r. ⌜ r ≡ record { held = held; answer = Answer.Refused why } ⌝ }
 {
     let answer = Answer::Refused(why);
-    Holds { held, answer }
+    HeldAnswer { held, answer }
 }

@@ -1,8 +1,8 @@
 // Picks against a table of holds: which are busy and which are free, each counted once, and what `take` and `unavailable` make of them.
 use error::Refusal;
 use hold_records::Held;
+use hold_records::HeldAnswer;
 use hold_records::Hold;
-use hold_records::Holds;
 use hold_records::MOST_RECORDS;
 use hold_records::Owner;
 use molecule::write;
@@ -269,7 +269,7 @@ fn take_free(
     owner: Owner,
     taken: &mut [u8],
     refused: &mut [u8],
-) -> Holds
+) -> HeldAnswer
     requires { ⌜ Marks (points (now cells)) (points (now spent)) (now marks) ⌝ }
     ensures { λ r. ⌜ (told recordsOf (r .answer) (r .held), now (taken .exit), now (refused .exit)) ≡ takeFrom held (recordsOf live) (points (now (cells .entry))) (points (now (picked .entry))) (points (now (spent .entry))) owner (now (taken .entry)) (now (refused .entry)) ⌝ }
     ensures { λ r. ⌜ (r .answer ≡ Answer.Done → r .held .count ≤ 256) ⌝ }
@@ -302,7 +302,7 @@ pub fn take_from(
     owner: Owner,
     taken: &mut [u8],
     refused: &mut [u8],
-) -> Holds
+) -> HeldAnswer
     ensures { λ r. ⌜ (told recordsOf (r .answer) (r .held), now (taken .exit), now (refused .exit)) ≡ takeFrom held (recordsOf live) (cellsOf (recordsOf live)) (points (now (picked .entry))) (points (now (spent .entry))) owner (now (taken .entry)) (now (refused .entry)) ⌝ }
     ensures { λ r. ⌜ (r .answer ≡ Answer.Done → r .held .count ≤ 256) ⌝ }
 {

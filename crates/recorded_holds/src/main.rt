@@ -4,8 +4,8 @@
 use arithmetic::little_endian;
 use error::Answer;
 use hold_records::Held;
+use hold_records::HeldAnswer;
 use hold_records::Hold;
-use hold_records::Holds;
 use hold_records::Owner;
 use hold_records::Taker;
 use recorded_calls::COUNTS;
@@ -33,11 +33,11 @@ fn second_room(call: &[u8]) -> usize {
 
 // ---- one call
 
-fn answered(held: Held, answer: Answer) -> Holds {
-    Holds { held, answer }
+fn answered(held: Held, answer: Answer) -> HeldAnswer {
+    HeldAnswer { held, answer }
 }
 
-fn take(held: Held, call: &[u8], taker: Taker, a: &mut [u8], b: &mut [u8]) -> Holds {
+fn take(held: Held, call: &[u8], taker: Taker, a: &mut [u8], b: &mut [u8]) -> HeldAnswer {
     let n = recorded_calls::first_room(call);
     let m = second_room(call);
     if a.len() < n {
@@ -60,7 +60,7 @@ fn take(held: Held, call: &[u8], taker: Taker, a: &mut [u8], b: &mut [u8]) -> Ho
     )
 }
 
-fn unavailable(held: Held, call: &[u8], a: &mut [u8]) -> Holds {
+fn unavailable(held: Held, call: &[u8], a: &mut [u8]) -> HeldAnswer {
     let n = recorded_calls::first_room(call);
     if a.len() < n {
         return answered(held, Answer::Done);
@@ -77,7 +77,7 @@ fn unavailable(held: Held, call: &[u8], a: &mut [u8]) -> Holds {
     answered(held, answer)
 }
 
-fn lock_held(held: Held, call: &[u8], a: &mut [u8]) -> Holds {
+fn lock_held(held: Held, call: &[u8], a: &mut [u8]) -> HeldAnswer {
     let n = recorded_calls::first_room(call);
     if a.len() < n {
         return answered(held, Answer::Done);
@@ -88,7 +88,7 @@ fn lock_held(held: Held, call: &[u8], a: &mut [u8]) -> Holds {
 }
 
 // The calls that write nothing.
-fn run_plain(held: Held, call: &[u8]) -> Holds {
+fn run_plain(held: Held, call: &[u8]) -> HeldAnswer {
     let k = recorded_calls::kind(call);
     if k == 1 {
         return held_cells::hold_funding(held, holder(call), recorded_calls::field(call, 1));
@@ -104,7 +104,7 @@ fn run_plain(held: Held, call: &[u8]) -> Holds {
 }
 
 // The calls that write lists.
-fn run_writing(held: Held, call: &[u8], a: &mut [u8], b: &mut [u8]) -> Holds {
+fn run_writing(held: Held, call: &[u8], a: &mut [u8], b: &mut [u8]) -> HeldAnswer {
     let k = recorded_calls::kind(call);
     if k == 3 {
         let taker = Taker::Funding(holder(call));
@@ -130,7 +130,7 @@ fn writes(k: u8) -> bool {
     k >= 6
 }
 
-fn run(held: Held, call: &[u8], a: &mut [u8], b: &mut [u8]) -> Holds {
+fn run(held: Held, call: &[u8], a: &mut [u8], b: &mut [u8]) -> HeldAnswer {
     if writes(recorded_calls::kind(call)) {
         return run_writing(held, call, a, b);
     }
@@ -189,7 +189,7 @@ fn is_table(held: Held, owners: &[u8], points: &[u8]) -> bool {
     true
 }
 
-fn is_right(after: Holds, call: &[u8], a: &[u8], b: &[u8]) -> bool {
+fn is_right(after: HeldAnswer, call: &[u8], a: &[u8], b: &[u8]) -> bool {
     let answer = after.answer;
     if answer.number() != recorded_calls::answer_number(call) {
         return false;

@@ -6,11 +6,11 @@ use Rattle.units.specs.declared.{Millis.Millis}
 use Rattle.arithmetic.specs.LittleEndian.{AllBytes}
 use Rattle.error.specs.declared.{Answer.Answer}
 use Rattle.out_points.specs.Tables.{told}
-use Rattle.hold_records.specs.declared.{Held.Held, Holds.Holds, Taker.Taker}
+use Rattle.hold_records.specs.declared.{Held.Held, HeldAnswer.HeldAnswer, Taker.Taker}
 use Rattle.hold_records.specs.Holds.{recordsOf, holdFunding, releaseForWatchtower, holdForWatchtower, lockHeld, takeCells}
 use Rattle.table_laws.specs.Holds as holds
 
-module _ {h : Held} (r : Holds) where
+module _ {h : Held} (r : HeldAnswer) where
   pub hold-step : (holder : ℕ) (cells : List ℕ) → told recordsOf (r .answer) (r .held) ≡ holdFunding h holder cells → holds.Called holds.byValue h (r .held)
   hold-step holder cells e = holds.hold (r .answer) holder cells e
 

@@ -1,7 +1,7 @@
 // Each call on the table of holds with, beside its own contract, that it is a step of a list of calls (`Called`, crates/table_laws): the laws over such
 // lists are about calls of the code. `Locked` and `Took` are what those laws say of a call that is done. The same for a lent table in `lent`, and for the exclusion map in `maps`.
 use hold_records::Held;
-use hold_records::Holds;
+use hold_records::HeldAnswer;
 use hold_records::Taker;
 use transaction_writer::are_bytes;
 use units::Millis;
@@ -15,7 +15,7 @@ ghost use Rattle.table_laws.specs.Holds.{byValue, Called, Locked, Took};
 pub mod lent;
 pub mod maps;
 
-pub fn hold_funding(held: Held, holder: u64, cells: &[u8]) -> Holds
+pub fn hold_funding(held: Held, holder: u64, cells: &[u8]) -> HeldAnswer
     ensures { λ r. ⌜ told recordsOf (r .answer) (r .held) ≡ holdFunding held holder (now (cells .entry)) ⌝ }
     ensures { λ r. ⌜ (r .answer ≡ Answer.Done → r .held .count ≤ 256) ⌝ }
     ensures { λ r. ⌜ Called byValue held (r .held) ⌝ }
@@ -23,7 +23,7 @@ pub fn hold_funding(held: Held, holder: u64, cells: &[u8]) -> Holds
     held_cells::hold_funding(held, holder, cells)
 }
 
-pub fn release_for_watchtower(held: Held, cells: &[u8]) -> Holds
+pub fn release_for_watchtower(held: Held, cells: &[u8]) -> HeldAnswer
     ensures { λ r. ⌜ told recordsOf (r .answer) (r .held) ≡ releaseForWatchtower held (now (cells .entry)) ⌝ }
     ensures { λ r. ⌜ (r .answer ≡ Answer.Done → r .held .count ≤ 256) ⌝ }
     ensures { λ r. ⌜ Called byValue held (r .held) ⌝ }
@@ -31,7 +31,7 @@ pub fn release_for_watchtower(held: Held, cells: &[u8]) -> Holds
     watchtower_holds::release_for_watchtower(held, cells)
 }
 
-pub fn hold_for_watchtower(held: Held, cells: &[u8], time: Millis) -> Holds
+pub fn hold_for_watchtower(held: Held, cells: &[u8], time: Millis) -> HeldAnswer
     ensures { λ r. ⌜ told recordsOf (r .answer) (r .held) ≡ holdForWatchtower held (now (cells .entry)) time ⌝ }
     ensures { λ r. ⌜ (r .answer ≡ Answer.Done → r .held .count ≤ 256) ⌝ }
     ensures { λ r. ⌜ Called byValue held (r .held) ⌝ }
@@ -39,7 +39,7 @@ pub fn hold_for_watchtower(held: Held, cells: &[u8], time: Millis) -> Holds
     watchtower_holds::hold_for_watchtower(held, cells, time)
 }
 
-pub fn lock_held(held: Held, time: Millis, out: &mut [u8]) -> Holds
+pub fn lock_held(held: Held, time: Millis, out: &mut [u8]) -> HeldAnswer
     ensures { λ r. ⌜ (told recordsOf (r .answer) (r .held), now (out .exit)) ≡ lockHeld held time (now (out .entry)) ⌝ }
     ensures { λ r. ⌜ (r .answer ≡ Answer.Done → r .held .count ≤ 256) ⌝ }
     ensures { λ r. ⌜ Called byValue held (r .held) ⌝ }
@@ -56,7 +56,7 @@ pub fn take(
     time: Millis,
     taken: &mut [u8],
     refused: &mut [u8],
-) -> Holds
+) -> HeldAnswer
     ensures { λ r. ⌜ (told recordsOf (r .answer) (r .held), now (taken .exit), now (refused .exit)) ≡ takeCells held (now (picked .entry)) (now (spent .entry)) taker time (now (taken .entry)) (now (refused .entry)) ⌝ }
     ensures { λ r. ⌜ (r .answer ≡ Answer.Done → r .held .count ≤ 256) ⌝ }
     ensures { λ r. ⌜ Called byValue held (r .held) ⌝ }

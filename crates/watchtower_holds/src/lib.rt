@@ -2,8 +2,8 @@
 use arithmetic::little_endian;
 use error::Refusal;
 use hold_records::Held;
+use hold_records::HeldAnswer;
 use hold_records::Hold;
-use hold_records::Holds;
 use hold_records::MOST_RECORDS;
 use hold_records::Owner;
 use out_points::OutPoint;
@@ -180,7 +180,7 @@ fn hint_all(h: Held, hints: &mut [u8])
 
 // The watchtower's record on each of the cells lasts until `end`: in its place, or last. All records are searched only where the one at a cell's hint is of another cell. `from` has
 // the records of h, which a refusal hands back.
-fn renew_from(h: Held, from: Held, cells: &[u8], end: Millis, hints: &mut [u8]) -> Holds
+fn renew_from(h: Held, from: Held, cells: &[u8], end: Millis, hints: &mut [u8]) -> HeldAnswer
     requires { ⌜ (recordsOf from ≡ recordsOf h) × (from .count ≤ 256) × Hints (now hints) (recordsOf from) ⌝ }
     ensures { λ r. ⌜ told recordsOf (r .answer) (r .held) ≡ atMost256 h (renewAll end (recordsOf h) (points (now (cells .entry)))) ⌝ }
     ensures { λ r. ⌜ (r .answer ≡ Answer.Done → r .held .count ≤ 256) ⌝ }
@@ -217,7 +217,7 @@ fn renew_from(h: Held, from: Held, cells: &[u8], end: Millis, hints: &mut [u8]) 
     hold_records::done(g)
 }
 
-fn renew_all(h: Held, cells: &[u8], end: Millis) -> Holds
+fn renew_all(h: Held, cells: &[u8], end: Millis) -> HeldAnswer
     ensures { λ r. ⌜ told recordsOf (r .answer) (r .held) ≡ atMost256 h (renewAll end (recordsOf h) (points (now (cells .entry)))) ⌝ }
     ensures { λ r. ⌜ (r .answer ≡ Answer.Done → r .held .count ≤ 256) ⌝ }
 {
@@ -228,7 +228,7 @@ fn renew_all(h: Held, cells: &[u8], end: Millis) -> Holds
 }
 
 // The cells of a transaction that the watchtower could not send are free again.
-pub fn release_for_watchtower(held: Held, cells: &[u8]) -> Holds
+pub fn release_for_watchtower(held: Held, cells: &[u8]) -> HeldAnswer
     ensures { λ r. ⌜ told recordsOf (r .answer) (r .held) ≡ releaseForWatchtower held (now (cells .entry)) ⌝ }
     ensures { λ r. ⌜ (r .answer ≡ Answer.Done → r .held .count ≤ 256) ⌝ }
 {
@@ -242,7 +242,7 @@ pub fn release_for_watchtower(held: Held, cells: &[u8]) -> Holds
 }
 
 // The cells of a transaction that the watchtower sent are held until `WATCHTOWER_HOLD_MS` after `time`.
-pub fn hold_for_watchtower(held: Held, cells: &[u8], time: Millis) -> Holds
+pub fn hold_for_watchtower(held: Held, cells: &[u8], time: Millis) -> HeldAnswer
     ensures { λ r. ⌜ told recordsOf (r .answer) (r .held) ≡ holdForWatchtower held (now (cells .entry)) time ⌝ }
     ensures { λ r. ⌜ (r .answer ≡ Answer.Done → r .held .count ≤ 256) ⌝ }
 {
