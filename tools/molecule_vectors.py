@@ -201,7 +201,7 @@ def copy(s, d, answer):
     return bytes([answer, len(changes)]) + b''.join(a.to_bytes(2, 'little') + b.to_bytes(2, 'little') + bytes([len(x)]) + x for a, b, x in changes)
 
 
-# ---- parts: how the program reaches them (crates/molecule_vectors/src/parts.rt)
+# ---- parts: how the program reaches them (crates/vector_parts/src/parts.rt)
 
 STEPS = ['', 'content', 'item', 'entry', 'mixed', 'fix4', 'fix36', 'fix37', '', '',
          'cell_dep', 'header_dep', 'input', 'output', 'output_data', 'witness', '', '', '', '',

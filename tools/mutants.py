@@ -85,9 +85,10 @@ def changes(text, lines):
 
 def of_constants(text):
     found = []
-    for m in re.finditer(r'^(?:pub )?const \w+: \w+ = (\d[\d_]*);', text, re.M):
-        n = int(m.group(1).replace('_', ''))
-        found += [(m.start(1), m.end(1), str(k)) for k in (n + 1, n - 1) if k >= 0]
+    for m in re.finditer(r'^(?:pub )?const \w+: \w+ = (.*);', text, re.M):
+        for number in re.finditer(r'\b\d[\d_]*\b', m.group(1)):
+            n = int(number.group().replace('_', ''))
+            found += [(m.start(1) + number.start(), m.start(1) + number.end(), str(k)) for k in (n + 1, n - 1) if k >= 0]
     return found
 
 

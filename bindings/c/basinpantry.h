@@ -88,7 +88,7 @@ static inline const char *basinpantry_refusal_sentence(uint32_t number)
 /* How many words `values` has at least. */
 #define BASINPANTRY_VALUES 4
 
-/* The longest transaction that is judged, and the most bytes of any result that is written. */
+/* The longest transaction that is judged, and the most bytes of a transaction, an item or a change output that is written. */
 #define BASINPANTRY_MAX_TRANSACTION_BYTES 133116
 
 /* ---- reading and writing */

@@ -1,15 +1,14 @@
 -- Laws of the capacity account, one for each way out of the functions.
 use mathlib.Core.Path.{_≡_, refl, sym, ap, ap₂, _∙_}
-use Prim.Native.Nat.{ℕ, zero, suc, _+_, _-_, _*_, _/_, _^_, _≤_, _<_, max, min}
+use Prim.Native.Nat.{ℕ, zero, suc, _+_, _-_, _*_, _^_, _≤_, _<_, min}
 use mathlib.Core.List.{List, [], _∷_}
-use mathlib.Core.Bool.{Bool, true, false, not, cond, _||_, _&&_}
+use mathlib.Core.Bool.{Bool, true, false, not, _||_}
 use native.Mathlib.Nat.{zero-add}
 use native.Mathlib.Omega.{arith}
-use borrow.Author.Tests.{le-leb, lt-leb, eq-eqb, ne-eqb, ltb-true, ltb-false, not-true, not-false}
-use mir.Syntax.{w32, w64}
+use borrow.Author.Tests.{le-leb, lt-leb, ltb-true, ltb-false}
+use mir.Syntax.{w32}
 use mir.Val.{Fits}
-use lib.ListN.{length}
-use lib.Dec.{leb, ltb, eqb}
+use lib.Dec.{leb, ltb}
 use Rattle.arithmetic.specs.Amount.{value, halves, difference, isLess}
 use Rattle.arithmetic.specs.Amount as amount
 use Rattle.units.specs.declared.{Shannons.Shannons, CheckedShannons.CheckedShannons}
@@ -22,7 +21,7 @@ use Rattle.transaction.specs.Tx.{firstOf}
 use Rattle.transaction.specs.Tx as tx
 use Rattle.error.specs.declared.Refusal.{Refusal}
 use Rattle.error.specs.Refusal.{number, values}
-use Rattle.rules.specs.Outcome.{Outcome, fine, refused, check, checkWith, _>>_}
+use Rattle.rules.specs.Outcome.{fine, refused, check, checkWith, _>>_}
 use Rattle.rules.specs.Cells.{Cell, recordCell}
 use Rattle.rules.specs.Surplus.{total, capacityOf}
 use Rattle.rules.specs.Judge.{covered}

@@ -1,11 +1,10 @@
 -- Laws of the token account, one for each way out of the functions.
 use mathlib.Core.Path.{_≡_, refl, sym, ap, ap₂, _∙_}
-use Prim.Native.Nat.{ℕ, zero, suc, _+_, _-_, _^_, _≤_, _<_, max}
-use mathlib.Core.List.{List, [], _∷_}
-use mathlib.Core.Bool.{Bool, true, false, not, cond}
+use Prim.Native.Nat.{ℕ, _+_, _-_, _^_, _≤_, _<_}
+use mathlib.Core.List.{List}
+use mathlib.Core.Bool.{Bool, true, false, not}
 use borrow.Author.Tests.{le-leb, lt-leb, lt-ltb, le-ltb, eq-eqb, ne-eqb, not-true, not-false}
 use lib.ListN.{length}
-use lib.Dec.{leb, ltb, eqb}
 use Rattle.arithmetic.specs.Amount.{halves, sum, difference, amountAt}
 use Rattle.units.specs.declared.{Tokens.Tokens, CheckedTokens.CheckedTokens, TokensRead.TokensRead}
 use Rattle.units.specs.Units.{tokenCount, checkedTokens, tokensRead}
@@ -15,7 +14,7 @@ use Rattle.molecule.specs.Layout.{span, itemCount, itemOf, entryOf}
 use Rattle.lists.specs.Lists.{eqBytes}
 use Rattle.lists.proofs.SpanLaws.{span-on, span-end}
 use Rattle.transaction.specs.Tx.{typeOf, firstOf, dataOf}
-use Rattle.rules.specs.Outcome.{Outcome, fine, refused, check, checkWith, _>>_, _>>=_}
+use Rattle.rules.specs.Outcome.{Outcome, fine, check, checkWith, _>>_, _>>=_}
 use Rattle.rules.specs.Cells.{Cell, recordCell}
 use Rattle.rules.specs.Surplus.{isEmpty, isOf, hasAmount, amountOf}
 use Rattle.rules.specs.Step.{with-data}

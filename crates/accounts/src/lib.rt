@@ -19,10 +19,10 @@ pub fn read_udt_amount(d: &[u8]) -> TokensRead
 }
 
 // The index of the first output that the peer added, by the list of our outputs: from their count on, never 0.
-pub fn added_peer_outputs(ours: &[u8]) -> usize
-    ensures { λ r. ⌜ r ≡ max 1 (itemCount (now (ours .entry))) ⌝ }
+pub fn added_peer_outputs(outputs: &[u8]) -> usize
+    ensures { λ r. ⌜ r ≡ max 1 (itemCount (now (outputs .entry))) ⌝ }
 {
-    let n = molecule::item_count(ours) as usize;
+    let n = molecule::item_count(outputs) as usize;
     if n == 0 {
         return 1;
     }

@@ -1,5 +1,5 @@
 -- Laws of both accounts together, one for each way out of the functions.
-use mathlib.Core.Path.{_≡_, refl, sym, ap, ap₂, _∙_}
+use mathlib.Core.Path.{_≡_, refl, sym, ap, _∙_}
 use Prim.Native.Nat.{ℕ, zero, suc, _+_, _-_, max}
 use mathlib.Core.List.{List, []}
 use mathlib.Core.Bool.{Bool, true, false}
@@ -15,11 +15,10 @@ use Rattle.transaction.specs.Tx.{txAt, rawField}
 use Rattle.error.specs.declared.Refusal.{Refusal}
 use Rattle.error.specs.Refusal.{number, values}
 use Rattle.rules.specs.declared.Update.{Update}
-use Rattle.rules.specs.Outcome.{Outcome, fine, refused, _>>=_}
-use Rattle.rules.specs.Cells.{Cell}
+use Rattle.rules.specs.Outcome.{Outcome, _>>=_}
 use Rattle.rules.specs.Surplus.{isEmpty, total, added, capacityOf}
 use Rattle.rules.specs.Judge.{Figures, unfunded, covered, fundingOutputDelta}
-use Rattle.rules.specs.Told.{refusal, told}
+use Rattle.rules.specs.Told.{told}
 use Rattle.rules.proofs.CellLaws.{cellAt, empty-is, added-is}
 use Rattle.accounts.specs.declared.capacity.CapacitySurplus.{CapacitySurplus}
 use Rattle.accounts.specs.declared.token.TokenSum.{TokenSum}

@@ -1,27 +1,25 @@
 -- Laws of output 0, one for each way out of the functions.
 use mathlib.Core.Path.{_≡_, refl, sym, ap, ap₂, _∙_}
-use Prim.Native.Nat.{ℕ, zero, suc, _+_, _-_, _*_, _^_, _≤_, _<_, max}
-use mathlib.Core.List.{List, [], _∷_}
-use mathlib.Core.Bool.{Bool, true, false, not, cond, _||_}
-use native.Mathlib.Omega.{arith}
-use borrow.Author.Tests.{le-leb, lt-leb, eq-eqb, ne-eqb, not-true, not-false}
-use lib.ListN.{length, take}
+use Prim.Native.Nat.{ℕ, _-_}
+use mathlib.Core.List.{List, []}
+use mathlib.Core.Bool.{Bool, true, false, not}
+use borrow.Author.Tests.{le-leb, lt-leb, eq-eqb, ne-eqb}
+use lib.ListN.{length}
 use lib.Dec.{leb, eqb}
-use Rattle.arithmetic.specs.LittleEndian.{le}
 use Rattle.arithmetic.specs.Amount.{halves, difference, amountAt}
 use Rattle.arithmetic.specs.Amount as amount
 use Rattle.units.specs.declared.{Shannons.Shannons, CheckedShannons.CheckedShannons, Tokens.Tokens, CheckedTokens.CheckedTokens, TokensRead.TokensRead}
 use Rattle.units.specs.Units.{inShannons, shannonCount, tokenCount, checkedShannons, checkedTokens, tokensRead}
 use Rattle.units.specs.Units as units
-use Rattle.units.proofs.CountLaws.{shannons-of, shannons-left, shannons-enough, shannons-lacking, tokens-left, tokens-enough, tokens-lacking, tokens-there, tokens-long, tokens-under}
+use Rattle.units.proofs.CountLaws.{shannons-of, shannons-left, shannons-enough, shannons-lacking, tokens-left, tokens-enough, tokens-lacking, tokens-long, tokens-under}
 use Rattle.molecule.specs.Layout.{itemCount, itemOf, entryOf}
 use Rattle.molecule.proofs.Offsets.{span-length}
 use Rattle.transaction.specs.Tx.{txAt, rawField}
 use Rattle.transaction.specs.Tx as tx
-use Rattle.rules.specs.Outcome.{Outcome, fine, refused, check, checkWith, _>>_, _>>=_}
-use Rattle.rules.specs.Cells.{Cell, cells}
+use Rattle.rules.specs.Outcome.{fine, refused, check, checkWith, _>>_, _>>=_}
+use Rattle.rules.specs.Cells.{cells}
 use Rattle.rules.specs.Surplus.{isEmpty, first, capacityOf, hasAmount, amountOf}
-use Rattle.rules.specs.Judge.{Figures, atFirst, growth, tokenDelta, fundingOutputDelta}
+use Rattle.rules.specs.Judge.{atFirst, growth, tokenDelta, fundingOutputDelta}
 use Rattle.rules.proofs.CellLaws.{cellAt, empty-is, cells-none, cells-some}
 use Rattle.rules.proofs.Tests.{never, fine-inj}
 use Rattle.accounts.proofs.TokenLaws.{amount-there}

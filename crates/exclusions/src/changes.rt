@@ -12,7 +12,7 @@ ghost use Prim.Native.Nat.{_+_, _-_, _*_, _≤_, _<_};
 ghost use lib.ListN.{length, take, drop};
 ghost use Rattle.arithmetic.specs.LittleEndian.{toLe, AllBytes};
 ghost use Rattle.molecule.specs.Layout.{fixCount};
-ghost use Rattle.molecule.specs.Write.{splice, putAt, Put};
+ghost use Rattle.molecule.specs.Write.{splice, Put};
 ghost use Rattle.transaction.specs.Tx.{rawField};
 ghost use Rattle.out_points.specs.OutPoints.{bytesOf};
 ghost use Rattle.out_points.specs.Tables.{keep, renew};

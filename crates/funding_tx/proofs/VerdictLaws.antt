@@ -1,21 +1,21 @@
 -- Laws of the verdict, one for each way out of the functions.
-use mathlib.Core.Path.{_≡_, refl, sym, ap, ap₂, _∙_}
+use mathlib.Core.Path.{_≡_, refl, sym, ap, _∙_}
 use Prim.Native.Nat.{ℕ, _+_, _-_}
-use mathlib.Core.List.{List, [], _∷_}
+use mathlib.Core.List.{List}
 use mathlib.Core.Bool.{Bool, true, false, not}
 use mathlib.Core.Option.{Option}
 use borrow.Author.Tests.{not-true, not-false}
 use lib.ListN.{length, take, drop}
 use Rattle.molecule.specs.Molecule.{option, readable}
 use Rattle.transaction.specs.Ckb.{Script, Transaction}
-use Rattle.transaction.specs.Tx.{Tx, txAt, readTx}
+use Rattle.transaction.specs.Tx.{Tx, txAt}
 use Rattle.units.specs.declared.{Shannons.Shannons}
 use Rattle.units.specs.Units.{shannonCount}
 use Rattle.error.specs.declared.Refusal.{Refusal}
 use Rattle.error.specs.Refusal.{number, values}
 use Rattle.rules.specs.declared.Update.{Update}
 use Rattle.rules.specs.Outcome.{Outcome, fine, refused, check, checkWith, given, _>>_, _>>=_}
-use Rattle.rules.specs.Cells.{Cell, readOurs, readRecords}
+use Rattle.rules.specs.Cells.{Cell, readRecords}
 use Rattle.rules.specs.Surplus.{total, capacityOf}
 use Rattle.rules.specs.Judge.{Figures, scripts, limits, comparison, spent, tally, account, tokenAccount, accounts, contribution, judge}
 use Rattle.rules.specs.Told.{told, inForceOf}

@@ -169,6 +169,12 @@ order =
     ∷ (answer (untyped [] (offer (bare 0) (notLive ∷ []))) gives 3 ∷ [])
     -- one for two, under our lock; not 6
     ∷ (answer (untyped [] (offer (bare 2) (fromOurLock ∷ []))) gives 3 ∷ [])
+    -- a record under our lock, and then one that is unreadable; not 6
+    ∷ (answer (untyped usual (record { peer = spending (inputs 3) (plain 100 ∷ []) ([] ∷ []); records = join (encode (option Record) fromOurLock ∷ unreadable ∷ []); source = ourLock; rate = 1000 })) gives 3 ∷ [])
+    -- a token record with data under 16 bytes, and then one under our lock; not 5
+    ∷ (answer (typed (holding 5) (offer (spending (inputs 3) (token 100 ∷ []) (amount 5 ∷ [])) (cell (token 50) [] ∷ fromOurLock ∷ []))) gives 6 ∷ 2 ∷ [])
+    -- token records of 2^128 - 1 and 1, and then one that is not live; not 7
+    ∷ (answer (typed (holding 5) (offer (spending (inputs 4) (token 100 ∷ []) (amount 5 ∷ [])) (cell (token 50) (amount (2 ^ 128 - 1)) ∷ cell (token 50) (amount 1) ∷ notLive ∷ []))) gives 5 ∷ [])
     -- a record under our lock, and output 0 missing; not 5
     ∷ (answer (untyped [] (offer (bare 1) (fromOurLock ∷ []))) gives 6 ∷ 0 ∷ [])
     -- output 0 missing, and no fee paid; not 8

@@ -66,7 +66,7 @@ refusals =
     (answer (untyped [] (offer [] [])) gives 2 ∷ [])
     -- an unreadable type is 3 where there is no output 0
     ∷ (answer (record { lock = expectedLock; type = 0 ∷ []; ours = []; call = offer emptyTx [] }) gives 3 ∷ [])
-    -- all records are read before any is judged: [not live, unreadable], and [not live, not live]
+    -- an unreadable record anywhere comes first: [not live, unreadable], and [not live, not live]
     ∷ (answer (untyped usual (lending (join ([] ∷ (0 ∷ []) ∷ [])))) gives 3 ∷ [])
     ∷ (answer (untyped usual (lending (encode Records (notLive ∷ notLive ∷ [])))) gives 5 ∷ [])
     -- by input: the first that fails; the index is that among all inputs

@@ -3,29 +3,29 @@ use mathlib.Core.Path.{_≡_, refl, sym, ap, ap₂, _∙_}
 use Prim.Native.Nat.{ℕ, zero, suc, _+_, _-_, _^_, _≤_, _<_}
 use mathlib.Core.List.{List, [], _∷_}
 use mathlib.Core.Bool.{Bool, true, false, not, cond}
-use mathlib.Core.Option.{Option, none, some}
+use mathlib.Core.Option.{none, some}
 use native.Mathlib.Omega.{arith}
 use native.Mathlib.Nat.{zero-add}
-use borrow.Author.Tests.{eq-eqb, ne-eqb, not-true, not-false}
+use borrow.Author.Tests.{eq-eqb, ne-eqb}
 use mir.Syntax.{w32}
 use mir.Val.{Fits}
 use lib.ListN.{length}
 use lib.Dec.{eqb}
 use Rattle.arithmetic.specs.Amount.{halves}
-use Rattle.units.specs.declared.{Shannons.Shannons, Tokens.Tokens}
+use Rattle.units.specs.declared.{Shannons.Shannons}
 use Rattle.units.specs.Units.{inShannons, shannonCount, tokenCount, cappedSum}
 use Rattle.units.specs.Units as units
 use Rattle.molecule.specs.Molecule.{option, readable}
-use Rattle.molecule.specs.Layout.{part, start, hasHeader, span, fieldOf, itemCount, itemOf}
+use Rattle.molecule.specs.Layout.{part, start, hasHeader, span, itemCount, itemOf}
 use Rattle.molecule.proofs.LayoutLaws.{field-is, item-is}
 use Rattle.molecule.proofs.TestLaws.{Walked, walked-no, walked-none, walked-falls, walked-more, walked-stop, walked-end}
 use Rattle.lists.proofs.SpanLaws.{span-on, span-end, span-whole}
 use Rattle.transaction.specs.Ckb.{Record, Records}
 use Rattle.transaction.proofs.ListLaws.{option-some}
-use Rattle.rules.specs.Cells.{Cell, recordCell, recordAt, readRecords, recordCellAt, recordCells}
+use Rattle.rules.specs.Cells.{Cell, recordCell, recordAt, readRecords}
 use Rattle.rules.specs.Outcome.{Outcome, fine, refused, given, checkWith, _>>_, _>>=_}
 use Rattle.rules.specs.Surplus.{total, capacityOf}
-use Rattle.rules.specs.Judge.{hasLock, live, liveCells, counted, tally}
+use Rattle.rules.specs.Judge.{hasLock, live, liveCells, tally}
 use Rattle.rules.proofs.CellLaws.{records-yes, records-no}
 use Rattle.rules.proofs.Tests.{never, checkWith-fine}
 use Rattle.error.specs.declared.Refusal.{Refusal}
@@ -37,6 +37,14 @@ use Rattle.accounts.specs.Paid.{andCell}
 use Rattle.accounts.proofs.CapacityLaws.{Sums, sums-more, sums-end}
 use Rattle.records.specs.declared.Resolved.{Resolved}
 use Rattle.records.specs.Resolved.{brought, resolved, gathered, orUnreadable}
+
+-- ---- the cells of records that are all live
+
+unfoldable pub recordCellAt : List ℕ → ℕ → Cell
+recordCellAt s i = recordCell (itemOf s i)
+
+abbrev pub recordCells : List ℕ → List Cell
+recordCells s = span (recordCellAt s) 0 (itemCount s)
 
 -- ---- the tokens so far, and the cells from i on
 

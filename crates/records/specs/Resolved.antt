@@ -18,7 +18,7 @@ pub record Brought : Type 0 where
   pub capacity : ℕ
   pub token : Outcome ℕ
 
--- what cells bring in, in capacity and in the expected token
+-- what cells bring in, in capacity and in the expected token; untyped, the latter means nothing
 abbrev pub brought : List ℕ → List Cell → Brought
 brought type cells = record { capacity = total capacityOf cells; token = tally type 0 cells }
 

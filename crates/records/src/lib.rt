@@ -95,6 +95,7 @@ fn gather(source: &[u8], udt: &[u8], first: u32, records: &[u8]) -> Resolved
 }
 
 // What the records bring in, in capacity and in the expected token, if they are readable, one for each added input, live, and none under our source lock.
+// Untyped, the sum of tokens means nothing, and nobody looks at it.
 pub fn resolve(ours: &[u8], peer: &[u8], source: &[u8], udt: &[u8], records: &[u8]) -> Resolved
     ensures { λ r. ⌜ resolved r ≡ brings (now (source .entry)) (now (udt .entry)) (txAt (now (ours .entry))) (txAt (now (peer .entry))) (readRecords (now (records .entry))) ⌝ }
 {

@@ -38,10 +38,3 @@ recordAt s i = cond (eqb (length (itemOf s i)) 0) none (some (recordCell (itemOf
 
 unfoldable pub readRecords : List ℕ → Option (List (Option Cell))
 readRecords s = only (readable Records s) (some (span (recordAt s) 0 (itemCount s)))
-
--- the cells of records that are all live
-unfoldable pub recordCellAt : List ℕ → ℕ → Cell
-recordCellAt s i = recordCell (itemOf s i)
-
-abbrev pub recordCells : List ℕ → List Cell
-recordCells s = span (recordCellAt s) 0 (itemCount s)
