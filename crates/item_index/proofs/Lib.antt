@@ -1,0 +1,8 @@
+pub mod OrderLaws
+pub mod WordLaws
+pub mod ComesLaws
+pub mod MergeLaws
+pub mod SortLaws
+pub mod FindLaws
+pub mod AllLaws
+pub mod Ways

@@ -1,0 +1,10 @@
+use Rattle.item_index.proofs.Ways.{ways}
+use Rattle.item_index.proofs.has.Statement.{statement}
+use Rattle.item_index.proofs.has.Tie as tie
+
+pub has-spec : {M : Type 1} → statement M
+has-spec =
+    tie.close
+    (tie.spec
+    (λ c κs. search ways)  -- place-of-requires
+    (λ c. search ways))  -- returns
