@@ -47,9 +47,6 @@ found-there a b k n i ex h ey er t = sym (at-first (fixItem a k i) (fixItem b k)
 pub some-start : (f : ℕ → List ℕ) (ys : List (List ℕ)) (from m : ℕ) → Among f ys m from (containsAll (span f from (m - from)) ys)
 some-start f ys from m = record { rest = refl }
 
-pub all-start : (f : ℕ → List ℕ) (ys : List (List ℕ)) (m : ℕ) → Among f ys m 0 (containsAll (span f 0 m) ys)
-all-start f ys m = record { rest = ap (λ (xs : List (List ℕ)). containsAll xs ys) (span-whole f m) }
-
 pub index-for : (f : ℕ → List ℕ) (n p q : ℕ) (s : List ℕ) → (n ≤ p → n ≤ q → Index f n s) → n ≤ p → n ≤ q → Index f n s
 index-for f n p q s h l m = h l m
 

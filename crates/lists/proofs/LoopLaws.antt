@@ -6,8 +6,8 @@ use mathlib.Core.Bool.{Bool, true, false, not, _&&_, cond}
 use native.Mathlib.Omega.{arith}
 use borrow.Author.Tests.{not-true, not-false}
 use lib.ListN.{length, drop}
-use native.Mathlib.Nat.{le-of-suc-le-suc, not-suc-le-zero, zero-add, add-zero}
-use Rattle.molecule.specs.Layout.{span, fixCount, fixItem, fixItems}
+use native.Mathlib.Nat.{le-of-suc-le-suc, not-suc-le-zero, add-zero}
+use Rattle.molecule.specs.Layout.{span}
 use Rattle.lists.specs.Lists.{eqBytes, extends, contains, containsAll}
 use Rattle.lists.proofs.SpanLaws.{span-on, span-end, span-drop, span-whole}
 
@@ -72,16 +72,6 @@ at-place x g (suc i) j (suc k) h e =
     by : (b : Bool) → contains x (span g (suc j) k) ≡ true → cond b true (contains x (span g (suc j) k)) ≡ true
     by true h = refl
     by false h = h
-
-pub same-place : (b : List ℕ) (k i : ℕ) {x y : List ℕ} {n : ℕ} {r : Bool} (X : List ℕ) → x ≡ X → n ≡ fixCount b → i < n → y ≡ fixItem b k i → r ≡ eqBytes x y → r ≡ true
-    → true ≡ contains X (fixItems k b)
-same-place b k i {x} {y} {n} X ex en h ey er t =
-    let c : fixCount b ≡ n = sym en in
-    sym (at-place X (fixItem b k) i 0 (fixCount b) (rw c h) (ap₂ eqBytes (sym ex) (ap (fixItem b k) (zero-add i) ∙ sym ey) ∙ sym er ∙ t))
-
--- looked for everywhere
-pub any-place : (b : List ℕ) (k : ℕ) {x : List ℕ} {r : Bool} (X : List ℕ) → x ≡ X → r ≡ contains x (fixItems k b) → r ≡ contains X (fixItems k b)
-any-place b k X ex h = h ∙ ap (λ (l : List ℕ). contains l (fixItems k b)) ex
 
 -- and for `containsAll`
 pub record Among (f : ℕ → List ℕ) (ys : List (List ℕ)) (m i : ℕ) (R : Bool) : Type 0 where

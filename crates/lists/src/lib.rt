@@ -1,9 +1,9 @@
-// Lists compared item by item: the peer's list goes on from ours, or holds all of ours.
+// Lists compared item by item: the peer's list goes on from ours. (Whether it holds all of ours is for crate item_index to say.)
 ghost use mathlib.Core.Path.{_≡_};
 ghost use Prim.Native.Nat.{_+_, _≤_};
 ghost use lib.ListN.{length, take, drop};
-ghost use Rattle.molecule.specs.Layout.{fixItem, fixItems, itemOf, itemsOf, entryOf, entriesOf};
-ghost use Rattle.lists.specs.Lists.{eqBytes, extends, contains, containsAll};
+ghost use Rattle.molecule.specs.Layout.{fixItems, itemOf, itemsOf, entryOf, entriesOf};
+ghost use Rattle.lists.specs.Lists.{eqBytes, extends};
 
 // Output 0 is the funding cell, which a peer may change.
 const FIRST_OUTPUT: usize = 1;
@@ -194,52 +194,6 @@ pub fn fix_extends(a: &[u8], b: &[u8], k: u32) -> bool
     let x = molecule::part(a, 4, e);
     let y = molecule::part(b, 4, e);
     same(x, y)
-}
-
-// The item x is in the fixvec b.
-pub fn fix_has(b: &[u8], k: u32, x: &[u8]) -> bool
-    ensures { λ r. ⌜ r ≡ contains (now (x .entry)) (fixItems k (now (b .entry))) ⌝ }
-{
-    let n = molecule::fix_count(b) as usize;
-    let mut i = 0;
-    while i < n {
-        let y = molecule::fix_item(b, k, i);
-        if same(x, y) {
-            return true;
-        }
-        i += 1;
-    }
-    false
-}
-
-// Item i of a is in b: the same place is looked at first, since that is where it stands in most lists.
-fn fix_has_item(a: &[u8], b: &[u8], k: u32, i: usize) -> bool
-    ensures { λ r. ⌜ r ≡ contains (fixItem (now (a .entry)) k i) (fixItems k (now (b .entry))) ⌝ }
-{
-    let x = molecule::fix_item(a, k, i);
-    let n = molecule::fix_count(b) as usize;
-    if i < n {
-        let y = molecule::fix_item(b, k, i);
-        if same(x, y) {
-            return true;
-        }
-    }
-    fix_has(b, k, x)
-}
-
-// Each item of a is in b.
-pub fn fix_has_all(a: &[u8], b: &[u8], k: u32) -> bool
-    ensures { λ r. ⌜ r ≡ containsAll (fixItems k (now (a .entry))) (fixItems k (now (b .entry))) ⌝ }
-{
-    let m = molecule::fix_count(a) as usize;
-    let mut i = 0;
-    while i < m {
-        if !fix_has_item(a, b, k, i) {
-            return false;
-        }
-        i += 1;
-    }
-    true
 }
 
 // Item i of two dynvecs.
