@@ -6,7 +6,7 @@ use mathlib.Core.List.{List, [], _∷_}
 use mathlib.Core.Bool.{Bool, true, false, cond, _&&_, and-true, and-false, and-assoc, and-eq-true-iff, false≢true}
 use mathlib.Core.Option.{Option, none, some, Option·map, map-eq-some-iff}
 use mathlib.Core.Logic.{_≢_}
-use native.Mathlib.Nat.{mul-comm, suc-mul}
+use native.Mathlib.Nat.{mul-comm, suc-mul, mul-le-mul-right}
 use native.Mathlib.Decide.{decLt}
 use native.Mathlib.Omega.{arith}
 use borrow.Author.Tests.{le-leb, lt-ltb, le-ltb, eq-eqb, ne-eqb, leb-true, eqb-true, eqb-false}
@@ -387,3 +387,11 @@ pub fixvec-readable : (t : Ty) → T (fixed t) → (s : List ℕ)
     → readable (fixvec t) s ≡ (ltb (length s) (2 ^ 32) && leb 4 (length s) && eqb (length s) (4 + size t * fixCount s))
 unfolding fixCount
 fixvec-readable t ok s = fixvec-says t ok s ∙ ap (λ (b : Bool). ltb (length s) (2 ^ 32) && leb 4 (length s) && b) (within-same (size t) (word s 0) (length s))
+
+-- of items that have bytes a fixvec that is read has as many as its first word says
+pub fixvec-count : (t : Ty) → T (fixed t) → 1 ≤ size t → (s : List ℕ) → readable (fixvec t) s ≡ true → fixCount s ≡ word s 0
+unfolding fixCount
+fixvec-count t ok one s h =
+    let a = and-eq-true-iff (ltb (length s) (2 ^ 32) && leb 4 (length s)) (eqb (length s) (4 + size t * word s 0)) .0 (sym (fixvec-says t ok s) ∙ h) in
+    let e : length s ≡ 4 + size t * word s 0 = eqb-true _ _ (a .1) in
+    omega (arith, mul-le-mul-right (word s 0) one)
