@@ -8,7 +8,7 @@ use Rattle.arithmetic.specs.LittleEndian.{le, toLe, numAt}
 use Rattle.molecule.specs.Partial.{only, pick, there, both, each}
 use Rattle.molecule.specs.Items.{unwords, words, offsets, join, cuts, items, split}
 use Rattle.molecule.specs.Molecule.{byte, fixvec, table, end, _&_, Value, size, encode, chunks, oneByte, decode, readable}
-use Rattle.molecule.specs.Layout.{fieldOf, part, start, word, span, itemCount}
+use Rattle.molecule.specs.Layout.{fieldOf, part, start, word, span, itemCount, fixCount}
 use Rattle.transaction.specs.Tx.{rawField, witnessesOf, txAt}
 use Rattle.transaction.specs.Ckb.{Byte32, Bytes, CellInput, Script, Transaction, Records}
 
@@ -75,5 +75,5 @@ no-inputs = refl
 
 -- no bytes are read as version 0 and empty lists, which is what no transaction of ours means
 pub none-of-ours : txAt [] ≡ record { version = 0; cellDeps = []; headerDeps = []; inputs = []; outputs = []; outputsData = []; witnesses = [] }
-unfolding rawField witnessesOf fieldOf part start word numAt span itemCount
+unfolding rawField witnessesOf fieldOf part start word numAt span itemCount fixCount
 none-of-ours = refl
