@@ -376,10 +376,10 @@ within-same zero w l = ap (eqb l) (omega arith)
 within-same (suc k) w l =
     elim (decLt l w) [
       | yes p ↦
-        let m : min w l ≡ l = omega arith in
-        let far : l ≢ 4 + suc k * w = λ q. omega (arith, suc-mul k w) in
-        let past : l ≢ 4 + suc k * l = λ q. omega (arith, suc-mul k l) in
-        ne-eqb _ _ far ∙ sym (rw m (ne-eqb _ _ past))
+          let m : min w l ≡ l = omega arith in
+          let far : l ≢ 4 + suc k * w = λ q. omega (arith, suc-mul k w) in
+          let past : l ≢ 4 + suc k * l = λ q. omega (arith, suc-mul k l) in
+          ne-eqb _ _ far ∙ sym (rw m (ne-eqb _ _ past))
       | no p ↦ let m : min w l ≡ w = omega arith in rw m
     ]
 

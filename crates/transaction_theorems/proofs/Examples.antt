@@ -73,6 +73,15 @@ pub no-inputs : readable (fixvec CellInput) (0 ∷ 0 ∷ 0 ∷ 64 ∷ []) ≡ fa
 unfolding le only there size decode readable
 no-inputs = refl
 
+-- a count that bytes only claim is no more than they could hold
+pub claimed-count : fixCount (255 ∷ 255 ∷ 255 ∷ 255 ∷ []) ≡ 4
+unfolding fixCount word numAt le
+claimed-count = refl
+
+pub claimed-items : itemCount (8 ∷ 0 ∷ 0 ∷ 0 ∷ 255 ∷ 255 ∷ 255 ∷ 255 ∷ []) ≡ 2
+unfolding itemCount word numAt le
+claimed-items = refl
+
 -- no bytes are read as version 0 and empty lists, which is what no transaction of ours means
 pub none-of-ours : txAt [] ≡ record { version = 0; cellDeps = []; headerDeps = []; inputs = []; outputs = []; outputsData = []; witnesses = [] }
 unfolding rawField witnessesOf fieldOf part start word numAt span itemCount fixCount
