@@ -11,9 +11,10 @@ use lib.ListN.{length, take, drop, length-append}
 use lib.Seq.{take-add, drop-drop}
 use Rattle.arithmetic.specs.LittleEndian.{toLe}
 use Rattle.arithmetic.proofs.LittleEndianLaws.{length-toLe, wrapped}
-use Rattle.molecule.specs.Layout.{part, span, itemOf, fixCount, fixItem, fixItems}
+use Rattle.molecule.specs.Layout.{part, span, itemOf, word, fixCount, fixItem, fixItems}
 use Rattle.molecule.specs.Write.{putAt, putEnd, Put}
 use Rattle.molecule.proofs.Offsets.{span-length}
+use Rattle.molecule.proofs.LayoutLaws.{fix-count-said}
 use Rattle.molecule.proofs.WriteLaws.{did, then, and-put, as-bytes, length-kept}
 use Rattle.transaction.specs.Tx.{firstOf}
 use Rattle.list_writer.specs.Around.{fitsAt, Room}
@@ -25,11 +26,11 @@ use Rattle.base_inputs.specs.BaseInputs.{pickedInput, picked, inputList,
 
 -- ---- the present ones: items without gaps are one run, of any bytes
 
-item-run : (s : List ℕ) (i : ℕ) → i < fixCount s → fixItem s 44 i ≡ take 44 (drop (4 + 44 * i) s)
+item-run : (s : List ℕ) (i : ℕ) → i < word s 0 → fixItem s 44 i ≡ take 44 (drop (4 + 44 * i) s)
 unfolding fixItem part
-item-run s i h = let w : 4 + 44 * i + 44 - (4 + 44 * i) ≡ 44 = omega arith in rw (lt-ltb i (fixCount s) h, w)
+item-run s i h = let w : 4 + 44 * i + 44 - (4 + 44 * i) ≡ 44 = omega arith in rw (lt-ltb i (word s 0) h, w)
 
-items-run : (s : List ℕ) (n i : ℕ) → i + n ≤ fixCount s → flatten (span (fixItem s 44) i n) ≡ take (44 * n) (drop (4 + 44 * i) s)
+items-run : (s : List ℕ) (n i : ℕ) → i + n ≤ word s 0 → flatten (span (fixItem s 44) i n) ≡ take (44 * n) (drop (4 + 44 * i) s)
 unfolding span flatten
 items-run s zero i h = refl
 items-run s (suc n) i h =
@@ -43,7 +44,7 @@ pub run-is : (s : List ℕ) {n : ℕ} {r : List ℕ} → n ≡ fixCount s → r 
 unfolding part
 run-is s {n} e h =
     let z : 4 + 44 * n - 4 ≡ 44 * n = omega arith in
-    h ∙ ap (λ (j : ℕ). take j (drop 4 s)) z ∙ rw e (sym (items-run s (fixCount s) 0 (omega arith)))
+    h ∙ ap (λ (j : ℕ). take j (drop 4 s)) z ∙ rw e (sym (items-run s (fixCount s) 0 (omega (arith, fix-count-said s))))
 
 -- ---- the picked ones
 

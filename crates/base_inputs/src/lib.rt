@@ -87,7 +87,7 @@ fn put_present(out: &mut [u8], at: usize, n: u32, run: &[u8]) -> usize
     write::put(out, at, run)
 }
 
-// Puts the inputs where they fit. Their count is modulo 2^32, as four bytes hold it: bytes that are no list may say any count.
+// Puts the inputs where they fit. Their count is modulo 2^32, as four bytes hold it.
 fn put_whole(out: &mut [u8], at: usize, present: &[u8], cells: &[u8], k: usize) -> usize
     requires { ⌜ Room (now out) at (inputsSize (now present) (now cells) k) ⌝ }
     ensures { λ r. ⌜ Put (now (out .entry)) at (fixList (inputList (now (present .entry)) (now (cells .entry)) k)) (now (out .exit)) r ⌝ }

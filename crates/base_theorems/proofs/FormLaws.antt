@@ -91,8 +91,8 @@ module _ (s : List ℕ) (h : readable (option Transaction) s ≡ true) where
       let i = and-eq-true-iff _ (readable (fixvec CellInput) (rawField s 3)) .0 (k .0) in
       let j = and-eq-true-iff (readable (fixvec CellDep) (rawField s 1)) (readable (fixvec Byte32) (rawField s 2)) .0 (i .0) in
       record {
-        headerDeps = rw hash-size at (items-long Byte32 tt (rawField s 2) (j .1));
-        inputs = rw input-size at (items-long CellInput tt (rawField s 3) (i .1));
+        headerDeps = rw hash-size at (items-long Byte32 tt (omega (arith, hash-size)) (rawField s 2) (j .1));
+        inputs = rw input-size at (items-long CellInput tt (omega (arith, input-size)) (rawField s 3) (i .1));
         outputs = dyn-item CellOutput (rawField s 4) (k .1);
         outputsData = dyn-item Bytes (rawField s 5) (g .1);
       }

@@ -1,5 +1,5 @@
 -- A transaction packed from lists of items in their forms is readable, and its lists are those lists.
-use mathlib.Core.Path.{_≡_, refl, ap, ap₂, _∙_}
+use mathlib.Core.Path.{_≡_, refl, sym, ap, ap₂, _∙_, subst}
 use Prim.Native.Nat.{ℕ, zero, suc, _+_, _-_, _*_, _^_, _≤_, _<_}
 use mathlib.Core.Bool.{true}
 use mathlib.Core.List.{List, _∷_, map, flatten}
@@ -18,7 +18,7 @@ use Rattle.molecule.proofs.Valid.{fixed, allFixed}
 use Rattle.molecule.proofs.ItemsLaws.{split-join}
 use Rattle.molecule.proofs.ChunksLaws.{Long, chunks-flatten}
 use Rattle.molecule.proofs.ReadableLaws.{holds, every, readable-dynvec, readable-fixvec}
-use Rattle.molecule.proofs.DecodedLaws.{fix-chunks, split-items}
+use Rattle.molecule.proofs.DecodedLaws.{items-few, fix-chunks, split-items}
 use Rattle.transaction.specs.Ckb.{Byte32, Bytes, CellDep, CellInput, CellOutput, Transaction}
 use Rattle.transaction.proofs.ListLaws.{hash-size, dep-size, input-size}
 use Rattle.transaction.specs.Tx.{txAt}
@@ -49,9 +49,9 @@ module _ (t : Ty) (ok : T (fixed t)) (xs : List (List ℕ)) (long : Long (size t
   pub fix-readable : length (fixList xs) < 2 ^ 32 → readable (fixvec t) (fixList xs) ≡ true
   fix-readable short = readable-fixvec t ok (fixList xs) ∙ rw (count, lt-ltb _ _ short, le-leb 4 _ four, eq-eqb _ _ whole)
 
-  pub fix-items : fixItems (size t) (fixList xs) ≡ xs
-  fix-items =
-      fix-chunks (size t) (fixList xs) four
+  pub fix-items : 1 ≤ size t → fixItems (size t) (fixList xs) ≡ xs
+  fix-items one =
+      fix-chunks (size t) (fixList xs) four (subst (λ (w : ℕ). w ≤ length (fixList xs)) (sym count) (items-few (length xs) (size t) one whole))
       ∙ ap₂ (λ (n : ℕ) (s : List ℕ). chunks n (size t) s) count behind
       ∙ chunks-flatten (length xs) (size t) xs refl long
 
@@ -174,9 +174,9 @@ module _ (t : Packed) (f : Formed t) (short : length (packed t) ≤ 133116) wher
   reads-as = record {
     isReadable = unfold packed in written-readable _ _ _ _ _ _ _ (omega arith) formed;
     fields = has;
-    cellDeps = ap (fixItems 37) (has .cellDeps) ∙ rw dep-size at (fix-items CellDep tt (t .cellDeps) deps-long deps-few);
-    headerDeps = ap (fixItems 32) (has .headerDeps) ∙ rw hash-size at (fix-items Byte32 tt (t .headerDeps) headers-long headers-few);
-    inputs = ap (fixItems 44) (has .inputs) ∙ rw input-size at (fix-items CellInput tt (t .inputs) inputs-long inputs-few);
+    cellDeps = ap (fixItems 37) (has .cellDeps) ∙ rw dep-size at (fix-items CellDep tt (t .cellDeps) deps-long deps-few (omega (arith, dep-size)));
+    headerDeps = ap (fixItems 32) (has .headerDeps) ∙ rw hash-size at (fix-items Byte32 tt (t .headerDeps) headers-long headers-few (omega (arith, hash-size)));
+    inputs = ap (fixItems 44) (has .inputs) ∙ rw input-size at (fix-items CellInput tt (t .inputs) inputs-long inputs-few (omega (arith, input-size)));
     outputs = ap itemsOf (has .outputs) ∙ dyn-items (t .outputs) outputs-short;
     outputsData = entries-are _ 0 _ ∙ ap (map content) (ap itemsOf (has .outputsData) ∙ dyn-items (t .outputsData) data-short);
     witnesses = entries-are _ 0 _ ∙ ap (map content) (ap itemsOf (has .witnesses) ∙ dyn-items (t .witnesses) witnesses-short);

@@ -10,7 +10,7 @@ use lib.ListN.{length, length-append}
 use Rattle.arithmetic.specs.LittleEndian.{toLe, numAt}
 use Rattle.arithmetic.proofs.LittleEndianLaws.{length-toLe}
 use Rattle.molecule.specs.Molecule.{option, readable}
-use Rattle.molecule.specs.Layout.{fixItems, span, word}
+use Rattle.molecule.specs.Layout.{fixCount, fixItems, span, word}
 use Rattle.molecule.proofs.Valid.{fixed, allFixed}
 use Rattle.molecule.proofs.ChunksLaws.{Long, length-all}
 use Rattle.molecule.proofs.Offsets.{span-length}
@@ -59,11 +59,11 @@ unfolding fixed allFixed
 dep-fixed = tt
 
 pub no-items : (k : ℕ) → fixItems k [] ≡ []
-unfolding span word numAt
+unfolding span fixCount word numAt
 no-items k = refl
 
 deps-long : (s : List ℕ) → readable CellDeps s ≡ true → Long 37 (fixItems 37 s)
-deps-long s h = rw dep-size at (items-long CellDep dep-fixed s h)
+deps-long s h = rw dep-size at (items-long CellDep dep-fixed (omega (arith, dep-size)) s h)
 
 optional-long : (s : List ℕ) → readable (option CellDeps) s ≡ true → Long 37 (fixItems 37 s)
 optional-long s h = by-length s none (λ n. deps-long s (of-option CellDeps s n h))

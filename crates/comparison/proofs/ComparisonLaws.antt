@@ -179,15 +179,15 @@ module _ (lock type o p : List ℕ) where
 -- ---- where there is nothing of ours
 
 none-missing : (ys : List (List ℕ)) → true ≡ noneMissing (txAt [] .cellDeps) ys
-unfolding rawField fieldOf part start word numAt span noneMissing containsAll
+unfolding rawField fieldOf part start word numAt span fixCount noneMissing containsAll
 none-missing ys = rw (le-leb 0 (length ys) (omega arith))
 
 no-header : (ys : List (List ℕ)) → true ≡ extends (txAt [] .headerDeps) ys
-unfolding rawField fieldOf part start word numAt span extends
+unfolding rawField fieldOf part start word numAt span fixCount extends
 no-header ys = refl
 
 no-input : (ys : List (List ℕ)) → true ≡ extends (txAt [] .inputs) ys
-unfolding rawField fieldOf part start word numAt span extends
+unfolding rawField fieldOf part start word numAt span fixCount extends
 no-input ys = refl
 
 no-output : (ys : List (List ℕ)) → true ≡ keptAfterFirst (txAt [] .outputs) ys

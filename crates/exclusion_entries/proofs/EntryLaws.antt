@@ -18,6 +18,7 @@ use Rattle.out_points.specs.OutPoints.{byte32At, points, hashBytes, bytesOf, po
 use Rattle.out_points.proofs.PointLaws.{length-hash}
 use Rattle.out_points.proofs.ListLaws.{length-points, length-list}
 use Rattle.molecule.proofs.ItemsLaws.{bytes-drop}
+use Rattle.molecule.proofs.LayoutLaws.{fix-count-word, fix-count-below}
 use Rattle.out_points.proofs.AgainLaws.{word-again, bytes-again, list-before, word-back, num-fits, points-fit, count-fits, behind}
 use Rattle.exclusion_entries.specs.Exclusions.{Entry, excluded}
 use Rattle.exclusion_entries.specs.Entries.{kindOf, blockOf, stateBytes, entryBytes, entriesBytes, FitEntry, stateOf, entryOf, sizeOf, entriesIn, isEntry, areEntries}
@@ -30,12 +31,13 @@ unfolding part
 from-here s at e = e ∙ take-all (length s - at) (drop at s) (omega (arith, length-drop at s))
 
 -- the count of the out points is that of their list
-count-is : (x : List ℕ) → 48 ≤ length x → fixCount (drop 44 x) ≡ u32At x 44
+count-is : (x : List ℕ) → sizeOf x ≤ length x → fixCount (drop 44 x) ≡ u32At x 44
 unfolding word
 count-is x h =
-    num-some 4 (drop 44 x) 0 (omega (arith, length-drop 44 x)) ∙ sym (num-some 4 x 44 (omega arith))
+    let w : word (drop 44 x) 0 ≡ u32At x 44 = num-some 4 (drop 44 x) 0 (omega (arith, length-drop 44 x)) ∙ sym (num-some 4 x 44 (omega arith)) in
+    fix-count-word (drop 44 x) (omega (arith, length-drop 44 x)) ∙ w
 
-pub points-count : (x : List ℕ) → 48 ≤ length x → length (entryOf x .points) ≡ u32At x 44
+pub points-count : (x : List ℕ) → sizeOf x ≤ length x → length (entryOf x .points) ≡ u32At x 44
 unfolding entryOf
 points-count x h = length-points (drop 44 x) ∙ count-is x h
 
@@ -61,7 +63,7 @@ hash-again x b h =
 list-again : (x : List ℕ) → AllBytes x → 4 + 36 * fixCount x ≤ length x → pointList (points x) ≡ take (4 + 36 * fixCount x) x
 unfolding pointList word
 list-again x b h =
-    ap₂ (λ (y z : List ℕ). y ++ z) (ap (toLe 4) (length-points x) ∙ word-again 4 x 0 b (omega arith)) (bytes-again x 0 (fixCount x) b (omega arith) h)
+    ap₂ (λ (y z : List ℕ). y ++ z) (ap (toLe 4) (length-points x ∙ fix-count-below x (omega arith)) ∙ word-again 4 x 0 b (omega arith)) (bytes-again x 0 (fixCount x) b (omega arith) h)
     ∙ sym (take-add 4 (36 * fixCount x) x)
 
 -- the bytes of the out points
@@ -179,8 +181,7 @@ entries-back [] z f = refl
 entries-back (e ∷ l) z f =
     let s = entryBytes e ++ (entriesBytes l ++ z) in
     let h : entryOf s ≡ e = entry-back e (entriesBytes l ++ z) (f .0) in
-    let w : 48 ≤ length s = rw (length-append, length-entry) (omega arith) in
-    let c : sizeOf s ≡ length (entryBytes e) = ap (λ (n : ℕ). 48 + 36 * n) (sym (points-count s w) ∙ ap (λ (d : Entry). length (d .points)) h) ∙ sym (length-entry e) in
+    let c : sizeOf s ≡ length (entryBytes e) = ap (λ (n : ℕ). 48 + 36 * n) (count-back e (entriesBytes l ++ z) (f .0 .count-fits)) ∙ sym (length-entry e) in
     let d : drop (sizeOf s) s ≡ entriesBytes l ++ z = ap (λ (n : ℕ). drop n s) c ∙ behind (entryBytes e) (entriesBytes l ++ z) (length (entryBytes e)) refl in
     ap (λ (x : List ℕ). entryOf x ∷ entriesIn (length l) (drop (sizeOf x) x)) (append-assoc (entryBytes e) (entriesBytes l) z)
     ∙ ap₂ (λ (a : Entry) (r : List Entry). a ∷ r) h (ap (entriesIn (length l)) d ∙ entries-back l z (f .1))

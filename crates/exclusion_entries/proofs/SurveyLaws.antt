@@ -10,7 +10,7 @@ use lib.ListN.{length, take, drop, length-drop}
 use lib.Seq.{take-all, drop-drop}
 use Rattle.arithmetic.specs.LittleEndian.{u32At, u64At}
 use Rattle.units.specs.declared.{BlockNumber.BlockNumber}
-use Rattle.molecule.specs.Layout.{word, fixCount}
+use Rattle.molecule.specs.Layout.{word}
 use Rattle.out_points.specs.declared.{Byte32.Byte32}
 use Rattle.out_points.specs.OutPoints.{eqHash, byte32At}
 use Rattle.exclusion_entries.specs.Exclusions.{hasHash}
@@ -190,7 +190,7 @@ module _ (rule : Rule) (s : List ℕ) where
   unfolding surveyOf isMap
   sweep-other h e = e ∙ rw (ne-eqb (length s) mapSize h)
 
-  module _ {n : ℕ} (l : length s ≡ mapSize) (e : n ≡ fixCount s) where
+  module _ {n : ℕ} (l : length s ≡ mapSize) (e : n ≡ word s 0) where
     pub sweep-many : {v : Survey} → 64 < n → v ≡ start false → v ≡ surveyOf rule s
     unfolding surveyOf isMap word
     sweep-many h f = f ∙ rw (eq-eqb (length s) mapSize l, lt-leb (u32At s 0) 64 (omega arith))
@@ -220,7 +220,7 @@ module _ {rule : Rule} {s : List ℕ} {n : ℕ} {v : Survey} {at left i : ℕ} (
     next : n - i ≡ suc (n - (i + 1))
     next = omega arith
 
-    whole : 48 ≤ length x
+    whole : 48 + 36 * left ≤ length x
     whole = rw here (let r = w .room in omega (arith, length-drop at s, w .long))
 
     past : (c : ℕ) → drop (48 + 36 * c) x ≡ drop (at + (48 + 36 * c)) s
@@ -251,7 +251,7 @@ module _ {rule : Rule} {s : List ℕ} {n : ℕ} {v : Survey} {at left i : ℕ} (
               let yes : isEntry x ≡ true = sym eb ∙ not-false b g in
               let p = keeps rule (entryOf x) in
               let q = takes rule (entryOf x) in
-              let m : length (entryOf x .points) ≡ c = points-count x whole ∙ sym ec in
+              let m : length (entryOf x .points) ≡ c = points-count x (let l = whole in omega arith) ∙ sym ec in
               let turn : turned p q (length (entryOf x .points)) v ≡ u = rw m (sym on) in
               let y = drop (at + (48 + 36 * c)) s in
               let a : areEntries (suc (n - (i + 1))) left x ≡ areEntries (n - (i + 1)) (left - c) y = rw (yes, ← ec, le-leb c left k) (ap (areEntries (n - (i + 1)) (left - c)) (past c)) in

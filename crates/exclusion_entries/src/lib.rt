@@ -277,7 +277,7 @@ pub fn read_map(s: &[u8], rule: Rule) -> Survey
     if s.len() != MAP_BYTES {
         return start(false);
     }
-    let n = molecule::fix_count(s) as usize;
+    let n = molecule::word(s, 0) as usize;
     if MOST_ENTRIES < n {
         return start(false);
     }

@@ -7,7 +7,7 @@ use native.Mathlib.Omega.{arith}
 use lib.ListN.{length, take, drop, length-append, length-drop}
 use lib.Seq.{drop-drop}
 use Rattle.arithmetic.specs.LittleEndian.{AllBytes, u32At}
-use Rattle.molecule.specs.Layout.{part, word, fixCount}
+use Rattle.molecule.specs.Layout.{part, word}
 use Rattle.molecule.specs.Write.{splice, putAt, putEnd}
 use Rattle.molecule.proofs.WriteLaws.{put-yes, end-yes, splice-length}
 use Rattle.out_points.specs.declared.{OutPoint.OutPoint}
@@ -36,7 +36,7 @@ pub record Listing (s : List ℕ) (n : ℕ) (out₀ out : List ℕ) (to at i : �
   pub fits : to + length (bytesOf (excluded (entriesIn (n - i) (drop at s)))) ≤ length out₀
   pub made : splice out to (bytesOf (excluded (entriesIn (n - i) (drop at s)))) ≡ splice out₀ 4 (bytesOf (excluded (excludedAt s)))
 
-pub list-start : (s out : List ℕ) {n : ℕ} → AllBytes s → isMap s ≡ true → 4 + 36 * length (excluded (excludedAt s)) ≤ length out → n ≡ fixCount s → Listing s n out out 4 4 0
+pub list-start : (s out : List ℕ) {n : ℕ} → AllBytes s → isMap s ≡ true → 4 + 36 * length (excluded (excludedAt s)) ≤ length out → n ≡ word s 0 → Listing s n out out 4 4 0
 unfolding excludedAt word
 list-start s out {n} b g r e =
     let z : n - 0 ≡ u32At s 0 = omega arith in

@@ -11,7 +11,7 @@ use lib.Seq.{take-at, drop-at, drop-drop}
 use Rattle.arithmetic.specs.LittleEndian.{toLe, AllBytes, u32At}
 use Rattle.arithmetic.proofs.LittleEndianLaws.{length-toLe}
 use Rattle.units.specs.declared.{BlockNumber.BlockNumber}
-use Rattle.molecule.specs.Layout.{part, word, fixCount}
+use Rattle.molecule.specs.Layout.{part, word}
 use Rattle.molecule.specs.Partial.{All}
 use Rattle.molecule.specs.Write.{splice, putAt, putEnd}
 use Rattle.molecule.proofs.WriteLaws.{did, and-put, put-yes, splice-length}
@@ -113,7 +113,7 @@ pub record Marking (hash : Byte32) (block : BlockNumber) (s₀ : List ℕ) (n : 
   pub unread : drop at s ≡ drop at s₀
   pub made : splice s at (entriesBytes (map (committedAt hash block) (entriesIn (n - i) (drop at s₀)))) ≡ splice s₀ 4 (entriesBytes (map (committedAt hash block) (excludedAt s₀)))
 
-pub mark-start : (hash : Byte32) (block : BlockNumber) (s : List ℕ) {n : ℕ} → AllBytes s → isMap s ≡ true → n ≡ fixCount s → Marking hash block s n s 4 0
+pub mark-start : (hash : Byte32) (block : BlockNumber) (s : List ℕ) {n : ℕ} → AllBytes s → isMap s ≡ true → n ≡ word s 0 → Marking hash block s n s 4 0
 unfolding excludedAt word
 mark-start hash block s {n} b g e =
     let z : n - 0 ≡ u32At s 0 = omega arith in

@@ -48,7 +48,7 @@ fn mark(s: &mut [u8], hash: Byte32, block: BlockNumber)
     ensures { λ _. ⌜ now (s .exit) ≡ putAt (now (s .entry)) 0 (mapBytes (map (committedAt hash block) (excludedAt (now (s .entry))))) ⌝ }
     ensures { λ _. ⌜ excludedAt (now (s .exit)) ≡ map (committedAt hash block) (excludedAt (now (s .entry))) ⌝ }
 {
-    let n = molecule::fix_count(s) as usize;
+    let n = molecule::word(s, 0) as usize;
     let mut at: usize = 4;
     let mut i: usize = 0;
     while i < n {
@@ -81,7 +81,7 @@ fn put_excluded(s: &[u8], out: &mut [u8])
     requires { ⌜ 4 + 36 * length (excluded (excludedAt (now s))) ≤ length (now out) ⌝ }
     ensures { λ _. ⌜ now (out .exit) ≡ splice (now (out .entry)) 4 (bytesOf (excluded (excludedAt (now (s .entry))))) ⌝ }
 {
-    let n = molecule::fix_count(s) as usize;
+    let n = molecule::word(s, 0) as usize;
     let mut to: usize = 4;
     let mut at: usize = 4;
     let mut i: usize = 0;

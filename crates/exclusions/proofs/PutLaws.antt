@@ -10,6 +10,7 @@ use lib.Seq.{take-add, take-take, drop-at, drop-drop, length-take-le}
 use Rattle.arithmetic.specs.LittleEndian.{toLe, AllBytes}
 use Rattle.arithmetic.proofs.LittleEndianLaws.{length-toLe}
 use Rattle.molecule.specs.Layout.{part, span, fixCount, fixItem, fixItems}
+use Rattle.molecule.proofs.LayoutLaws.{fix-count-said}
 use Rattle.molecule.specs.Write.{splice, putAt, putEnd, Put}
 use Rattle.molecule.proofs.WriteLaws.{did, and-put, as-bytes, put-yes, splice-length, length-kept}
 use Rattle.molecule.proofs.Offsets.{span-length}
@@ -96,7 +97,7 @@ module _ {inputs : List ℕ} {n : ℕ} {out₀ : List ℕ} {at : ℕ} {out : Lis
   unfolding spentAt previousOutputOf part
   point-is h =
       let y = drop (4 + 44 * k) inputs in
-      let i : fixItem inputs 44 k ≡ take 44 y = item-run inputs 44 k (omega (arith, w .counted)) in
+      let i : fixItem inputs 44 k ≡ take 44 y = item-run inputs 44 k (omega (arith, w .counted, fix-count-said inputs)) in
       let l8 : length (take 8 y) ≡ 8 = length-take-le 8 y (rw (length-drop (4 + 44 * k) inputs) (omega (arith, w .sized))) in
       let d : drop 8 (take 44 y) ≡ take 36 (drop 8 y) = ap (drop 8) (take-add 8 36 y) ∙ drop-at (take 8 y) (take 36 (drop 8 y)) 8 l8 in
       let z : 4 + 44 * k + 8 ≡ from = let t = w .here in omega arith in

@@ -8,7 +8,7 @@ use borrow.Author.Tests.{not-true, not-false}
 use lib.ListN.{length, take, drop, length-append, length-drop, length-take, take-append-drop}
 use lib.Seq.{take-all, take-at, drop-drop, length-take-le}
 use Rattle.arithmetic.specs.LittleEndian.{AllBytes, u32At}
-use Rattle.molecule.specs.Layout.{part, word, fixCount}
+use Rattle.molecule.specs.Layout.{part, word}
 use Rattle.molecule.specs.Write.{splice}
 use Rattle.molecule.proofs.WriteLaws.{splice-length}
 use Rattle.molecule.proofs.ItemsLaws.{bytes-drop}
@@ -180,7 +180,7 @@ module _ {rule : Rule} {s₀ : List ℕ} {n : ℕ} {s : List ℕ} {c : Sift} {i 
       sym (splice-none s (c .to)) ∙ ap (λ (k : ℕ). splice s (c .to) (entriesBytes (stay (keeps rule) (takes rule) (c .taken) (entriesIn k (drop (c .at) s₀))))) (sym z) ∙ w .made
 
 -- the entries that need not move are passed over
-module _ (rule : Rule) (s : List ℕ) {v : Survey} {n : ℕ} (b : AllBytes s) (g : isMap s ≡ true) (e : v ≡ surveyOf rule s) (en : n ≡ fixCount s) where
+module _ (rule : Rule) (s : List ℕ) {v : Survey} {n : ℕ} (b : AllBytes s) (g : isMap s ≡ true) (e : v ≡ surveyOf rule s) (en : n ≡ word s 0) where
   pub sift-start : Sifting rule s n s (record { at = v .from; to = v .from; taken = false }) (v .index)
   unfolding excludedAt word
   sift-start =

@@ -82,7 +82,7 @@ fn gather(s: &mut [u8], rule: Rule, v: Survey)
     requires { ⌜ v ≡ surveyOf rule (now s) ⌝ }
     ensures { λ _. ⌜ now (s .exit) ≡ splice (now (s .entry)) 4 (entriesBytes (stay (keeps rule) (takes rule) false (excludedAt (now (s .entry))))) ⌝ }
 {
-    let n = molecule::fix_count(s) as usize;
+    let n = molecule::word(s, 0) as usize;
     let at = v.from;
     let mut c = Sift {
         at,

@@ -7,7 +7,7 @@ use lib.Dec.{T, eqb}
 use lib.ListN.{length}
 use Rattle.arithmetic.specs.LittleEndian.{numAt, toLe, AllBytes}
 use Rattle.molecule.specs.Molecule.{Ty, fixvec, dynvec, option, readable}
-use Rattle.molecule.specs.Layout.{word, fixItems, span}
+use Rattle.molecule.specs.Layout.{word, fixCount, fixItems, span}
 use Rattle.molecule.proofs.Valid.{fixed}
 use Rattle.molecule.proofs.ReadableLaws.{readable-option, by-length, of-option}
 use Rattle.transaction.specs.Ckb.{Byte32, Bytes, CellDep, CellDeps, CellInput, CellOutput, Transaction}
@@ -40,11 +40,11 @@ unfolding orEmpty
 or-empty [] e = none
   where
     none : fixList (fixItems 32 []) ≡ toLe 4 0
-    none = unfold fixList in unfold span in unfold word in unfold numAt in unfold flatten in append-nil (toLe 4 0)
+    none = unfold fixList in unfold span in unfold fixCount in unfold word in unfold numAt in unfold flatten in append-nil (toLe 4 0)
 or-empty (b ∷ s) e = e
 
 none-again : fixList (fixItems 32 []) ≡ orEmpty []
-unfolding orEmpty fixList span word numAt flatten
+unfolding orEmpty fixList span fixCount word numAt flatten
 none-again = append-nil (toLe 4 0)
 
 header-fixed : T (fixed Byte32)
@@ -69,7 +69,7 @@ module _ (s : List ℕ) (h : readable (option Transaction) s ≡ true) where
       none e = sym (option-none CellDeps (rawField s 1) (ap length (ap (λ (x : List ℕ). rawField x 1) e ∙ no-raw 1)))
 
   pub headers-again : AllBytes s → fixList (fixItems 32 (rawField s 2)) ≡ orEmpty (rawField s 2)
-  headers-again b = by-length s none (λ n. or-empty (rawField s 2) (rw hash-size at (again Byte32 header-fixed (rawField s 2) (both n .1) (bytes-raw s 2 b))))
+  headers-again b = by-length s none (λ n. or-empty (rawField s 2) (rw hash-size at (again Byte32 header-fixed (omega (arith, hash-size)) (rawField s 2) (both n .1) (bytes-raw s 2 b))))
     where
       none : s ≡ [] → fixList (fixItems 32 (rawField s 2)) ≡ orEmpty (rawField s 2)
       none e = let q : rawField s 2 ≡ [] = ap (λ (x : List ℕ). rawField x 2) e ∙ no-raw 2 in rw q none-again

@@ -10,7 +10,7 @@ use lib.Dec.{eqb}
 use lib.ListN.{length, take, getD, set, replicate, length-map, List·getD-map}
 use Rattle.arithmetic.specs.LittleEndian.{toLe, AllBytes}
 use Rattle.units.specs.declared.{Millis.Millis}
-use Rattle.molecule.specs.Layout.{span, fixCount}
+use Rattle.molecule.specs.Layout.{span, word}
 use Rattle.molecule.specs.Partial.{All}
 use Rattle.molecule.specs.Write.{putAt, putEnd, Put}
 use Rattle.out_points.specs.OutPoints.{Fit}
@@ -62,7 +62,7 @@ same-hold r = ap (λ (o : Owner). record { point = r .point; owner = o }) (by (r
 
 -- ---- all of them
 
-pub held-read : {s : List ℕ} {g : List Hold} {i n : ℕ} → Reading holdOf s 256 g i → 256 ≤ i → n ≡ fixCount s → _≡_ {A = Held} (record { records = g; count = n }) (heldOf s)
+pub held-read : {s : List ℕ} {g : List Hold} {i n : ℕ} → Reading holdOf s 256 g i → 256 ≤ i → n ≡ word s 0 → _≡_ {A = Held} (record { records = g; count = n }) (heldOf s)
 unfolding heldOf
 held-read r h e = rw (read-end r h, e)
 
@@ -71,7 +71,7 @@ held-whole : (s : List ℕ) → length (heldOf s .records) ≡ 256
 unfolding heldOf
 held-whole s = length-map (places 256 s) holdOf ∙ span-length (placeOf s) 0 256
 
-held-count : (s : List ℕ) → heldOf s .count ≡ fixCount s
+held-count : (s : List ℕ) → heldOf s .count ≡ word s 0
 unfolding heldOf
 held-count s = refl
 
@@ -85,7 +85,7 @@ held-place : (s : List ℕ) (i : ℕ) → i < 256 → getD (heldOf s .records) i
 unfolding heldOf
 held-place s i h = List·getD-map holdOf (places 256 s) i (placeOf s i) ∙ ap holdOf (span-place s (placeOf s i) 0 i 256 h ∙ ap (placeOf s) (zero-add i))
 
-pub sift-start : (f : Hold → Bool) (s : List ℕ) (g : Held) {c n : ℕ} → c ≡ fixCount s → n ≡ min c 256 → length (g .records) ≡ 256 → Keeping f (heldOf s) g n 0 0
+pub sift-start : (f : Hold → Bool) (s : List ℕ) (g : Held) {c n : ℕ} → c ≡ word s 0 → n ≡ min c 256 → length (g .records) ≡ 256 → Keeping f (heldOf s) g n 0 0
 sift-start f s g e h l = keep-into f (heldOf s) g (h ∙ ap (λ (x : ℕ). min x 256) (e ∙ sym (held-count s))) (held-whole s) l
 
 module _ {f : Hold → Bool} (s : List ℕ) {g : Held} {n to i : ℕ} (k : Keeping f (heldOf s) g n to i) {p : Place} {x : Hold} {r : Bool} (h : i < n) (ep : p ≡ placeOf s i) (ex : x ≡ holdOf p) (er : r ≡ f x) where

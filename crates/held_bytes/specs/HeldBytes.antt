@@ -3,7 +3,7 @@ use Prim.Native.Nat.{ℕ, _+_, _*_}
 use mathlib.Core.Bool.{cond}
 use mathlib.Core.List.{List, map}
 use lib.Dec.{eqb}
-use Rattle.molecule.specs.Layout.{fixCount}
+use Rattle.molecule.specs.Layout.{word}
 use Rattle.hold_records.specs.declared.{Owner.Owner, Hold.Hold, Held.Held}
 use Rattle.hold_records.specs.Holds.{recordsOf}
 use Rattle.table_bytes.specs.declared.{Place.Place}
@@ -22,7 +22,7 @@ holdOf p = record { point = p .point; owner = ownerOf (p .kind) (p .number) }
 
 -- the table that lent bytes mean, whatever they are: the count, and 256 places
 unfoldable pub heldOf : List ℕ → Held
-heldOf s = record { records = map holdOf (places 256 s); count = fixCount s }
+heldOf s = record { records = map holdOf (places 256 s); count = word s 0 }
 
 -- and the records of it that stand
 unfoldable pub heldAt : List ℕ → List Hold

@@ -72,7 +72,7 @@ pub fn read_held(s: &[u8]) -> Held
         g.records[i] = x;
         i += 1;
     }
-    g.count = molecule::fix_count(s) as usize;
+    g.count = molecule::word(s, 0) as usize;
     g
 }
 
@@ -82,7 +82,7 @@ pub fn read_kept(s: &[u8], rule: Rule) -> Held
     ensures { λ r. ⌜ r .count ≤ 256 ⌝ }
 {
     let mut g = hold_records::empty();
-    let count = molecule::fix_count(s) as usize;
+    let count = molecule::word(s, 0) as usize;
     let n = hold_records::used(count);
     let mut to: usize = 0;
     let mut i: usize = 0;

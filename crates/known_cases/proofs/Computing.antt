@@ -5,7 +5,7 @@ use Rattle.arithmetic.specs.LittleEndian.{le, toLe, numAt}
 use Rattle.molecule.specs.Partial.{only, pick, there, both, each}
 use Rattle.molecule.specs.Items.{join, unwords, offsets, words, cuts, items, split}
 use Rattle.molecule.specs.Molecule.{encode, size, chunks, pieces, oneByte, decode, readable}
-use Rattle.molecule.specs.Layout.{part, word, start, span, fieldOf, itemCount, itemOf, fixItem, content, entryOf}
+use Rattle.molecule.specs.Layout.{part, word, start, span, fieldOf, itemCount, itemOf, fixCount, fixItem, content, entryOf}
 use Rattle.lists.specs.Lists.{eqBytes, agree, contains, containsAll}
 use Rattle.transaction.specs.Tx.{rawField, witnessesOf, readTx, capacityOf, lockOf, typeOf, firstOf, dataOf}
 use Rattle.rules.specs.Cells.{readOurs, recordAt, readRecords}
@@ -16,5 +16,5 @@ use Rattle.rules.specs.Judge.{judge, txOf, scripts, limits, atFirst, hasLock, n
 use Rattle.units.specs.Fee.{requiredFee}
 
 unfoldable pub computing-updates : Unit {0}
-unfolding encode join unwords offsets flatten toLe le numAt only pick there both each words cuts items split size chunks pieces oneByte decode readable bind part word start span fieldOf itemCount itemOf fixItem content entryOf eqBytes agree contains containsAll rawField witnessesOf readTx capacityOf lockOf typeOf firstOf dataOf readOurs recordAt readRecords check checkWith given _>>=_ _>>_ isEmpty total first figure.capacityOf hasAmount amountOf isOf surplus judge txOf scripts limits atFirst hasLock noDataUntyped comparison live liveCells spent tokenDelta fundingOutputDelta covered counted tally settled account tokenAccount accounts contribution requiredFee
+unfolding encode join unwords offsets flatten toLe le numAt only pick there both each words cuts items split size chunks pieces oneByte decode readable bind part word start span fieldOf itemCount itemOf fixCount fixItem content entryOf eqBytes agree contains containsAll rawField witnessesOf readTx capacityOf lockOf typeOf firstOf dataOf readOurs recordAt readRecords check checkWith given _>>=_ _>>_ isEmpty total first figure.capacityOf hasAmount amountOf isOf surplus judge txOf scripts limits atFirst hasLock noDataUntyped comparison live liveCells spent tokenDelta fundingOutputDelta covered counted tally settled account tokenAccount accounts contribution requiredFee
 computing-updates = tt

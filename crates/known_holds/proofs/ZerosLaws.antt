@@ -9,7 +9,7 @@ use lib.ListN.{length, take, drop, replicate}
 use lib.Seq.{drop-append-add}
 use Rattle.arithmetic.specs.LittleEndian.{toLe}
 use Rattle.arithmetic.proofs.LittleEndianLaws.{length-toLe}
-use Rattle.molecule.specs.Layout.{part, span, fixCount, fixItem}
+use Rattle.molecule.specs.Layout.{part, span, fixItem, word}
 use Rattle.hold_records.specs.declared.{Hold.Hold, Held.Held, Taker.Taker}
 use Rattle.hold_records.specs.Holds.{holdFunding, holdForWatchtower, releaseForWatchtower, lockHeld, unavailable, takeCells}
 use Rattle.table_bytes.specs.declared.{Place.Place}
@@ -54,7 +54,7 @@ place-bytes n i h =
 
 place-is : (n i : ℕ) → i < 256 → placeOf (zeros n) i ≡ nobody
 unfolding placeOf fixItem
-place-is n i h = by (ltb i (fixCount (zeros n)))
+place-is n i h = by (ltb i (word (zeros n) 0))
   where
     by : (b : Bool) → placeAt (cond b (part (zeros n) (4 + 48 * i) (4 + 48 * i + 48)) []) ≡ nobody
     by true = ap placeAt (place-bytes n i h) ∙ zero-bytes
@@ -72,11 +72,11 @@ records-are n i zero h = refl
 records-are n i (suc k) h = rw (place-is n i (omega arith), hold-is, records-are n (suc i) k (omega arith))
 
 abbrev meant : ℕ → Held
-meant n = record { records = ofZeros 256; count = fixCount (zeros n) }
+meant n = record { records = ofZeros 256; count = word (zeros n) 0 }
 
 zeros-mean : (n : ℕ) → heldOf (zeros n) ≡ meant n
 unfolding heldOf
-zeros-mean n = ap (λ (l : List Hold). record { records = l; count = fixCount (zeros n) }) (records-are n 0 256 (omega arith))
+zeros-mean n = ap (λ (l : List Hold). record { records = l; count = word (zeros n) 0 }) (records-are n 0 256 (omega arith))
 
 -- ---- the calls
 

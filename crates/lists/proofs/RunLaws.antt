@@ -10,7 +10,8 @@ use borrow.Author.Tests.{lt-ltb}
 use lib.Dec.{eqb}
 use lib.ListN.{length, take, drop}
 use lib.Seq.{drop-drop, take-nil}
-use Rattle.molecule.specs.Layout.{part, span, word, fixItem, fixItems}
+use Rattle.molecule.specs.Layout.{part, span, word, fixCount, fixItem, fixItems}
+use Rattle.molecule.proofs.LayoutLaws.{fix-count-said}
 use Rattle.lists.specs.Lists.{eqBytes, extends}
 use Rattle.lists.proofs.EqualLaws.{eq-refl}
 
@@ -62,10 +63,10 @@ run a b k i (suc r) (suc s) h p q =
     (ap₂ (λ (u v : List ℕ). eqBytes (take (k * r) u) (take (k * r) v)) (next-run a k i) (next-run b k i)))
 
 -- what fix_extends has at hand
-pub run-short : (a b : List ℕ) (k : ℕ) {m n : ℕ} → m ≡ word a 0 → n ≡ word b 0 → n < m → false ≡ extends (fixItems k a) (fixItems k b)
+pub run-short : (a b : List ℕ) (k : ℕ) {m n : ℕ} → m ≡ fixCount a → n ≡ fixCount b → n < m → false ≡ extends (fixItems k a) (fixItems k b)
 run-short a b k {m} {n} ea eb h = rw (← ea, ← eb) (sym (short (fixItem a k) (fixItem b k) 0 m n h))
 
-pub run-whole : (a b : List ℕ) (k : ℕ) {x y : List ℕ} {m n : ℕ} {r : Bool} → m ≡ word a 0 → n ≡ word b 0 → m ≤ n → x ≡ part a 4 (4 + k * m) → y ≡ part b 4 (4 + k * m)
+pub run-whole : (a b : List ℕ) (k : ℕ) {x y : List ℕ} {m n : ℕ} {r : Bool} → m ≡ fixCount a → n ≡ fixCount b → m ≤ n → x ≡ part a 4 (4 + k * m) → y ≡ part b 4 (4 + k * m)
     → r ≡ eqBytes x y → r ≡ extends (fixItems k a) (fixItems k b)
 unfolding part
 run-whole a b k {x} {y} {m} {n} ea eb h ex ey e =
@@ -73,4 +74,4 @@ run-whole a b k {x} {y} {m} {n} ea eb h ex ey e =
     let o : 4 + k * 0 ≡ 4 = rw (mul-zero k) in
     e ∙ ap₂ eqBytes ex ey
     ∙ ap (λ (j : ℕ). eqBytes (take j (drop 4 a)) (take j (drop 4 b))) z
-    ∙ sym (rw (← ea, ← eb) (run a b k 0 m n h (omega arith) (omega arith) ∙ ap (λ (j : ℕ). eqBytes (take (k * m) (drop j a)) (take (k * m) (drop j b))) o))
+    ∙ sym (rw (← ea, ← eb) (run a b k 0 m n h (omega (arith, fix-count-said a)) (omega (arith, fix-count-said b)) ∙ ap (λ (j : ℕ). eqBytes (take (k * m) (drop j a)) (take (k * m) (drop j b))) o))

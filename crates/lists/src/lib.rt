@@ -184,8 +184,8 @@ pub fn same_script(a: &[u8], b: &[u8]) -> bool
 pub fn fix_extends(a: &[u8], b: &[u8], k: u32) -> bool
     ensures { λ r. ⌜ r ≡ extends (fixItems k (now (a .entry))) (fixItems k (now (b .entry))) ⌝ }
 {
-    let m = molecule::word(a, 0) as usize;
-    let n = molecule::word(b, 0) as usize;
+    let m = molecule::fix_count(a) as usize;
+    let n = molecule::fix_count(b) as usize;
     if n < m {
         return false;
     }

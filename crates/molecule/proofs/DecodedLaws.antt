@@ -1,7 +1,7 @@
 -- What is read by index is what the schema's value says: the items of what is decoded are the parts of its value, written.
 use mathlib.Core.Path.{_≡_, refl, sym, ap, ap₂, _∙_}
 use Prim.Native.Nat.{ℕ, zero, suc, _+_, _-_, _*_, _≤_}
-use native.Mathlib.Nat.{mul-suc}
+use native.Mathlib.Nat.{mul-suc, mul-le-mul-left}
 use native.Mathlib.Omega.{arith}
 use mathlib.Core.List.{List, [], _∷_, _++_, map, flatten}
 use mathlib.Core.Bool.{Bool, true, false, cond, not}
@@ -9,19 +9,20 @@ use mathlib.Core.Option.{Option, none, some, bind-eq-some-iff, Option·none-ne-s
 use borrow.Author.Tests.{lt-ltb, eq-eqb}
 use lib.ListN.{length, take, drop, length-drop}
 use lib.Seq.{drop-drop, take-all}
-use lib.Dec.{T, eqb→eq}
+use lib.Dec.{T, eqb→eq, ltb→lt}
 use mir.Facts.{and-yes}
 use Rattle.arithmetic.specs.LittleEndian.{le, toLe, AllBytes}
 use Rattle.molecule.specs.Partial.{each, All}
 use Rattle.molecule.specs.Items.{split}
-use Rattle.molecule.specs.Molecule.{Ty, byte, array, struct, fixvec, dynvec, table, Fields, end, _&_, Value, Values, size, encode, encodes, chunks, pieces, decode, decodes}
+use Rattle.molecule.specs.Molecule.{Ty, byte, array, struct, fixvec, dynvec, table, option, Fields, end, _&_, Value, Values, size, encode, encodes, chunks, pieces, decode, decodes}
 use Rattle.molecule.proofs.Valid.{fixed, hasBytes, valid}
-use Rattle.molecule.specs.Layout.{part, span, splitsInto, hasItems, fieldOf, itemCount, itemOf, itemsOf, fixCount, fixItem, fixItems, content, entryOf, entriesOf}
+use Rattle.molecule.specs.Layout.{part, word, span, splitsInto, hasItems, fieldOf, itemCount, itemOf, itemsOf, fixCount, fixItem, fixItems, content, entryOf, entriesOf}
 use Rattle.molecule.proofs.PartialLaws.{only-some, both-some, map-each}
 use Rattle.molecule.proofs.ItemsLaws.{split-bytes, bytes-drop}
 use Rattle.molecule.proofs.ChunksLaws.{bytes-chunks, bytes-pieces, chunks-long, flatten-chunks}
 use Rattle.molecule.proofs.MoleculeLaws.{fixed-valid, all-fixed-valid, one-byte, fixvec-read, encode-decode, encodes-decodes}
 use Rattle.molecule.proofs.Offsets.{offsetsOk}
+use Rattle.molecule.proofs.LayoutLaws.{fix-count-word}
 use Rattle.molecule.proofs.HeaderLaws.{word-is, split-is, split-n, count}
 
 -- ---- what is split
@@ -80,28 +81,45 @@ dynvec-decoded t s v e b ok =
     split-items s (c .0) (c .1) ∙ each-decoded t ok′ (c .0) v (split-bytes s (c .0) b (c .1)) (c .2)
 
 -- the items of a fixvec by index are the pieces behind its count
-span-chunks : (k : ℕ) (s : List ℕ) (m i : ℕ) → i + m ≡ fixCount s → span (fixItem s k) i m ≡ chunks m k (drop (4 + k * i) s)
+span-chunks : (k : ℕ) (s : List ℕ) (m i : ℕ) → i + m ≤ word s 0 → span (fixItem s k) i m ≡ chunks m k (drop (4 + k * i) s)
 unfolding span chunks fixItem part
 span-chunks k s zero i e = refl
 span-chunks k s (suc m) i e =
     let z : 4 + k * i + k - (4 + k * i) ≡ k = omega arith in
     let y : 4 + k * i + k ≡ 4 + k * suc i = omega (arith, mul-suc k i) in
-    ap₂ _∷_ (rw (lt-ltb i (fixCount s) (omega arith), z))
+    ap₂ _∷_ (rw (lt-ltb i (word s 0) (omega arith), z))
     (span-chunks k s m (suc i) (omega arith) ∙ ap (chunks m k) (ap (λ (j : ℕ). drop j s) (sym y) ∙ sym (drop-drop k (4 + k * i) s)))
 
-pub fix-chunks : (k : ℕ) (s : List ℕ) → 4 ≤ length s → fixItems k s ≡ chunks (le (take 4 s)) k (drop 4 s)
-fix-chunks k s h =
+-- a fixvec that is read has no more items than bytes
+pub items-few : (w k : ℕ) {l : ℕ} → 1 ≤ k → l ≡ 4 + w * k → w ≤ l
+items-few w k h e = omega (arith, mul-le-mul-left w h)
+
+pub has-size : (t : Ty) → T (fixed t) → T (hasBytes t) → 1 ≤ size t
+unfolding fixed hasBytes size
+has-size byte f h = omega arith
+has-size (array t n) f h = ltb→lt _ _ h
+has-size (struct ts) f h = ltb→lt _ _ h
+has-size (fixvec t) f h = absurd f
+has-size (dynvec t) f h = absurd f
+has-size (table ts) f h = absurd f
+has-size (option t) f h = absurd f
+
+pub fix-chunks : (k : ℕ) (s : List ℕ) → 4 ≤ length s → le (take 4 s) ≤ length s → fixItems k s ≡ chunks (le (take 4 s)) k (drop 4 s)
+fix-chunks k s h few =
+    let w : le (take 4 s) ≡ word s 0 = word-is s 0 (omega arith) in
+    let n : fixCount s ≡ word s 0 = fix-count-word s (omega arith) in
     let z : 4 + k * 0 ≡ 4 = omega arith in
     span-chunks k s (fixCount s) 0 (omega arith)
-    ∙ ap₂ (λ (n j : ℕ). chunks n k (drop j s)) (sym (word-is s 0 (omega arith))) z
+    ∙ ap₂ (λ (n j : ℕ). chunks n k (drop j s)) (n ∙ sym w) z
 
 pub fixvec-decoded : (t : Ty) (s : List ℕ) (v : List (Value t)) → decode (fixvec t) s ≡ some v → AllBytes s → T (valid (fixvec t))
     → fixItems (size t) s ≡ map (λ x. encode t x) v
 unfolding valid
 fixvec-decoded t s v e b ok =
     let r = fixvec-read t s v e in
-    let ok′ = fixed-valid t (and-yes (fixed t) (hasBytes t) ok .0) in
-    fix-chunks (size t) s (r .four)
+    let sized = and-yes (fixed t) (hasBytes t) ok in
+    let ok′ = fixed-valid t (sized .0) in
+    fix-chunks (size t) s (r .four) (items-few (le (take 4 s)) (size t) (has-size t (sized .0) (sized .1)) (r .long))
     ∙ each-decoded t ok′ _ v (bytes-chunks (le (take 4 s)) (size t) (drop 4 s) (bytes-drop 4 s b)) (r .items)
 
 -- ---- bytes

@@ -1,12 +1,12 @@
 -- The header by index is the header of the schema: `split` has a result exactly where `offsetsOk` holds, and then it is the items. So the tests
 -- by index are those of `readable`, one law for each kind of type.
 use mathlib.Core.Path.{_≡_, refl, sym, ap, ap₂, _∙_, subst}
-use Prim.Native.Nat.{ℕ, zero, suc, _+_, _-_, _*_, _/_, _%_, _^_, _≤_, _<_}
+use Prim.Native.Nat.{ℕ, zero, suc, _+_, _-_, _*_, _/_, _%_, _^_, _≤_, _<_, min}
 use mathlib.Core.List.{List, [], _∷_}
 use mathlib.Core.Bool.{Bool, true, false, cond, _&&_, and-true, and-false, and-assoc, and-eq-true-iff, false≢true}
 use mathlib.Core.Option.{Option, none, some, Option·map, map-eq-some-iff}
 use mathlib.Core.Logic.{_≢_}
-use native.Mathlib.Nat.{mul-comm}
+use native.Mathlib.Nat.{mul-comm, suc-mul, mul-le-mul-right}
 use native.Mathlib.Decide.{decLt}
 use native.Mathlib.Omega.{arith}
 use borrow.Author.Tests.{le-leb, lt-ltb, le-ltb, eq-eqb, ne-eqb, leb-true, eqb-true, eqb-false}
@@ -14,8 +14,8 @@ use mir.Facts.{yes-leb, no-leb, yes-eqb, no-eqb}
 use lib.ListN.{length, take, drop, length-drop}
 use lib.Seq.{drop-drop, take-all}
 use lib.Dec.{T, leb, eqb, ltb, leb→le}
-use Rattle.arithmetic.specs.LittleEndian.{le}
-use Rattle.arithmetic.proofs.LittleEndianLaws.{num-some}
+use Rattle.arithmetic.specs.LittleEndian.{le, u32At}
+use Rattle.arithmetic.proofs.LittleEndianLaws.{num-none, num-some}
 use Rattle.molecule.specs.Partial.{only}
 use Rattle.molecule.specs.Items.{cuts, words, items, split}
 use Rattle.molecule.specs.Molecule.{Ty, fixvec, dynvec, table, Fields, end, _&_, size, readable}
@@ -167,10 +167,15 @@ other-size s four h =
     let z : le (take 4 s) ≢ length s = λ e. h (sym (word-is s 0 (omega arith)) ∙ e) in
     both-none s (only-yes _ _ (yes-leb four) ∙ only-no _ _ (no-eqb z)) (simp (ne-eqb (word s 0) (length s) h, and-false))
 
+-- a size alone has no items
+count-none : (s : List ℕ) → length s ≡ 4 → itemCount s ≡ 0
+unfolding itemCount word
+count-none s h = let z : 0 ≡ u32At s (4 * 1) = num-none 4 s (4 * 1) (omega arith) in omega arith
+
 no-item : (s : List ℕ) → length s ≡ 4 → word s 0 ≡ length s → Whole s
 unfolding split offsetsOk start upTo span
 no-item s h w =
-    let c : itemCount s ≡ 0 = unfold itemCount in rw (eq-eqb (length s) 4 h) in
+    let c : itemCount s ≡ 0 = count-none s h in
     let four : 4 ≤ length s = omega arith in
     let z : le (take 4 s) ≡ length s = word-is s 0 (omega arith) ∙ w in
     only-yes _ _ (yes-leb four) ∙ only-yes _ _ (yes-eqb z) ∙ pick-yes _ _ _ (yes-eqb h)
@@ -186,9 +191,9 @@ module _ (s : List ℕ) (four : 4 ≤ length s) (w : word s 0 ≡ length s) (mor
       let z : le (take 4 s) ≡ length s = word-is s 0 (omega arith) ∙ w in
       only-yes _ _ (yes-leb four) ∙ only-yes _ _ (yes-eqb z) ∙ pick-no _ _ _ (no-eqb more)
 
-  count-is : itemCount s ≡ word s 1 / 4 - 1
+  count-is : word s 1 ≤ length s → itemCount s ≡ word s 1 / 4 - 1
   unfolding itemCount
-  count-is = rw (ne-eqb (length s) 4 more)
+  count-is l = omega arith
 
   first-is : 8 ≤ length s → word s 1 ≡ h
   unfolding h
@@ -215,7 +220,7 @@ module _ (s : List ℕ) (four : 4 ≤ length s) (w : word s 0 ≡ length s) (mor
   unfolding offsetsOk itemOf
   good m e l =
       let k : word s 1 ≡ h = first-is (omega arith) in
-      let c : itemCount s ≡ suc m = count-is ∙ omega arith in
+      let c : itemCount s ≡ suc m = count-is (omega arith) ∙ omega arith in
       let room : 4 + 4 * suc m ≤ length s = omega arith in
       let f : start s (suc m) 0 ≡ 4 + 4 * suc m = sym (start-in s (suc m) 0 (omega arith) refl) ∙ k ∙ omega arith in
       let g : start s (suc m) 0 ≡ h = f ∙ omega arith in
@@ -272,12 +277,11 @@ count-right s zero h =
     let o = offsets-parts s 0 h in
     let z : length s ≡ start s 0 0 = start-out s 0 0 (omega arith) in
     let four : length s ≡ 4 = omega (arith, o .first) in
-    rw (eq-eqb (length s) 4 four)
+    count-none s four
 count-right s (suc m) h =
     let o = offsets-parts s (suc m) h in
     let w : word s 1 ≡ 4 + 4 * suc m = first-offset s m h in
-    let more : length s ≢ 4 = λ q. omega (arith, o .room) in
-    rw (ne-eqb (length s) 4 more) (omega arith)
+    omega (arith, o .room)
 
 pub offsets-has : (s : List ℕ) (n : ℕ) → offsetsOk s n ≡ hasItems s n
 unfolding hasItems splitsInto itemOf
@@ -353,14 +357,41 @@ dynvec-readable t s =
     holds-cond true = refl
     holds-cond false = refl
 
-pub fixvec-readable : (t : Ty) → T (fixed t) → (s : List ℕ)
-    → readable (fixvec t) s ≡ (ltb (length s) (2 ^ 32) && leb 4 (length s) && eqb (length s) (4 + size t * fixCount s))
-fixvec-readable t ok s = readable-fixvec t ok s ∙ by (leb 4 (length s)) refl
+-- by the count that the first word says
+pub fixvec-says : (t : Ty) → T (fixed t) → (s : List ℕ)
+    → readable (fixvec t) s ≡ (ltb (length s) (2 ^ 32) && leb 4 (length s) && eqb (length s) (4 + size t * word s 0))
+fixvec-says t ok s = readable-fixvec t ok s ∙ by (leb 4 (length s)) refl
   where
     by : (b : Bool) → leb 4 (length s) ≡ b
-        → (ltb (length s) (2 ^ 32) && b && eqb (length s) (4 + le (take 4 s) * size t)) ≡ (ltb (length s) (2 ^ 32) && b && eqb (length s) (4 + size t * fixCount s))
+        → (ltb (length s) (2 ^ 32) && b && eqb (length s) (4 + le (take 4 s) * size t)) ≡ (ltb (length s) (2 ^ 32) && b && eqb (length s) (4 + size t * word s 0))
     by true e =
         let four : 4 ≤ length s = leb-true 4 (length s) e in
         ap (λ (m : ℕ). ltb (length s) (2 ^ 32) && true && eqb (length s) (4 + m))
         (ap (λ (w : ℕ). w * size t) (word-is s 0 (omega arith)) ∙ mul-comm (word s 0) (size t))
     by false e = simp and-false
+
+-- the bound on the count changes no answer: a count that is cut off is wrong with and without it
+within-same : (k w l : ℕ) → eqb l (4 + k * w) ≡ eqb l (4 + k * min w l)
+within-same zero w l = ap (eqb l) (omega arith)
+within-same (suc k) w l =
+    elim (decLt l w) [
+      | yes p ↦
+          let m : min w l ≡ l = omega arith in
+          let far : l ≢ 4 + suc k * w = λ q. omega (arith, suc-mul k w) in
+          let past : l ≢ 4 + suc k * l = λ q. omega (arith, suc-mul k l) in
+          ne-eqb _ _ far ∙ sym (rw m (ne-eqb _ _ past))
+      | no p ↦ let m : min w l ≡ w = omega arith in rw m
+    ]
+
+pub fixvec-readable : (t : Ty) → T (fixed t) → (s : List ℕ)
+    → readable (fixvec t) s ≡ (ltb (length s) (2 ^ 32) && leb 4 (length s) && eqb (length s) (4 + size t * fixCount s))
+unfolding fixCount
+fixvec-readable t ok s = fixvec-says t ok s ∙ ap (λ (b : Bool). ltb (length s) (2 ^ 32) && leb 4 (length s) && b) (within-same (size t) (word s 0) (length s))
+
+-- of items that have bytes a fixvec that is read has as many as its first word says
+pub fixvec-count : (t : Ty) → T (fixed t) → 1 ≤ size t → (s : List ℕ) → readable (fixvec t) s ≡ true → fixCount s ≡ word s 0
+unfolding fixCount
+fixvec-count t ok one s h =
+    let a = and-eq-true-iff (ltb (length s) (2 ^ 32) && leb 4 (length s)) (eqb (length s) (4 + size t * word s 0)) .0 (sym (fixvec-says t ok s) ∙ h) in
+    let e : length s ≡ 4 + size t * word s 0 = eqb-true _ _ (a .1) in
+    omega (arith, mul-le-mul-right (word s 0) one)

@@ -4,12 +4,12 @@ use Prim.Native.Nat.{ℕ, zero, suc, _+_, _-_, _*_, _/_, _≤_, _<_, min}
 use mathlib.Core.List.{List, [], _∷_}
 use mathlib.Core.Bool.{Bool, true, false, cond}
 use mathlib.Core.Logic.{_⊎_, inl, inr, ⊎-elim}
-use native.Mathlib.Nat.{mul-le-mul}
+use native.Mathlib.Nat.{mul-le-mul, suc-mul}
 use native.Mathlib.Omega.{arith}
-use borrow.Author.Tests.{lt-ltb, le-ltb, eq-eqb, ne-eqb}
+use borrow.Author.Tests.{lt-ltb, le-ltb}
 use mir.Syntax.{w32, w64}
 use mir.Val.{Fits}
-use lib.Dec.{eqb}
+use lib.Dec.{ltb}
 use lib.ListN.{length, take, drop, length-drop, drop-of-length-le}
 use lib.Seq.{take-all, take-nil}
 use Rattle.arithmetic.specs.LittleEndian.{u32At, AllBytes}
@@ -111,23 +111,20 @@ no-field n i = part-none [] (start [] n i) (start [] n (i + 1)) (omega arith)
 pub field-length : (s : List ℕ) (n i : ℕ) {f : List ℕ} → f ≡ fieldOf s n i → length f ≡ length (fieldOf s n i)
 field-length s n i e = ap length e
 
-same-either {ℓ} : {A : Type ℓ} {a : A} (b : Bool) → cond b a a ≡ a
-same-either true = refl
-same-either false = refl
-
-pub count-none : (s : List ℕ) → length s ≡ 4 → 0 ≡ itemCount s
+-- no more than the bytes have numbers
+pub item-count-within : (s : List ℕ) → itemCount s ≤ length s / 4
 unfolding itemCount
-count-none s h = simp (eq-eqb _ _ h)
+item-count-within s = omega arith
 
 -- w is the second word
 module _ (s : List ℕ) {w : ℕ} (e : w ≡ word s 1) where
   pub count-small : w < 8 → 0 ≡ itemCount s
   unfolding itemCount
-  count-small h = let q : word s 1 / 4 - 1 ≡ 0 = omega arith in sym (rw q (same-either (eqb (length s) 4)))
+  count-small h = omega arith
 
-  pub count-is : (length s ≡ 4 → ⊥) → w / 4 - 1 ≡ itemCount s
+  pub count-is : {n : ℕ} → n ≡ min (w / 4 - 1) (length s / 4) → n ≡ itemCount s
   unfolding itemCount
-  count-is h = rw (← e) (simp (ne-eqb _ _ h))
+  count-is h = rw (← e) h
 
 -- n is what `item_count` gave
 module _ (s : List ℕ) (i : ℕ) {n : ℕ} (e : n ≡ itemCount s) where
@@ -170,6 +167,31 @@ module _ (a b : ℕ) (ha : Fits w32 a) where
   end-below n hn h = omega (arith, mul32 a b (omega arith) (omega arith))
 
 -- n is what `word` gave
+module _ (s : List ℕ) {n : ℕ} (e : n ≡ word s 0) where
+  pub fix-count-is : {r : ℕ} → r ≡ min n (length s) → r ≡ fixCount s
+  unfolding fixCount
+  fix-count-is h = rw (← e) h
+
+-- no more than the bytes, and than the first word
+module _ (s : List ℕ) where
+  pub fix-count-within : fixCount s ≤ length s
+  unfolding fixCount
+  fix-count-within = omega arith
+
+  pub fix-count-said : fixCount s ≤ word s 0
+  unfolding fixCount
+  fix-count-said = omega arith
+
+  -- where there are more bytes than items the count is what the first word says
+  pub fix-count-word : word s 0 ≤ length s → fixCount s ≡ word s 0
+  unfolding fixCount
+  fix-count-word h = omega arith
+
+  pub fix-count-below : fixCount s < length s → fixCount s ≡ word s 0
+  unfolding fixCount
+  fix-count-below h = omega arith
+
+-- n is what `word` gave
 module _ (s : List ℕ) (k i : ℕ) {n : ℕ} (e : n ≡ word s 0) where
   pub fix-out : {f : List ℕ} → n ≤ i → f ≡ part s 0 0 → f ≡ fixItem s k i
   unfolding fixItem
@@ -186,6 +208,19 @@ module _ (s : List ℕ) (k i : ℕ) {n : ℕ} (e : n ≡ word s 0) where
   pub fix-in-place : (p : ℕ × ℕ) {q : ℕ × ℕ} → i < n → q ≡ inside p (partStart s (4 + k * i) (4 + k * i + k)) → q ≡ inside p (fixStart s k i)
   unfolding fixStart
   fix-in-place p h g = g ∙ rw (← e) (simp (lt-ltb _ _ h))
+
+-- past the count there is no item
+pub fix-past : (s : List ℕ) (k i : ℕ) → fixCount s ≤ i → fixItem s k i ≡ []
+unfolding fixItem fixCount
+fix-past s k i h = by (le-or-lt (word s 0) i)
+  where
+    out : (j : ℕ) → length s ≤ i → part s (4 + j * i) (4 + j * i + j) ≡ []
+    out zero l = part-none s (4 + 0 * i) (4 + 0 * i + 0) (omega arith)
+    out (suc j) l = part-none s (4 + suc j * i) (4 + suc j * i + suc j) (omega (arith, suc-mul j i))
+
+    by : (word s 0 ≤ i) ⊎ (i < word s 0) → cond (ltb i (word s 0)) (part s (4 + k * i) (4 + k * i + k)) [] ≡ []
+    by (inl p) = simp (le-ltb i (word s 0) p)
+    by (inr p) = simp (lt-ltb i (word s 0) p) (out k (omega arith))
 
 -- ---- bytes
 

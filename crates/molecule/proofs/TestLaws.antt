@@ -13,7 +13,7 @@ use Rattle.molecule.proofs.Valid.{fixed}
 use Rattle.molecule.specs.Layout.{part, word, start, hasHeader, hasItems, fieldOf, itemCount, itemOf}
 use Rattle.molecule.proofs.Offsets.{upTo, inOrder, offsetsOk, up-stop}
 use Rattle.molecule.proofs.LayoutLaws.{field-is, item-is}
-use Rattle.molecule.proofs.HeaderLaws.{offsets-has, dynvec-readable, fixvec-readable}
+use Rattle.molecule.proofs.HeaderLaws.{offsets-has, dynvec-readable, fixvec-says, fixvec-readable}
 
 -- ---- a header of n items
 
@@ -94,12 +94,12 @@ module _ (s : List ℕ) (k : ℕ) where
 
   -- n is what `word` gave
   pub fix-other : {n : ℕ} → n ≡ word s 0 → (length s ≡ 4 + k * n → ⊥) → false ≡ readable (fixvec (array byte k)) s
-  fix-other e h = sym (fixvec-readable (array byte k) bytes-fixed s ∙ rw (bytes-size, ← e) (simp (ne-eqb _ _ h, and-false)))
+  fix-other e h = sym (fixvec-says (array byte k) bytes-fixed s ∙ rw (bytes-size, ← e) (simp (ne-eqb _ _ h, and-false)))
 
   pub fix-is : {n : ℕ} → 4 ≤ length s → length s ≤ 4294967295 → n ≡ word s 0 → length s ≡ 4 + k * n → true ≡ readable (fixvec (array byte k)) s
   fix-is f l e h =
       let b : length s < 2 ^ 32 = omega arith in
-      sym (fixvec-readable (array byte k) bytes-fixed s ∙ rw (bytes-size, ← e) (simp (lt-ltb (length s) (2 ^ 32) b, le-leb 4 (length s) f, eq-eqb _ _ h)))
+      sym (fixvec-says (array byte k) bytes-fixed s ∙ rw (bytes-size, ← e) (simp (lt-ltb (length s) (2 ^ 32) b, le-leb 4 (length s) f, eq-eqb _ _ h)))
 
 -- any items of k bytes are as good as an array of k bytes
 pub fix-as : (t : Ty) → T (fixed t) → (k : ℕ) → size t ≡ k → (s : List ℕ) {r : Bool} → r ≡ readable (fixvec (array byte k)) s → r ≡ readable (fixvec t) s

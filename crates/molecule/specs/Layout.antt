@@ -54,9 +54,10 @@ fieldOf s n i = part s (start s n i) (start s n (i + 1))
 unfoldable pub fieldStart : List ℕ → ℕ → ℕ → ℕ
 fieldStart s n i = partStart s (start s n i) (start s n (i + 1))
 
--- how many items a dynvec says it has: an empty one is its size alone
+-- how many items a dynvec says it has in its first offset (an empty one is its size alone, and has none), but no more than it has numbers of four
+-- bytes: so a count that bytes only claim is no longer than they are, and one that is cut off here has no header
 unfoldable pub itemCount : List ℕ → ℕ
-itemCount s = cond (eqb (length s) 4) 0 (word s 1 / 4 - 1)
+itemCount s = min (word s 1 / 4 - 1) (length s / 4)
 
 unfoldable pub itemOf : List ℕ → ℕ → List ℕ
 itemOf s i = fieldOf s (itemCount s) i
@@ -69,14 +70,16 @@ itemsOf s = span (itemOf s) 0 (itemCount s)
 
 -- ---- a fixvec of items of k bytes
 
-abbrev pub fixCount : List ℕ → ℕ
-fixCount s = word s 0
+-- how many items it says it has, but no more than it has bytes
+unfoldable pub fixCount : List ℕ → ℕ
+fixCount s = min (word s 0) (length s)
 
+-- past the bytes an item is empty (`fix-past`)
 unfoldable pub fixItem : List ℕ → ℕ → ℕ → List ℕ
-fixItem s k i = cond (ltb i (fixCount s)) (part s (4 + k * i) (4 + k * i + k)) []
+fixItem s k i = cond (ltb i (word s 0)) (part s (4 + k * i) (4 + k * i + k)) []
 
 unfoldable pub fixStart : List ℕ → ℕ → ℕ → ℕ
-fixStart s k i = cond (ltb i (fixCount s)) (partStart s (4 + k * i) (4 + k * i + k)) 0
+fixStart s k i = cond (ltb i (word s 0)) (partStart s (4 + k * i) (4 + k * i + k)) 0
 
 abbrev pub fixItems : ℕ → List ℕ → List (List ℕ)
 fixItems k s = span (fixItem s k) 0 (fixCount s)

@@ -94,18 +94,16 @@ pub fn field_len(s: &[u8], n: usize, i: usize) -> usize
     field(s, n, i).len()
 }
 
-// How many items a dynvec says that it has.
+// How many items a dynvec says that it has, but no more than it has numbers: who counts by it takes time by the bytes.
 pub fn item_count(s: &[u8]) -> u32
     ensures { λ r. ⌜ r ≡ itemCount (now (s .entry)) ⌝ }
 {
-    if s.len() == 4 {
-        return 0;
-    }
     let first = word(s, 1);
     if first < 8 {
         return 0;
     }
-    first / 4 - 1
+    let said = (first / 4 - 1) as usize;
+    sizes::min(said, s.len() / 4) as u32
 }
 
 // Item i of a dynvec.
@@ -135,11 +133,12 @@ pub fn is_fixvec(s: &[u8], k: u32) -> bool
     false
 }
 
-// How many items a fixvec says that it has.
+// How many items a fixvec says that it has, but no more than it has bytes.
 pub fn fix_count(s: &[u8]) -> u32
     ensures { λ r. ⌜ r ≡ fixCount (now (s .entry)) ⌝ }
 {
-    word(s, 0)
+    let said = word(s, 0) as usize;
+    sizes::min(said, s.len()) as u32
 }
 
 // Item i of a fixvec of items of k bytes.

@@ -13,6 +13,7 @@ use Rattle.arithmetic.proofs.LittleEndianLaws.{num-some, toLe-le, le-toLe, leng
 use Rattle.molecule.specs.Layout.{part, span, word, fixCount, fixItem}
 use Rattle.molecule.specs.Molecule.{readable}
 use Rattle.molecule.proofs.ItemsLaws.{bytes-take, bytes-drop}
+use Rattle.molecule.proofs.LayoutLaws.{fix-count-said, fix-count-word, fix-count-below}
 use Rattle.lists.proofs.RunLaws.{item-run, next-run}
 use Rattle.molecule.specs.Partial.{All}
 use Rattle.transaction.specs.Ckb.{OutPoints as OutPointsForm}
@@ -20,7 +21,7 @@ use Rattle.out_points.specs.declared.{OutPoint.OutPoint}
 use Rattle.out_points.specs.OutPoints.{byte32At, outPointAt, pointOf, points, hashBytes, pointBytes, bytesOf, pointList, Fit}
 use Rattle.out_points.specs.Tables.{written}
 use Rattle.out_points.proofs.PointLaws.{length-point}
-use Rattle.out_points.proofs.ListLaws.{length-points, readable-length}
+use Rattle.out_points.proofs.ListLaws.{length-points, length-list, readable-length}
 
 -- a number that was read, written
 pub word-again : (k : ℕ) (s : List ℕ) (at : ℕ) → AllBytes s → at + k ≤ length s → toLe k (numAt k s at) ≡ take k (drop at s)
@@ -49,7 +50,7 @@ pub bytes-again : (s : List ℕ) (i k : ℕ) → AllBytes s → i + k ≤ fixCou
 unfolding bytesOf span pointOf
 bytes-again s i zero b h l = refl
 bytes-again s i (suc k) b h l =
-    let e : fixItem s 36 i ≡ take 36 (drop (4 + 36 * i) s) = item-run s 36 i (omega arith) in
+    let e : fixItem s 36 i ≡ take 36 (drop (4 + 36 * i) s) = item-run s 36 i (omega (arith, fix-count-said s)) in
     let n : length (take 36 (drop (4 + 36 * i) s)) ≡ 36 = length-take-le 36 (drop (4 + 36 * i) s) (rw (length-drop (4 + 36 * i) s) (omega arith)) in
     let m : 36 * suc k ≡ 36 + 36 * k = omega arith in
     ap₂ (λ (x y : List ℕ). x ++ y)
@@ -62,7 +63,7 @@ unfolding pointList word
 list-again s b h =
     let n : length s ≡ 4 + 36 * fixCount s = readable-length s h in
     ap₂ (λ (x y : List ℕ). x ++ y)
-    (ap (toLe 4) (length-points s) ∙ word-again 4 s 0 b (omega arith))
+    (ap (toLe 4) (length-points s ∙ fix-count-below s (omega arith)) ∙ word-again 4 s 0 b (omega arith))
     (bytes-again s 0 (fixCount s) b (omega arith) (omega arith))
     ∙ sym (sym (take-length s) ∙ ap (λ (x : ℕ). take x s) n ∙ take-add 4 (36 * fixCount s) s)
 
@@ -102,7 +103,7 @@ point-back p ys f =
 
 -- items of any form of w bytes that are written one after the other, from item i on
 pub items-back : {A : Type 0} (Fits : A → Type 0) (read : List ℕ → A) (bytes : A → List ℕ) (w : ℕ) → ((x : A) → length (bytes x) ≡ w) → ((x : A) → Fits x → read (bytes x) ≡ x)
-    → (s z : List ℕ) (i : ℕ) (l : List A) → i + length l ≤ fixCount s → drop (4 + w * i) s ≡ flatten (map bytes l) ++ z → All Fits l
+    → (s z : List ℕ) (i : ℕ) (l : List A) → i + length l ≤ word s 0 → drop (4 + w * i) s ≡ flatten (map bytes l) ++ z → All Fits l
     → span (λ j. read (fixItem s w j)) i (length l) ≡ l
 unfolding span flatten
 items-back Fits read bytes w long back s z i [] n e f = refl
@@ -117,7 +118,7 @@ unfolding bytesOf flatten
 bytes-flat [] = refl
 bytes-flat (p ∷ l) = ap (λ (x : List ℕ). pointBytes p ++ x) (bytes-flat l)
 
-points-back : (s z : List ℕ) (i : ℕ) (l : List OutPoint) → i + length l ≤ fixCount s → drop (4 + 36 * i) s ≡ bytesOf l ++ z → All Fit l → span (pointOf s) i (length l) ≡ l
+points-back : (s z : List ℕ) (i : ℕ) (l : List OutPoint) → i + length l ≤ word s 0 → drop (4 + 36 * i) s ≡ bytesOf l ++ z → All Fit l → span (pointOf s) i (length l) ≡ l
 unfolding pointOf
 points-back s z i l n e f =
     items-back Fit (λ x. outPointAt x 0) pointBytes 36 length-point (λ p g. ap (λ (x : List ℕ). outPointAt x 0) (sym (append-nil (pointBytes p))) ∙ point-back p [] g)
@@ -129,9 +130,10 @@ unfolding pointList word
 list-before l z h f =
     let s : List ℕ = toLe 4 (length l) ++ bytesOf l ++ z in
     let g : s ≡ toLe 4 (length l) ++ (bytesOf l ++ z) = append-assoc (toLe 4 (length l)) (bytesOf l) z in
-    let n : fixCount s ≡ length l = ap fixCount g ∙ word-back 4 (length l) [] (bytesOf l ++ z) 0 refl h in
-    ap (span (pointOf s) 0) n
-    ∙ points-back s z 0 l (omega (arith, n)) (ap (drop 4) g ∙ behind (toLe 4 (length l)) (bytesOf l ++ z) 4 (length-toLe 4 (length l))) f
+    let w : word s 0 ≡ length l = ap (λ (x : List ℕ). word x 0) g ∙ word-back 4 (length l) [] (bytesOf l ++ z) 0 refl h in
+    let m : length s ≡ 4 + 36 * length l + length z = length-append (pointList l) z ∙ ap (λ (n : ℕ). n + length z) (length-list l) in
+    ap (span (pointOf s) 0) (fix-count-word s (omega arith) ∙ w)
+    ∙ points-back s z 0 l (omega arith) (ap (drop 4) g ∙ behind (toLe 4 (length l)) (bytesOf l ++ z) 4 (length-toLe 4 (length l))) f
 
 pub list-back : (l : List OutPoint) → length l < 2 ^ 32 → All Fit l → points (pointList l) ≡ l
 list-back l h f = ap points (sym (append-nil (pointList l))) ∙ list-before l [] h f
@@ -160,7 +162,7 @@ point-fits s b = record { a-fits = num-fits 8 s 0 b; b-fits = num-fits 8 s 8 b; 
 
 pub item-bytes : (s : List ℕ) (w i : ℕ) → AllBytes s → AllBytes (fixItem s w i)
 unfolding fixItem part
-item-bytes s w i b = by (ltb i (fixCount s))
+item-bytes s w i b = by (ltb i (word s 0))
   where
     by : (t : Bool) → AllBytes (cond t (take (4 + w * i + w - (4 + w * i)) (drop (4 + w * i) s)) [])
     by true = bytes-take (4 + w * i + w - (4 + w * i)) (drop (4 + w * i) s) (bytes-drop (4 + w * i) s b)
@@ -176,4 +178,4 @@ points-fit s b = span-fits s 0 (fixCount s) b
 
 pub count-fits : (s : List ℕ) → AllBytes s → fixCount s < 2 ^ 32
 unfolding word
-count-fits s b = num-fits 4 s 0 b
+count-fits s b = let h : word s 0 < 2 ^ 32 = num-fits 4 s 0 b in omega (arith, fix-count-said s)

@@ -10,7 +10,8 @@ use lib.ListN.{length, take, drop, length-take, length-drop}
 use lib.Seq.{take-take}
 use Rattle.arithmetic.specs.LittleEndian.{le, numAt, u64At}
 use Rattle.arithmetic.proofs.LittleEndianLaws.{num-none, num-some}
-use Rattle.molecule.specs.Layout.{span, fixCount, fixItem}
+use Rattle.molecule.specs.Layout.{span, word, fixCount, fixItem}
+use Rattle.molecule.proofs.LayoutLaws.{fix-count-said}
 use Rattle.lists.proofs.RunLaws.{item-run}
 use Rattle.lists.proofs.SpanLaws.{span-on, span-end, span-whole}
 use Rattle.out_points.specs.declared.{Byte32.Byte32, OutPoint.OutPoint}
@@ -59,11 +60,11 @@ num-front k w s at z h = by (leb (at + k) (length s)) refl
 
 -- an item of a lent list, by its first word and whole
 module _ (s : List ℕ) (i : ℕ) where
-  pub word-none : {n : ℕ} → n ≡ fixCount s → n ≤ i → 0 ≡ pointOf s i .hash .a
+  pub word-none : {n : ℕ} → n ≡ word s 0 → n ≤ i → 0 ≡ pointOf s i .hash .a
   unfolding pointOf outPointAt byte32At fixItem
-  word-none e h = rw (le-ltb i (fixCount s) (omega arith)) (num-none 8 [] 0 (omega arith))
+  word-none e h = rw (le-ltb i (word s 0) (omega arith)) (num-none 8 [] 0 (omega arith))
 
-  pub word-some : {n a : ℕ} → n ≡ fixCount s → i < n → a ≡ u64At s (4 + 36 * i) → a ≡ pointOf s i .hash .a
+  pub word-some : {n a : ℕ} → n ≡ word s 0 → i < n → a ≡ u64At s (4 + 36 * i) → a ≡ pointOf s i .hash .a
   unfolding pointOf outPointAt byte32At
   word-some e h f = f ∙ sym (ap (λ (y : List ℕ). u64At y 0) (item-run s 36 i (omega arith)) ∙ num-front 8 36 s (4 + 36 * i) (omega arith) (omega arith))
 
@@ -77,7 +78,7 @@ module _ (s : List ℕ) (i : ℕ) where
 -- the same of an item that stands whole
 module _ (s : List ℕ) (i : ℕ) (p : OutPoint) {x : List ℕ} (h : i < fixCount s) (e : x ≡ take (40 + 36 * i - (4 + 36 * i)) (drop (4 + 36 * i) s)) where
   whole : x ≡ fixItem s 36 i
-  whole = let z : 40 + 36 * i - (4 + 36 * i) ≡ 36 = omega arith in e ∙ ap (λ (n : ℕ). take n (drop (4 + 36 * i) s)) z ∙ sym (item-run s 36 i h)
+  whole = let z : 40 + 36 * i - (4 + 36 * i) ≡ 36 = omega arith in e ∙ ap (λ (n : ℕ). take n (drop (4 + 36 * i) s)) z ∙ sym (item-run s 36 i (omega (arith, fix-count-said s)))
 
   pub within-word : {a : ℕ} → a ≡ u64At x 0 → (p .hash .a ≡ a → ⊥) → false ≡ eqPoint p (pointOf s i)
   unfolding pointOf outPointAt byte32At

@@ -105,7 +105,7 @@ pub fn point_of(s: &[u8], i: usize) -> OutPoint
 pub fn first_word(s: &[u8], i: usize) -> u64
     ensures { λ r. ⌜ r ≡ pointOf (now (s .entry)) i .hash .a ⌝ }
 {
-    let n = molecule::fix_count(s) as usize;
+    let n = molecule::word(s, 0) as usize;
     if n <= i {
         return 0;
     }

@@ -13,7 +13,7 @@ use Rattle.molecule.specs.Molecule.{Ty, fixvec, dynvec, size, readable}
 use Rattle.molecule.specs.Layout.{word, hasItems, fieldOf, fieldStart, itemCount, itemOf, fixCount}
 use Rattle.molecule.proofs.Valid.{fixed}
 use Rattle.molecule.proofs.Offsets.{offsets-parts, upTo}
-use Rattle.molecule.proofs.HeaderLaws.{offsets-has, dynvec-readable, fixvec-readable}
+use Rattle.molecule.proofs.HeaderLaws.{offsets-has, dynvec-readable, fixvec-says, fixvec-count}
 use Rattle.transaction.specs.Ckb.{Byte32, Bytes, CellDep, CellInput, CellOutput, RawTransaction, Transaction}
 use Rattle.transaction.specs.Tx.{rawField, rawStart, witnessesOf}
 use Rattle.transaction.proofs.TableLaws.{raw-head, raw-0, raw-1, raw-2, raw-3, raw-4, raw-all, transaction-head, transaction-0, transaction-all}
@@ -35,12 +35,17 @@ dynvec-table t f h = has-table f (itemCount f) (and-eq-true-iff (hasItems f (ite
 record IsFixvec (f : List ℕ) (k : ℕ) : Type 0 where
   four : 4 ≤ length f
   says : length f ≡ 4 + k * word f 0
+  counts : word f 0 ≡ fixCount f
 
-fixvec-is : (t : Ty) → T (fixed t) → (k : ℕ) → size t ≡ k → (f : List ℕ) → readable (fixvec t) f ≡ true → IsFixvec f k
-fixvec-is t ok k e f h =
-    let a = and-eq-true-iff (ltb (length f) (2 ^ 32) && leb 4 (length f)) (eqb (length f) (4 + size t * fixCount f)) .0 (sym (fixvec-readable t ok f) ∙ h) in
+fixvec-is : (t : Ty) → T (fixed t) → (k : ℕ) → size t ≡ k → 1 ≤ k → (f : List ℕ) → readable (fixvec t) f ≡ true → IsFixvec f k
+fixvec-is t ok k e one f h =
+    let a = and-eq-true-iff (ltb (length f) (2 ^ 32) && leb 4 (length f)) (eqb (length f) (4 + size t * word f 0)) .0 (sym (fixvec-says t ok f) ∙ h) in
     let b = and-eq-true-iff (ltb (length f) (2 ^ 32)) (leb 4 (length f)) .0 (a .0) in
-    record { four = leb-true 4 (length f) (b .1); says = eqb-true (length f) (4 + size t * fixCount f) (a .1) ∙ ap (λ (n : ℕ). 4 + n * fixCount f) e }
+    record {
+      four = leb-true 4 (length f) (b .1);
+      says = eqb-true (length f) (4 + size t * word f 0) (a .1) ∙ ap (λ (n : ℕ). 4 + n * word f 0) e;
+      counts = sym (fixvec-count t ok (omega arith) f h);
+    }
 
 -- ---- what is read where f stands, which is a
 
@@ -63,7 +68,7 @@ module _ (f s : List ℕ) (at a : ℕ) (h : Stands f s a) (e : at ≡ a) where
   reads-fixvec : (k : ℕ) → IsFixvec f k → ReadsFixvec s at k f a
   reads-fixvec k z =
       rw e (record {
-        count = stands-number f s a h (z .four);
+        count = stands-number f s a h (z .four) ∙ z .counts;
         list = stands-fixvec f s a h (z .four) k (z .says);
         begins = stands-fixvec-start f s a h (z .four) k (z .says);
       })
@@ -154,15 +159,15 @@ module _ (tx : List ℕ) (h : readable Transaction tx ≡ true) where
 
   pub reads-cell-deps : ReadsFixvec tx (rawAt tx 1) 37 (rawField tx 1) (rawStart tx 1)
   unfolding fixed size
-  reads-cell-deps = fixvec-there 1 (omega arith) 37 (fixvec-is CellDep tt 37 refl _ cell-deps-read)
+  reads-cell-deps = fixvec-there 1 (omega arith) 37 (fixvec-is CellDep tt 37 refl (omega arith) _ cell-deps-read)
 
   pub reads-header-deps : ReadsFixvec tx (rawAt tx 2) 32 (rawField tx 2) (rawStart tx 2)
   unfolding fixed size
-  reads-header-deps = fixvec-there 2 (omega arith) 32 (fixvec-is Byte32 tt 32 refl _ header-deps-read)
+  reads-header-deps = fixvec-there 2 (omega arith) 32 (fixvec-is Byte32 tt 32 refl (omega arith) _ header-deps-read)
 
   pub reads-inputs : ReadsFixvec tx (rawAt tx 3) 44 (rawField tx 3) (rawStart tx 3)
   unfolding fixed size
-  reads-inputs = fixvec-there 3 (omega arith) 44 (fixvec-is CellInput tt 44 refl _ inputs-read)
+  reads-inputs = fixvec-there 3 (omega arith) 44 (fixvec-is CellInput tt 44 refl (omega arith) _ inputs-read)
 
   pub reads-outputs : ReadsDynvec tx (rawAt tx 4) (rawField tx 4) (rawStart tx 4)
   reads-outputs = dynvec-there 4 (omega arith) (dynvec-table CellOutput _ outputs-read)

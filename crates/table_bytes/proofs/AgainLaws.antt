@@ -7,7 +7,7 @@ use borrow.Author.Tests.{le-leb}
 use lib.ListN.{length, take, drop, length-append}
 use Rattle.arithmetic.specs.LittleEndian.{le, toLe, AllBytes, numAt, u32At, u64At}
 use Rattle.arithmetic.proofs.LittleEndianLaws.{length-toLe}
-use Rattle.molecule.specs.Layout.{span, word, fixCount, fixItem}
+use Rattle.molecule.specs.Layout.{span, word, fixItem}
 use Rattle.molecule.specs.Partial.{All}
 use Rattle.out_points.specs.OutPoints.{outPointAt, pointBytes}
 use Rattle.out_points.proofs.PointLaws.{length-point}
@@ -39,12 +39,12 @@ take-map f zero l = refl
 take-map f (suc n) [] = refl
 take-map f (suc n) (x ∷ l) = ap (λ t. f x ∷ t) (take-map f n l)
 
-pub table-back : (l : List Place) (z : List ℕ) (n : ℕ) → length l ≤ n → length l < 2 ^ 32 → All FitPlace l → take (fixCount (tableBytes l ++ z)) (places n (tableBytes l ++ z)) ≡ l
+pub table-back : (l : List Place) (z : List ℕ) (n : ℕ) → length l ≤ n → length l < 2 ^ 32 → All FitPlace l → take (word (tableBytes l ++ z) 0) (places n (tableBytes l ++ z)) ≡ l
 unfolding tableBytes placesBytes placeOf word
 table-back l z n h b f =
     let s : List ℕ = toLe 4 (length l) ++ flatten (map placeBytes l) ++ z in
     let g : s ≡ toLe 4 (length l) ++ (flatten (map placeBytes l) ++ z) = append-assoc (toLe 4 (length l)) (flatten (map placeBytes l)) z in
-    let c : fixCount s ≡ length l = ap fixCount g ∙ word-back 4 (length l) [] (flatten (map placeBytes l) ++ z) 0 refl b in
+    let c : word s 0 ≡ length l = ap (λ (x : List ℕ). word x 0) g ∙ word-back 4 (length l) [] (flatten (map placeBytes l) ++ z) 0 refl b in
     ap (λ (k : ℕ). take k (places n s)) c
     ∙ span-take (placeOf s) 0 (length l) n h
     ∙ items-back FitPlace placeAt placeBytes 48 length-place place-back s z 0 l (omega (arith, c)) (ap (drop 4) g ∙ behind (toLe 4 (length l)) (flatten (map placeBytes l) ++ z) 4 (length-toLe 4 (length l))) f
@@ -62,6 +62,6 @@ places-fit s i (suc n) b = (place-fits (fixItem s 48 i) (item-bytes s 48 i b), p
 
 -- ---- a count of 0
 
-pub count-zero : (z : List ℕ) → fixCount (0 ∷ 0 ∷ 0 ∷ 0 ∷ z) ≡ 0
+pub count-zero : (z : List ℕ) → word (0 ∷ 0 ∷ 0 ∷ 0 ∷ z) 0 ≡ 0
 unfolding word numAt le
 count-zero z = rw (le-leb 4 (length (0 ∷ 0 ∷ 0 ∷ 0 ∷ z)) (omega arith)) refl

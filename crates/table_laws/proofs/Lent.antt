@@ -8,7 +8,7 @@ use lib.Dec.{eqb}
 use lib.ListN.{length, take, replicate, length-take, length-map}
 use Rattle.arithmetic.specs.LittleEndian.{AllBytes}
 use Rattle.error.specs.declared.{Answer.Answer}
-use Rattle.molecule.specs.{Layout.fixCount, Partial.All}
+use Rattle.molecule.specs.{Layout.word, Partial.All}
 use Rattle.molecule.proofs.Offsets.{span-length}
 use Rattle.out_points.specs.OutPoints.{Fit}
 use Rattle.out_points.specs.Tables.{Outcome, done, refused, told}
@@ -137,8 +137,8 @@ points-fit (suc n) (p ∷ l) a = (a .0 .point-fits, points-fit n l (a .1))
 pub in-range : (s : List ℕ) → AllBytes s → InRange (heldOf s)
 unfolding heldOf recordsOf
 in-range s b = record {
-  few = let l = length-take (fixCount s) (map holdOf (places 256 s)) in let m = length-map (places 256 s) holdOf in let n = span-length (placeOf s) 0 256 in omega arith;
-  fit = points-fit (fixCount s) (places 256 s) (places-fit s 0 256 b);
+  few = let l = length-take (word s 0) (map holdOf (places 256 s)) in let m = length-map (places 256 s) holdOf in let n = span-length (placeOf s) 0 256 in omega arith;
+  fit = points-fit (word s 0) (places 256 s) (places-fit s 0 256 b);
 }
 
 pub zeros-reached : Reached lent (replicate 12292 0)

@@ -11,7 +11,7 @@ use Rattle.units.specs.declared.Shannons.{Shannons}
 use Rattle.arithmetic.specs.Amount.{amountOf}
 use Rattle.units.specs.Units.{inShannons, shannonCount}
 use Rattle.units.proofs.CountLaws.{shannons-of}
-use Rattle.molecule.specs.Layout.{part, inside, word, fieldOf, fieldStart, itemCount, itemOf, itemStart, fixItem, fixStart, content, contentStart, entryOf, entryStart}
+use Rattle.molecule.specs.Layout.{part, inside, fieldOf, fieldStart, itemCount, itemOf, itemStart, fixCount, fixItem, fixStart, content, contentStart, entryOf, entryStart}
 use Rattle.molecule.proofs.LayoutLaws.{inside-twice, bytes-field, no-field}
 use Rattle.transaction.specs.Tx.{rawField, rawStart, witnessesOf, argsOf, capacityOf, lockOf, typeOf, previousOutputOf, firstOf, dataOf}
 
@@ -41,7 +41,7 @@ module _ (g : List ℕ) {f : List ℕ} (e : f ≡ g) where
   pub u32-of : {r : ℕ} → r ≡ u32At f 0 → r ≡ u32At g 0
   u32-of h = rw e at h
 
-  pub fix-count-of : {r : ℕ} → r ≡ word f 0 → r ≡ word g 0
+  pub fix-count-of : {r : ℕ} → r ≡ fixCount f → r ≡ fixCount g
   fix-count-of h = rw e at h
 
   pub count-of : {r : ℕ} → r ≡ itemCount f → r ≡ itemCount g

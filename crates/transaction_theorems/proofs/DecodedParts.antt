@@ -15,15 +15,15 @@ use Rattle.arithmetic.specs.LittleEndian.{le, AllBytes, numAt}
 use Rattle.arithmetic.proofs.LittleEndianLaws.{num-some}
 use Rattle.molecule.specs.Partial.{each, All}
 use Rattle.molecule.specs.Molecule.{Ty, byte, array, struct, fixvec, dynvec, table, Fields, end, _&_, Value, Values, size, sizes, encode, pieces, decode, decodes}
-use Rattle.molecule.proofs.Valid.{valid, allValid}
+use Rattle.molecule.proofs.Valid.{fixed, hasBytes, valid, allValid}
 use Rattle.molecule.specs.Layout.{part, span, fieldOf, itemCount, itemOf, fixCount, fixItem, entryOf}
 use Rattle.molecule.proofs.PartialLaws.{only-some, both-some}
 use Rattle.molecule.proofs.ChunksLaws.{bytes-pieces}
 use Rattle.molecule.proofs.MoleculeLaws.{all-fixed-valid, one-byte, fixvec-read, encode-decode}
 use Rattle.molecule.proofs.Offsets.{span-length}
 use Rattle.molecule.proofs.HeaderLaws.{count}
-use Rattle.molecule.proofs.LayoutLaws.{bytes-field, item-past, entry-past}
-use Rattle.molecule.proofs.DecodedLaws.{split-items, table-decodes, first-field, later-fields, fix-chunks, fixvec-decoded, dynvec-decoded, entries-decoded, bytes-decoded, encode-array-byte}
+use Rattle.molecule.proofs.LayoutLaws.{bytes-field, item-past, fix-past, entry-past}
+use Rattle.molecule.proofs.DecodedLaws.{split-items, table-decodes, first-field, later-fields, items-few, has-size, fix-chunks, fixvec-decoded, dynvec-decoded, entries-decoded, bytes-decoded, encode-array-byte}
 use Rattle.transaction_theorems.proofs.Claims.{Encoding, Listed, Items}
 
 -- ---- the parts of a value
@@ -121,16 +121,12 @@ items t n item v past e d = record {
   value = λ i h. let z : i ≡ 0 + i = omega arith in ap (λ (m : ℕ). decode t (item m)) z ∙ each-at (λ x. decode t x) item 0 n v d i h;
 }
 
--- past the end
-fix-past : (s : List ℕ) (k i : ℕ) → fixCount s ≤ i → fixItem s k i ≡ []
-unfolding fixItem
-fix-past s k i h = simp (le-ltb i (fixCount s) h)
-
 pub fixvec-items : (t : Ty) (k : ℕ) → size t ≡ k → T (valid (fixvec t)) → (s : List ℕ) → AllBytes s → (v : List (Value t)) → decode (fixvec t) s ≡ some v
     → Items t (fixCount s) (fixItem s k) v
 fixvec-items t k z ok s b v e =
     let r = fixvec-read t s v e in
-    let x = fix-chunks (size t) s (r .four) in
+    let sized = and-yes (fixed t) (hasBytes t) (unfold valid in ok) in
+    let x = fix-chunks (size t) s (r .four) (items-few (le (take 4 s)) (size t) (has-size t (sized .0) (sized .1)) (r .long)) in
     let y : Items t (fixCount s) (fixItem s (size t)) v =
     items t (fixCount s) (fixItem s (size t)) v (λ i h. fix-past s (size t) i h) (fixvec-decoded t s v e b ok) (ap (each (λ x. decode t x)) x ∙ r .items) in
     rw z at y

@@ -8,7 +8,7 @@ use Rattle.arithmetic.specs.LittleEndian.{le, toLe, numAt}
 use Rattle.molecule.specs.Partial.{only, pick, there, both, each}
 use Rattle.molecule.specs.Items.{unwords, words, offsets, join, cuts, items, split}
 use Rattle.molecule.specs.Molecule.{byte, fixvec, table, end, _&_, Value, size, encode, chunks, oneByte, decode, readable}
-use Rattle.molecule.specs.Layout.{fieldOf, part, start, word, span, itemCount}
+use Rattle.molecule.specs.Layout.{fieldOf, part, start, word, span, itemCount, fixCount}
 use Rattle.transaction.specs.Tx.{rawField, witnessesOf, txAt}
 use Rattle.transaction.specs.Ckb.{Byte32, Bytes, CellInput, Script, Transaction, Records}
 
@@ -73,7 +73,16 @@ pub no-inputs : readable (fixvec CellInput) (0 ∷ 0 ∷ 0 ∷ 64 ∷ []) ≡ fa
 unfolding le only there size decode readable
 no-inputs = refl
 
+-- a count that bytes only claim is no more than they could hold
+pub claimed-count : fixCount (255 ∷ 255 ∷ 255 ∷ 255 ∷ []) ≡ 4
+unfolding fixCount word numAt le
+claimed-count = refl
+
+pub claimed-items : itemCount (8 ∷ 0 ∷ 0 ∷ 0 ∷ 255 ∷ 255 ∷ 255 ∷ 255 ∷ []) ≡ 2
+unfolding itemCount word numAt le
+claimed-items = refl
+
 -- no bytes are read as version 0 and empty lists, which is what no transaction of ours means
 pub none-of-ours : txAt [] ≡ record { version = 0; cellDeps = []; headerDeps = []; inputs = []; outputs = []; outputsData = []; witnesses = [] }
-unfolding rawField witnessesOf fieldOf part start word numAt span itemCount
+unfolding rawField witnessesOf fieldOf part start word numAt span itemCount fixCount
 none-of-ours = refl

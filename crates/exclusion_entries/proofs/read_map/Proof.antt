@@ -18,7 +18,7 @@ read-map-spec =
     μ-loop
     (λ c κs. search ways)  -- start-requires
     (λ c. search ways)  -- returns
-    (λ c κs. search ways)  -- fix-count-requires
+    (λ c κs. search ways)  -- word-requires
     (λ c. search ways)  -- cast-n
     (λ c κs. search ways)  -- start-requires-2
     (λ c. search ways)  -- returns-2

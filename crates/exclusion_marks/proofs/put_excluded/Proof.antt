@@ -16,7 +16,7 @@ put-excluded-spec =
     (tie.spec
     Inv-loop
     μ-loop
-    (λ c κs. search ways)  -- fix-count-requires
+    (λ c κs. search ways)  -- word-requires
     (λ c. search ways)  -- cast-n
     (λ c. search ways)  -- loop-holds
     (λ c κs. search ways)  -- part-requires

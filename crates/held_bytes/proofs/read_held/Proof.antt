@@ -26,6 +26,6 @@ read-held-spec =
     (λ c. search ways)  -- add-i
     (λ c. search ways)  -- loop-less
     (λ c. search ways)  -- loop-again
-    (λ c κs. search ways)  -- fix-count-requires
+    (λ c κs. search ways)  -- word-requires
     (λ c. search ways)  -- cast-g
     (λ c. search ways))  -- returns

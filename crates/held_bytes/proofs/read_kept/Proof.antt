@@ -19,7 +19,7 @@ read-kept-spec =
     Inv-loop
     μ-loop
     (λ c κs. search ways)  -- empty-requires
-    (λ c κs. search ways)  -- fix-count-requires
+    (λ c κs. search ways)  -- word-requires
     (λ c. search ways)  -- cast-count
     (λ c κs. search ways)  -- used-requires
     (λ c. search ways)  -- loop-holds

@@ -6,9 +6,9 @@ pub fix-extends-spec : {M : Type 1} → statement M
 fix-extends-spec =
     tie.close
     (tie.spec
-    (λ c κs. search ways)  -- word-requires
+    (λ c κs. search ways)  -- fix-count-requires
     (λ c. search ways)  -- cast-m
-    (λ c κs. search ways)  -- word-requires-2
+    (λ c κs. search ways)  -- fix-count-requires-2
     (λ c. search ways)  -- cast-n
     (λ c. search ways)  -- returns
     (λ c. search ways)  -- mul-e

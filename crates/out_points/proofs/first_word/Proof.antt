@@ -6,7 +6,7 @@ pub first-word-spec : {M : Type 1} → statement M
 first-word-spec =
     tie.close
     (tie.spec
-    (λ c κs. search ways)  -- fix-count-requires
+    (λ c κs. search ways)  -- word-requires
     (λ c. search ways)  -- cast-n
     (λ c. search ways)  -- returns
     (λ c. search ways)  -- mul-u64-at
