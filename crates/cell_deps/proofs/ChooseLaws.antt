@@ -20,11 +20,11 @@ use Rattle.cell_deps.proofs.SortedLaws.{shifted-below, shifted-at, shif
 -- ---- a dep that is there already, and one that is not
 
 module _ (deps : List (List ℕ)) (x : List ℕ) {r : Bool} (e : r ≡ contains x deps) where
-  there : r ≡ true → pushed deps x ≡ deps
+  pub there : r ≡ true → pushed deps x ≡ deps
   unfolding pushed
   there t = rw (← e, t)
 
-  new : r ≡ false → pushed deps x ≡ deps ++ (x ∷ [])
+  pub new : r ≡ false → pushed deps x ≡ deps ++ (x ∷ [])
   unfolding pushed
   new t = rw (← e, t)
 
@@ -36,12 +36,12 @@ pushed-grows deps x = by (contains x deps)
     by true = omega arith
     by false = rw length-append (omega arith)
 
-all-grow : (deps xs : List (List ℕ)) → length deps ≤ length (pushAll deps xs)
+pub all-grow : (deps xs : List (List ℕ)) → length deps ≤ length (pushAll deps xs)
 unfolding pushAll
 all-grow deps [] = omega arith
 all-grow deps (x ∷ xs) = let a = pushed-grows deps x in let b = all-grow (pushed deps x) xs in omega arith
 
-map-snoc : (f : ℕ → List ℕ) (l : List ℕ) (n : ℕ) → map f (l ++ (n ∷ [])) ≡ map f l ++ (f n ∷ [])
+pub map-snoc : (f : ℕ → List ℕ) (l : List ℕ) (n : ℕ) → map f (l ++ (n ∷ [])) ≡ map f l ++ (f n ∷ [])
 map-snoc f [] n = refl
 map-snoc f (x ∷ l) n = ap (λ ys. f x ∷ ys) (map-snoc f l n)
 
@@ -59,7 +59,7 @@ pub record Choosing (a b c d : List ℕ) (l m : ℕ) (p s : List ℕ) (count n i
 
 module _ (a b c d : List ℕ) where
   -- as many deps as places
-  chosen-long : (p : List ℕ) (count : ℕ) → count ≤ length p → length (depsAt a b c d (take count p)) ≡ count
+  pub chosen-long : (p : List ℕ) (count : ℕ) → count ≤ length p → length (depsAt a b c d (take count p)) ≡ count
   unfolding depsAt
   chosen-long p count h = simp (length-map, length-take) (omega arith)
 

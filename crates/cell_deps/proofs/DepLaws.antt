@@ -25,11 +25,11 @@ any-one [] h = absurd (h refl)
 any-one (b ∷ s) h = refl
 
 module _ (m : ℕ) (f g : ℕ → List ℕ) (i : ℕ) where
-  before-in : i < m → before m f g i ≡ f i
+  pub before-in : i < m → before m f g i ≡ f i
   unfolding before
   before-in h = rw (lt-ltb i m h)
 
-  before-past : m ≤ i → before m f g i ≡ g (i - m)
+  pub before-past : m ≤ i → before m f g i ≡ g (i - m)
   unfolding before
   before-past h = rw (le-ltb i m h)
 
@@ -73,7 +73,7 @@ count-all a b c d em en el ek = rw (← em, ← en, ← el, ← ek) (omega arith
 
 -- ---- all of them
 
-span-agree : {A : Type 0} (f g : ℕ → A) (i k : ℕ) → ((j : ℕ) → i ≤ j → j < i + k → f j ≡ g j) → span f i k ≡ span g i k
+pub span-agree : {A : Type 0} (f g : ℕ → A) (i k : ℕ) → ((j : ℕ) → i ≤ j → j < i + k → f j ≡ g j) → span f i k ≡ span g i k
 unfolding span
 span-agree f g i zero h = refl
 span-agree f g i (suc k) h =
@@ -86,7 +86,7 @@ span-shift g m i (suc k) h =
     let e : suc i - m ≡ suc (i - m) = omega arith in
     ap (λ l. g (i - m) ∷ l) (span-shift g m (suc i) k (omega arith) ∙ ap (λ n. span g n k) e)
 
-span-split : {A : Type 0} (f : ℕ → A) (i m k : ℕ) → span f i (m + k) ≡ span f i m ++ span f (i + m) k
+pub span-split : {A : Type 0} (f : ℕ → A) (i m k : ℕ) → span f i (m + k) ≡ span f i m ++ span f (i + m) k
 unfolding span
 span-split f i zero k =
     let e : i ≡ i + 0 = omega arith in
@@ -97,7 +97,7 @@ span-split f i (suc m) k =
     let z : suc m + k ≡ suc (m + k) = omega arith in
     ap (span f i) z ∙ ap (λ l. f i ∷ l) (span-split f (suc i) m k ∙ ap (λ n. span f (suc i) m ++ span f n k) e)
 
-span-before : (m : ℕ) (f g : ℕ → List ℕ) (k : ℕ) → span (before m f g) 0 (m + k) ≡ span f 0 m ++ span g 0 k
+pub span-before : (m : ℕ) (f g : ℕ → List ℕ) (k : ℕ) → span (before m f g) 0 (m + k) ≡ span f 0 m ++ span g 0 k
 span-before m f g k =
     let e : m - m ≡ 0 = omega arith in
     let z : 0 + m ≡ m = omega arith in

@@ -1,7 +1,7 @@
 pub mod DepLaws
-pub mod OrderLaws
 pub mod SortedLaws
 pub mod ChooseLaws
+pub mod IndexedLaws
 pub mod PutLaws
 pub mod LongLaws
 pub mod Ways

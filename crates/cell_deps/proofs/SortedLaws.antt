@@ -15,8 +15,10 @@ use Rattle.lists.proofs.LoopLaws.{at-place}
 use Rattle.lists.proofs.EqualLaws.{not-so, eq-refl, eq-true}
 use Rattle.cell_deps.specs.declared.Found.{Found}
 use Rattle.cell_deps.specs.CellDeps.{depAt}
-use Rattle.cell_deps.specs.Sorted.{isBefore, placedAt, Ordered, Lower, Sought, shifted, Inserted}
-use Rattle.cell_deps.proofs.OrderLaws.{three, before-trans, before-differs, before-other}
+use Rattle.cell_deps.specs.Sorted.{placedAt, Ordered, Lower, Sought, shifted, Inserted}
+use Rattle.item_index.specs.declared.ordering.Order.{Order}
+use Rattle.item_index.specs.Order.{isBefore, orderOf}
+use Rattle.item_index.proofs.OrderLaws.{three, before-not, before-trans, before-differs, before-other, after-less, order-less, order-more, order-same}
 
 -- ---- looking by halves
 
@@ -74,12 +76,15 @@ module _ {f : ℕ → List ℕ} {n : ℕ} {x : List ℕ} {low high : ℕ} (k : H
         }
 
 module _ (a b c d s : List ℕ) (n : ℕ) (x : List ℕ) {low high : ℕ} (k : Halving (placedAt a b c d s) n x low high) (h : low < high) {mid : ℕ} (em : mid ≡ low + (high - low) / 2)
-    {y : List ℕ} (ey : y ≡ depAt a b c d (getD s mid 0)) {r : Bool} (er : r ≡ isBefore y x) where
-  pub halve-up : r ≡ true → Halving (placedAt a b c d s) n x (mid + 1) high
-  halve-up = go-up k h em (is-placed a b c d s mid ey) er
+    {y : List ℕ} (ey : y ≡ depAt a b c d (getD s mid 0)) {o : Order} (eo : o ≡ orderOf y x) where
+  pub halve-up : o ≡ Order.Before → Halving (placedAt a b c d s) n x (mid + 1) high
+  halve-up t = go-up k h em (is-placed a b c d s mid ey) refl (order-less y x (sym t ∙ eo))
 
-  pub halve-down : r ≡ false → Halving (placedAt a b c d s) n x low mid
-  halve-down = go-down k h em (is-placed a b c d s mid ey) er
+  pub halve-same : o ≡ Order.Same → Halving (placedAt a b c d s) n x low mid
+  halve-same t = go-down k h em (is-placed a b c d s mid ey) refl (ap (λ (w : List ℕ). isBefore w x) (order-same y x (sym t ∙ eo)) ∙ before-not x)
+
+  pub halve-down : o ≡ Order.After → Halving (placedAt a b c d s) n x low mid
+  halve-down t = go-down k h em (is-placed a b c d s mid ey) refl (after-less x y (order-more y x (sym t ∙ eo)))
 
 -- ---- whether it is there
 

@@ -7,15 +7,9 @@ use lib.ListN.{length, getD}
 use lib.Dec.{ltb}
 use Rattle.molecule.specs.Layout.{span}
 use Rattle.lists.specs.Lists.{contains}
+use Rattle.item_index.specs.Order.{isBefore}
 use Rattle.cell_deps.specs.declared.Found.{Found}
 use Rattle.cell_deps.specs.CellDeps.{depAt}
-
--- byte by byte, the first that differs decides; a string comes before those that go on from it
-unfoldable pub isBefore : List ℕ → List ℕ → Bool
-isBefore [] [] = false
-isBefore [] (b ∷ ys) = true
-isBefore (a ∷ xs) [] = false
-isBefore (a ∷ xs) (b ∷ ys) = cond (ltb a b) true (cond (ltb b a) false (isBefore xs ys))
 
 -- the dep at place j of a list of places
 unfoldable pub placedAt : List ℕ → List ℕ → List ℕ → List ℕ → List ℕ → ℕ → List ℕ

@@ -1,21 +1,26 @@
 // The cell deps of a base transaction: of four lists, one after the other, each dep where it first stands.
+mod indexed;
+
 use arithmetic::sizes;
+use item_index::ordering;
+use item_index::ordering::Order;
 use molecule::write;
 ghost use mathlib.Core.Path.{_≡_};
 ghost use Prim.Native.Nat.{_+_, _≤_, _<_, min};
 ghost use mathlib.Core.List.{flatten};
-ghost use lib.ListN.{length, take, drop, set};
+ghost use lib.ListN.{length, set};
 ghost use Rattle.molecule.specs.Write.{Put};
-ghost use Rattle.lists.specs.Lists.{eqBytes};
 ghost use Rattle.list_writer.specs.ListWriter.{fixList, putList, putListEnd};
 ghost use Rattle.cell_deps.specs.CellDeps.{anyCount, lastDepAt, ownDepAt, depAt, depCount, depsAt, Chooses};
-ghost use Rattle.cell_deps.specs.Sorted.{isBefore, placedAt, Ordered, Lower, Sought, Inserted};
+ghost use Rattle.cell_deps.specs.Sorted.{placedAt, Ordered, Lower, Sought, Inserted};
 
 // How many bytes a cell dep has: an out point and the dep type.
 const CELL_DEP_BYTES: u32 = 37;
 
-// It begins with a transaction's hash, which deps on one transaction share.
-const HASH_BYTES: usize = 32;
+// So few deps are kept in order as they come, and so many are put in order at once.
+const FEW: usize = 64;
+
+const MANY: usize = 3600;
 
 // Where a dep stands among sorted ones, or where it is to be put.
 struct Found {
@@ -73,66 +78,6 @@ fn dep_at<'a>(
     own_dep_at(udt, lock, extra, i - n)
 }
 
-// Whether 32 bytes from `at` on are the same. The loop's length is known and it has no early exit, so that it is compiled to wide comparisons.
-fn same_hash(a: &[u8], b: &[u8], at: usize) -> bool
-    requires { ⌜ at + 32 ≤ length (now a) ⌝ }
-    requires { ⌜ at + 32 ≤ length (now b) ⌝ }
-    ensures { λ r. ⌜ r ≡ eqBytes (take 32 (drop at (now (a .entry)))) (take 32 (drop at (now (b .entry)))) ⌝ }
-{
-    let mut ok = true;
-    let mut i = 0;
-    while i < HASH_BYTES {
-        if a[at + i] != b[at + i] {
-            ok = false;
-        }
-        i += 1;
-    }
-    ok
-}
-
-// How many bytes at the front need not be looked at for the order, since they are the same: a hash, or none. Most hashes differ in their first byte.
-fn same_front(a: &[u8], b: &[u8]) -> usize
-    ensures { λ r. ⌜ r ≤ length (now (a .entry)) ⌝ }
-    ensures { λ r. ⌜ isBefore (now (a .entry)) (now (b .entry)) ≡ isBefore (drop r (now (a .entry))) (drop r (now (b .entry))) ⌝ }
-{
-    if a.len() < HASH_BYTES {
-        return 0;
-    }
-    if b.len() < HASH_BYTES {
-        return 0;
-    }
-    if a[0] != b[0] {
-        return 0;
-    }
-    if !same_hash(a, b, 0) {
-        return 0;
-    }
-    HASH_BYTES
-}
-
-// Whether a comes before b in the order of their bytes.
-fn precedes(a: &[u8], b: &[u8]) -> bool
-    ensures { λ r. ⌜ r ≡ isBefore (now (a .entry)) (now (b .entry)) ⌝ }
-{
-    let mut i = same_front(a, b);
-    while i < a.len() {
-        if b.len() <= i {
-            return false;
-        }
-        if a[i] < b[i] {
-            return true;
-        }
-        if b[i] < a[i] {
-            return false;
-        }
-        i += 1;
-    }
-    if i < b.len() {
-        return true;
-    }
-    false
-}
-
 // How many of the first n places have a dep that comes before x. They are in the order of their deps, so half of what is left is ruled out at a time.
 fn lower_bound<'a>(
     present: &'a [u8],
@@ -153,10 +98,17 @@ fn lower_bound<'a>(
         let mid = low + (high - low) / 2;
         let place = sorted[mid];
         let y = dep_at(present, udt, lock, extra, place);
-        if precedes(y, x) {
-            low = mid + 1;
-        } else {
-            high = mid;
+        let order = ordering::compare(y, x);
+        match order {
+            Order::Before => {
+                low = mid + 1;
+            }
+            Order::Same => {
+                high = mid;
+            }
+            Order::After => {
+                high = mid;
+            }
         }
     }
     low
@@ -225,9 +177,8 @@ pub fn dep_count(present: &[u8], udt: &[u8], lock: &[u8], extra: &[u8]) -> usize
     a + b + any_count(lock) + d
 }
 
-// Puts a place of each dep, in the order in which they first stand, at the start of `places`, and returns how many there are; where there are more than the two slices have
-// room for, one more than that. Both slices are work room. In `sorted` the same places are kept in the order of their deps, so that one more is looked up by halves.
-pub fn choose<'a>(
+// Chooses one dep after the other. In `sorted` the chosen places are kept in the order of their deps, so that one more is looked up by halves.
+fn choose_in_turn<'a>(
     present: &'a [u8],
     udt: &'a [u8],
     lock: &'a [u8],
@@ -255,6 +206,30 @@ pub fn choose<'a>(
         }
     }
     count
+}
+
+// Puts a place of each dep, in the order in which they first stand, at the start of `places`, and returns how many there are; where there are more than the two
+// slices have room for, one more than that. Both slices are work room. To put a place among others in order moves those behind it, so many deps are put in
+// order at once; with more than there is room for, at most 3,597 are ever moved.
+pub fn choose<'a>(
+    present: &'a [u8],
+    udt: &'a [u8],
+    lock: &'a [u8],
+    extra: &'a [u8],
+    places: &mut [usize],
+    sorted: &mut [usize],
+) -> usize
+    ensures { λ r. ⌜ Chooses (now (present .entry)) (now (udt .entry)) (now (lock .entry)) (now (extra .entry)) (min (length (now (places .entry))) (length (now (sorted .entry)))) (now (places .exit)) r ⌝ }
+{
+    let n = dep_count(present, udt, lock, extra);
+    if n <= FEW {
+        return choose_in_turn(present, udt, lock, extra, places, sorted);
+    }
+    if MANY < n {
+        return choose_in_turn(present, udt, lock, extra, places, sorted);
+    }
+    let room = sizes::min(places.len(), sorted.len());
+    indexed::choose_indexed(present, udt, lock, extra, n, places, room)
 }
 
 // How long the list of the chosen deps is; 133,117 for all that is longer.

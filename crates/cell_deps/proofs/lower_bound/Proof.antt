@@ -1,6 +1,7 @@
 use Prim.Native.Nat.{_-_}
+use borrow.Author.Needs.{needs}
 use Rattle.cell_deps.specs.Sorted.{placedAt}
-use Rattle.cell_deps.proofs.SortedLaws.{Halving}
+use Rattle.cell_deps.proofs.SortedLaws.{Halving, halve-same, halve-down}
 use Rattle.cell_deps.proofs.Ways.{ways}
 use Rattle.cell_deps.proofs.lower_bound.Statement.{statement}
 use Rattle.cell_deps.proofs.lower_bound.Tie as tie
@@ -23,10 +24,15 @@ lower-bound-spec =
     (λ c. search ways)  -- mul-place
     (λ c. search ways)  -- shared-slice-read-place
     (λ c κs. search ways)  -- dep-at-requires
-    (λ c κs. search ways)  -- precedes-requires
+    (λ c κs. search ways)  -- compare-requires
+    (λ c. search ways)  -- enum-told
     (λ c. search ways)  -- add-low
     (λ c. search ways)  -- loop-less
     (λ c. search ways)  -- loop-again
+    (λ c. search ways)  -- enum-told-2
     (λ c. search ways)  -- loop-less-2
-    (λ c. search ways)  -- loop-again-2
+    (λ c. search (needs, halve-same))  -- loop-again-2
+    (λ c. search ways)  -- enum-told-3
+    (λ c. search ways)  -- loop-less-3
+    (λ c. search (needs, halve-down))  -- loop-again-3
     (λ c. search ways))  -- returns

@@ -1,0 +1,13 @@
+use Rattle.cell_deps.proofs.Ways.{ways}
+use Rattle.cell_deps.proofs.indexed.index_list.Statement.{statement}
+use Rattle.cell_deps.proofs.indexed.index_list.Tie as tie
+
+pub index-list-spec : {M : Type 1} → statement M
+index-list-spec =
+    tie.close
+    (tie.spec
+    (λ c κs. search ways)  -- fix-count-requires
+    (λ c. search ways)  -- slice-aggregate-build
+    (λ c κs. search ways)  -- build-requires
+    (λ c. search ways)  -- same-length
+    (λ c. search ways))  -- returns
