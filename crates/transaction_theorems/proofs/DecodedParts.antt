@@ -6,8 +6,7 @@ use mathlib.Core.List.{List, [], _∷_, map}
 use mathlib.Core.Option.{Option, none, some, bind-eq-some-iff, Option·none-ne-some}
 use native.Mathlib.Decide.{decLt}
 use native.Mathlib.Omega.{arith}
-use borrow.Author.Tests.{le-ltb}
-use lib.ListN.{length, getD, List·getD-eq-default}
+use lib.ListN.{length, take, getD, List·getD-eq-default}
 use lib.Seq.{take-all}
 use lib.Dec.{T, eqb→eq}
 use mir.Facts.{and-yes}
