@@ -22,8 +22,8 @@ pub fn are_scripts(lock: &[u8], udt: &[u8], source: &[u8]) -> bool
     transaction::is_script(source)
 }
 
-// Judges the peer's transaction against ours (empty for none) by every check but the first, that our own bytes are readable: for a caller who has read them
-// before. The time goes by the peer's bytes and the records, whatever the length of ours. On unreadable bytes of ours it answers as on what stands in them.
+// Judges the peer's transaction against ours (empty for none) by every check but the first, that our own bytes are readable: for a caller who knows that of
+// them already. Its time does not grow with the length of ours. Bytes of ours that can't be read count as what is found in them by their offsets.
 pub fn judge_against(
     ours: &[u8],
     peer: &[u8],
