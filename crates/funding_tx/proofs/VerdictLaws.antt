@@ -17,7 +17,7 @@ use Rattle.rules.specs.declared.Update.{Update}
 use Rattle.rules.specs.Outcome.{Outcome, fine, refused, check, checkWith, given, _>>_, _>>=_}
 use Rattle.rules.specs.Cells.{Cell, readRecords}
 use Rattle.rules.specs.Surplus.{total, capacityOf}
-use Rattle.rules.specs.Judge.{Figures, scripts, limits, comparison, spent, tally, account, tokenAccount, accounts, contribution, judge}
+use Rattle.rules.specs.Judge.{Call, Figures, scripts, limits, comparison, spent, tally, account, tokenAccount, accounts, contribution, judge, judgeAgainst}
 use Rattle.rules.specs.Told.{told, inForceOf}
 use Rattle.rules.specs.Run.{handedBack, next, updateForPeer}
 use Rattle.rules.proofs.Checks.{skip, fail, pass, last-is}
@@ -72,56 +72,57 @@ module _ (source type : List ℕ) (ours peer : Tx) (lent : Option (List (Option 
   unfolding brings
   is-spent b e = let (cs, q, f) = bind-fine (spent source ours peer lent) (λ (cs : List Cell). fine (brought type cs)) b e in (cs, q, fine-inj f)
 
--- ---- the whole
+-- ---- against a transaction of ours, whether its bytes were read or not
 
 module _ (lock type o p s source : List ℕ) (rate : ℕ) where
-  module _ {r₁ : Bool} (e₁ : r₁ ≡ readable (option Transaction) o) where
-    pub judge-ours : not r₁ ≡ true
-        → told (Update.Refused Refusal.OurTransactionUnreadable) ≡ judge lock type o (record { peer = p; records = s; source = source; rate = rate })
-    unfolding judge given _>>=_ number values
-    judge-ours t = rw (ours-no o (sym e₁ ∙ not-true r₁ t))
+  abbrev call : Call
+  call = record { peer = p; records = s; source = source; rate = rate }
 
-    module _ (t₁ : not r₁ ≡ false) {r₂ : Bool} (e₂ : r₂ ≡ readable Transaction p) where
-      pub judge-peer : not r₂ ≡ true
-          → told (Update.Refused Refusal.PeerTransactionUnreadable) ≡ judge lock type o (record { peer = p; records = s; source = source; rate = rate })
-      unfolding judge given _>>=_ number values
-      judge-peer t = rw (ours-yes o (sym e₁ ∙ not-false r₁ t₁), read-no p (sym e₂ ∙ not-true r₂ t))
+  module _ {r₂ : Bool} (e₂ : r₂ ≡ readable Transaction p) where
+    pub against-peer : not r₂ ≡ true → told (Update.Refused Refusal.PeerTransactionUnreadable) ≡ judgeAgainst lock type (txAt o) call
+    unfolding judgeAgainst given _>>=_ number values
+    against-peer t = rw (read-no p (sym e₂ ∙ not-true r₂ t))
 
-      module _ (t₂ : not r₂ ≡ false) (r₃ : Bool) (e₃ : check 3 r₃ ≡ scripts lock type source) where
-        pub judge-scripts : not r₃ ≡ true
-            → told (Update.Refused Refusal.LentBytesUnreadable) ≡ judge lock type o (record { peer = p; records = s; source = source; rate = rate })
-        unfolding judge given _>>=_ _>>_ check checkWith number values
-        judge-scripts t = rw (ours-yes o (sym e₁ ∙ not-false r₁ t₁), read-yes p (sym e₂ ∙ not-false r₂ t₂), ← e₃, not-true r₃ t)
+    module _ (t₂ : not r₂ ≡ false) (r₃ : Bool) (e₃ : check 3 r₃ ≡ scripts lock type source) where
+      pub against-scripts : not r₃ ≡ true → told (Update.Refused Refusal.LentBytesUnreadable) ≡ judgeAgainst lock type (txAt o) call
+      unfolding judgeAgainst given _>>=_ _>>_ check checkWith number values
+      against-scripts t = rw (read-yes p (sym e₂ ∙ not-false r₂ t₂), ← e₃, not-true r₃ t)
 
-        module _ (t₃ : not r₃ ≡ false) (r₄ : Bool) (e₄ : check 4 r₄ ≡ limits (length p + 4) (txAt o) (txAt p)) where
-          pub judge-limits : not r₄ ≡ true
-              → told (Update.Refused Refusal.PeerFundingTxExceedsLimit) ≡ judge lock type o (record { peer = p; records = s; source = source; rate = rate })
-          unfolding judge given _>>=_ _>>_ check checkWith number values
-          judge-limits t =
-              rw (ours-yes o (sym e₁ ∙ not-false r₁ t₁), read-yes p (sym e₂ ∙ not-false r₂ t₂), ← e₃, not-false r₃ t₃, ← e₄, not-true r₄ t)
+      module _ (t₃ : not r₃ ≡ false) (r₄ : Bool) (e₄ : check 4 r₄ ≡ limits (length p + 4) (txAt o) (txAt p)) where
+        pub against-limits : not r₄ ≡ true → told (Update.Refused Refusal.PeerFundingTxExceedsLimit) ≡ judgeAgainst lock type (txAt o) call
+        unfolding judgeAgainst given _>>=_ _>>_ check checkWith number values
+        against-limits t = rw (read-yes p (sym e₂ ∙ not-false r₂ t₂), ← e₃, not-false r₃ t₃, ← e₄, not-true r₄ t)
 
-          module _ (t₄ : not r₄ ≡ false) (r₅ : Bool) (e₅ : check 5 r₅ ≡ comparison lock type (txAt o) (txAt p)) where
-            pub judge-comparison : not r₅ ≡ true
-                → told (Update.Refused Refusal.InvalidPeerFundingTx) ≡ judge lock type o (record { peer = p; records = s; source = source; rate = rate })
-            unfolding judge given _>>=_ _>>_ check checkWith number values
-            judge-comparison t =
-                rw (ours-yes o (sym e₁ ∙ not-false r₁ t₁), read-yes p (sym e₂ ∙ not-false r₂ t₂), ← e₃, not-false r₃ t₃, ← e₄, not-false r₄ t₄, ← e₅, not-true r₅ t)
+        module _ (t₄ : not r₄ ≡ false) (r₅ : Bool) (e₅ : check 5 r₅ ≡ comparison lock type (txAt o) (txAt p)) where
+          pub against-comparison : not r₅ ≡ true → told (Update.Refused Refusal.InvalidPeerFundingTx) ≡ judgeAgainst lock type (txAt o) call
+          unfolding judgeAgainst given _>>=_ _>>_ check checkWith number values
+          against-comparison t =
+              rw (read-yes p (sym e₂ ∙ not-false r₂ t₂), ← e₃, not-false r₃ t₃, ← e₄, not-false r₄ t₄, ← e₅, not-true r₅ t)
 
-            module _ (t₅ : not r₅ ≡ false) (c : Resolved) (ec : resolved c ≡ brings source type (txAt o) (txAt p) (readRecords s)) where
-              pub judge-records : {x : Refusal} → c ≡ Resolved.Refused x
-                  → told (Update.Refused x) ≡ judge lock type o (record { peer = p; records = s; source = source; rate = rate })
-              unfolding judge given _>>=_ _>>_ check checkWith
-              judge-records {x} k =
-                  rw (ours-yes o (sym e₁ ∙ not-false r₁ t₁), read-yes p (sym e₂ ∙ not-false r₂ t₂), ← e₃, not-false r₃ t₃, ← e₄, not-false r₄ t₄, ← e₅, not-false r₅ t₅, not-spent source type (txAt o) (txAt p) (readRecords s) _ _ (sym (rw k at ec)))
+          module _ (t₅ : not r₅ ≡ false) (c : Resolved) (ec : resolved c ≡ brings source type (txAt o) (txAt p) (readRecords s)) where
+            pub against-records : {x : Refusal} → c ≡ Resolved.Refused x → told (Update.Refused x) ≡ judgeAgainst lock type (txAt o) call
+            unfolding judgeAgainst given _>>=_ _>>_ check checkWith
+            against-records {x} k =
+                rw (read-yes p (sym e₂ ∙ not-false r₂ t₂), ← e₃, not-false r₃ t₃, ← e₄, not-false r₄ t₄, ← e₅, not-false r₅ t₅, not-spent source type (txAt o) (txAt p) (readRecords s) _ _ (sym (rw k at ec)))
 
-              pub judge-is : (u : Update) {g : Shannons} {t : TokenSum} → c ≡ Resolved.Live g t
-                  → told u ≡ contributed type (txAt o) (txAt p) (shannonCount g) (inTokens t) rate (length p + 4)
-                  → told u ≡ judge lock type o (record { peer = p; records = s; source = source; rate = rate })
-              unfolding judge given _>>=_ _>>_ check checkWith
-              judge-is u {g} {t} k h =
-                  let (cells, q, b) = is-spent source type (txAt o) (txAt p) (readRecords s) (record { capacity = shannonCount g; token = inTokens t }) (sym (rw k at ec)) in
-                  h ∙ sym (rw (ours-yes o (sym e₁ ∙ not-false r₁ t₁), read-yes p (sym e₂ ∙ not-false r₂ t₂), ← e₃, not-false r₃ t₃, ← e₄, not-false r₄ t₄, ← e₅, not-false r₅ t₅, q)
-                  (over type (txAt o) (txAt p) cells rate (length p + 4) ∙ ap (λ (x : Brought). contributed type (txAt o) (txAt p) (x .capacity) (x .token) rate (length p + 4)) b))
+            pub against-is : (u : Update) {g : Shannons} {t : TokenSum} → c ≡ Resolved.Live g t
+                → told u ≡ contributed type (txAt o) (txAt p) (shannonCount g) (inTokens t) rate (length p + 4) → told u ≡ judgeAgainst lock type (txAt o) call
+            unfolding judgeAgainst given _>>=_ _>>_ check checkWith
+            against-is u {g} {t} k h =
+                let (cells, q, b) = is-spent source type (txAt o) (txAt p) (readRecords s) (record { capacity = shannonCount g; token = inTokens t }) (sym (rw k at ec)) in
+                h ∙ sym (rw (read-yes p (sym e₂ ∙ not-false r₂ t₂), ← e₃, not-false r₃ t₃, ← e₄, not-false r₄ t₄, ← e₅, not-false r₅ t₅, q)
+                (over type (txAt o) (txAt p) cells rate (length p + 4) ∙ ap (λ (x : Brought). contributed type (txAt o) (txAt p) (x .capacity) (x .token) rate (length p + 4)) b))
+
+-- ---- the whole: what was known of our bytes, and the rest
+
+module _ (lock type o : List ℕ) (c : Call) {known : Bool} (e : known ≡ readable (option Transaction) o) where
+  pub judge-ours : not known ≡ true → told (Update.Refused Refusal.OurTransactionUnreadable) ≡ judge lock type o c
+  unfolding judge given _>>=_ number values
+  judge-ours t = rw (ours-no o (sym e ∙ not-true known t))
+
+  pub judge-read : (u : Update) → not known ≡ false → told u ≡ judgeAgainst lock type (txAt o) c → told u ≡ judge lock type o c
+  unfolding judge given _>>=_
+  judge-read u t h = rw (ours-yes o (sym e ∙ not-false known t)) h
 
 -- ---- a whole call
 
@@ -137,7 +138,7 @@ next-reference lock type o p s source rate u x y e h = h ∙ hands (judge lock t
 
 -- ---- of slices that were taken anew
 
-pub judge-whole : (lock type o p s source : List ℕ) (rate : ℕ) {v : Outcome Figures}
-    → v ≡ judge (take (length lock - 0) (drop 0 lock)) (take (length type - 0) (drop 0 type)) (take (length o - 0) (drop 0 o)) (record { peer = take (length p - 0) (drop 0 p); records = take (length s - 0) (drop 0 s); source = take (length source - 0) (drop 0 source); rate = rate })
-    → v ≡ judge lock type o (record { peer = p; records = s; source = source; rate = rate })
-judge-whole lock type o p s source rate h = rw (whole lock, whole type, whole o, whole p, whole s, whole source) at h
+pub against-whole : (lock type o p s source : List ℕ) (rate : ℕ) {v : Outcome Figures}
+    → v ≡ judgeAgainst (take (length lock - 0) (drop 0 lock)) (take (length type - 0) (drop 0 type)) (txAt (take (length o - 0) (drop 0 o))) (record { peer = take (length p - 0) (drop 0 p); records = take (length s - 0) (drop 0 s); source = take (length source - 0) (drop 0 source); rate = rate })
+    → v ≡ judgeAgainst lock type (txAt o) (record { peer = p; records = s; source = source; rate = rate })
+against-whole lock type o p s source rate h = rw (whole lock, whole type, whole o, whole p, whole s, whole source) at h

@@ -4,7 +4,8 @@ use records::Resolved;
 use rules::Update;
 ghost use mathlib.Core.Path.{_≡_};
 ghost use Rattle.rules.specs.Outcome.{check};
-ghost use Rattle.rules.specs.Judge.{scripts, judge};
+ghost use Rattle.transaction.specs.Tx.{txAt};
+ghost use Rattle.rules.specs.Judge.{scripts, judge, judgeAgainst};
 ghost use Rattle.rules.specs.Told.{told, inForceOf};
 ghost use Rattle.rules.specs.Run.{handedBack, next, updateForPeer};
 
@@ -21,9 +22,9 @@ pub fn are_scripts(lock: &[u8], udt: &[u8], source: &[u8]) -> bool
     transaction::is_script(source)
 }
 
-// Judges the peer's transaction against ours (empty for none), under the expected funding lock, the expected token type (empty for none), our source lock
-// and a fee rate, over one record for each input that the peer added. Nothing that is lent is changed or copied.
-pub fn update_for_peer(
+// Judges the peer's transaction against ours (empty for none) by every check but the first, that our own bytes are readable: for a caller who knows that of
+// them already. Its time does not grow with the length of ours. Bytes of ours that can't be read count as what is found in them by their offsets.
+pub fn judge_against(
     ours: &[u8],
     peer: &[u8],
     lock: &[u8],
@@ -32,7 +33,7 @@ pub fn update_for_peer(
     rate: u64,
     records: &[u8],
 ) -> Update
-    ensures { λ r. ⌜ told r ≡ judge (now (lock .entry)) (now (udt .entry)) (now (ours .entry)) (record { peer = now (peer .entry); records = now (records .entry); source = now (source .entry); rate = rate }) ⌝ }
+    ensures { λ r. ⌜ told r ≡ judgeAgainst (now (lock .entry)) (now (udt .entry)) (txAt (now (ours .entry))) (record { peer = now (peer .entry); records = now (records .entry); source = now (source .entry); rate = rate }) ⌝ }
 {
     // taken anew, a slice comes in as its two words, and not by way of memory
     let ours = &ours[0..ours.len()];
@@ -41,9 +42,6 @@ pub fn update_for_peer(
     let udt = &udt[0..udt.len()];
     let source = &source[0..source.len()];
     let records = &records[0..records.len()];
-    if !transaction::is_optional_transaction(ours) {
-        return Update::Refused(Refusal::OurTransactionUnreadable);
-    }
     if !transaction::is_transaction(peer) {
         return Update::Refused(Refusal::PeerTransactionUnreadable);
     }
@@ -67,6 +65,25 @@ pub fn update_for_peer(
         ),
         Resolved::Refused(e) => Update::Refused(e),
     }
+}
+
+// Judges the peer's transaction against ours (empty for none), under the expected funding lock, the expected token type (empty for none), our source lock
+// and a fee rate, over one record for each input that the peer added. Nothing that is lent is changed or copied.
+pub fn update_for_peer(
+    ours: &[u8],
+    peer: &[u8],
+    lock: &[u8],
+    udt: &[u8],
+    source: &[u8],
+    rate: u64,
+    records: &[u8],
+) -> Update
+    ensures { λ r. ⌜ told r ≡ judge (now (lock .entry)) (now (udt .entry)) (now (ours .entry)) (record { peer = now (peer .entry); records = now (records .entry); source = now (source .entry); rate = rate }) ⌝ }
+{
+    if !transaction::is_optional_transaction(ours) {
+        return Update::Refused(Refusal::OurTransactionUnreadable);
+    }
+    judge_against(ours, peer, lock, udt, source, rate, records)
 }
 
 // The transaction in force after an answer: the peer's bytes after an acceptance, ours after a refusal.

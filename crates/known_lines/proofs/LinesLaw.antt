@@ -15,7 +15,7 @@ use Rattle.transaction.specs.Tx.{Tx, txAt, readTx}
 use Rattle.rules.specs.Cells.{Cell, cells, readOurs, readRecords}
 use Rattle.rules.specs.Outcome.{Outcome, fine, refused, check, checkWith, given, _>>=_, _>>_}
 use Rattle.rules.specs.Surplus.{total, first, added, capacityOf, amountOf, tokenOf, isOf, hasAmount, isEmpty}
-use Rattle.rules.specs.Judge.{Call, Figures, judge, scripts, limits, comparison, live, liveCells, spent, growth, unfunded, hasLock, tokenDelta, fundingOutputDelta, covered, counted, tally, settled, account, tokenAccount, accounts, contribution}
+use Rattle.rules.specs.Judge.{Call, Figures, judge, judgeAgainst, scripts, limits, comparison, live, liveCells, spent, growth, unfunded, hasLock, tokenDelta, fundingOutputDelta, covered, counted, tally, settled, account, tokenAccount, accounts, contribution}
 use Rattle.known_lines.specs.Lines.{Line, line, ruled, scriptLines, limitLines, comparisonLines, recordLines, tokenDeltaLines, deltaLines, coveredLines, cellLines, tallyLines, settledLines, tokenLines, contributionLines, spentLines, allLines, lines, surpluses, recordsAt}
 
 -- ---- lines one after another
@@ -227,7 +227,7 @@ after-reading lock type ours peer call =
 
 pub judge-is-ruled : (lock type ours : List ℕ) (call : Call)
     → judge lock type ours call ≡ ruled (lines lock type ours call) (fine (surpluses type (txAt ours) (txAt (call .peer)) (liveCells (recordsAt (call .records)))))
-unfolding judge lines readOurs readTx ruled
+unfolding judge judgeAgainst lines readOurs readTx ruled
 judge-is-ruled lock type ours call =
     given-then 1 (readable (option Transaction) ours) (txAt ours) _
     ∙ ap (λ (o : Outcome Figures). checkWith 1 [] (readable (option Transaction) ours) >> o)

@@ -9,7 +9,7 @@ use Rattle.transaction.specs.Tx.{Tx, readTx}
 use Rattle.rules.specs.Outcome.{Outcome, fine, refused, check, checkWith, given, _>>=_, _>>_}
 use Rattle.rules.specs.Cells.{Cell, readOurs, readRecords}
 use Rattle.rules.specs.Surplus.{isOf, isEmpty, added}
-use Rattle.rules.specs.Judge.{Call, limits, comparison, live, liveCells, spent, tokenDelta, fundingOutputDelta, covered, counted, tally, settled, account, tokenAccount, accounts, contribution, scripts, judge}
+use Rattle.rules.specs.Judge.{Call, limits, comparison, live, liveCells, spent, tokenDelta, fundingOutputDelta, covered, counted, tally, settled, account, tokenAccount, accounts, contribution, scripts, judgeAgainst, judge}
 use Rattle.rules.specs.Run.{next, verdicts, updateForPeer}
 use Rattle.molecule.specs.Partial.{All}
 use Rattle.rules.proofs.Tests.{never}
@@ -137,7 +137,7 @@ unfolding scripts
 scripts-numbered lock type source = on 3 _ (omega arith) (on 3 _ (omega arith) (plain 3 _ (omega arith)))
 
 pub judge-numbered : (lock type ours : List ℕ) (call : Call) → Numbered (judge lock type ours call)
-unfolding judge
+unfolding judge judgeAgainst
 judge-numbered lock type ours call =
     and-with _ (lent 1 (readOurs ours) (omega arith))
     (λ o. and-with _ (lent 2 (readTx (call .peer)) (omega arith))

@@ -1,31 +1,39 @@
 -- Laws of the functions that judge: one update, and one after another.
 use mathlib.Core.Path.{_≡_, refl, sym, ap, _∙_}
 use Prim.Native.Nat.{ℕ, zero, suc, _+_, _-_, _*_, _≤_, _<_}
+use mathlib.Core.Bool.{Bool, false, not}
 use mathlib.Core.List.{List, [], _∷_, _++_}
 use native.Mathlib.Numerals.{add-one}
 use native.Mathlib.Omega.{arith}
 use lib.ListN.{length, drop}
+use Rattle.molecule.specs.Molecule.{option, readable}
 use Rattle.molecule.specs.Layout.{itemCount, span}
 use Rattle.molecule.specs.Write.{splice, Put}
 use Rattle.molecule.proofs.Offsets.{span-length}
 use Rattle.molecule.proofs.WriteLaws.{none, then, splice-zero, splice-length}
 use Rattle.lists.proofs.SpanLaws.{span-on, span-end, span-whole}
+use Rattle.transaction.specs.Ckb.{Transaction}
+use Rattle.transaction.specs.Tx.{txAt}
 use Rattle.rules.specs.declared.Update.{Update}
 use Rattle.rules.specs.Outcome.{Outcome, fine, refused}
-use Rattle.rules.specs.Judge.{Call, Figures, judge}
+use Rattle.rules.specs.Judge.{Call, Figures, judge, judgeAgainst}
 use Rattle.rules.specs.Told.{told, inForceOf}
 use Rattle.rules.specs.Run.{Entry, handedBack, next, verdicts, inForce, updateForPeer}
+use Rattle.rules.proofs.Accept.{readable-next}
 use Rattle.funding_tx.proofs.Demand3.{hands}
+use Rattle.funding_tx.proofs.VerdictLaws.{judge-read}
 use Rattle.negotiation.specs.declared.Replayed.{Replayed}
 use Rattle.negotiation.specs.Updates.{bytesOf, rateOf, callAt, callsOf, transactionAt}
 use Rattle.negotiation.specs.Words.{words, allWords}
 use Rattle.negotiation.specs.Replay.{acceptedOf, indexAfter, leaves, answered}
 use Rattle.negotiation.proofs.WordLaws.{all-length}
 
--- what is judged is the update with this index, against the transaction with that one
-pub judge-is : (lock udt start s : List ℕ) (at i : ℕ) (u : Update) {o p r q : List ℕ} {w : ℕ} → o ≡ transactionAt start s at → p ≡ bytesOf s i 0 → r ≡ bytesOf s i 1 → q ≡ bytesOf s i 2
-    → w ≡ rateOf s i → told u ≡ judge lock udt o (record { peer = p; records = r; source = q; rate = w }) → told u ≡ judge lock udt (transactionAt start s at) (callAt s i)
-judge-is lock udt start s at i u eo ep er eq ew h = rw (← eo, ← ep, ← er, ← eq, ← ew) h
+-- what is judged is the update with this index, against the transaction with that one, which is known to be readable
+pub judge-is : (lock udt start s : List ℕ) (at i : ℕ) (u : Update) {known : Bool} {o p r q : List ℕ} {w : ℕ}
+    → known ≡ readable (option Transaction) (transactionAt start s at) → not known ≡ false
+    → o ≡ transactionAt start s at → p ≡ bytesOf s i 0 → r ≡ bytesOf s i 1 → q ≡ bytesOf s i 2 → w ≡ rateOf s i
+    → told u ≡ judgeAgainst lock udt (txAt o) (record { peer = p; records = r; source = q; rate = w }) → told u ≡ judge lock udt (transactionAt start s at) (callAt s i)
+judge-is lock udt start s at i u e t eo ep er eq ew h = judge-read lock udt (transactionAt start s at) (callAt s i) e u t (rw (← eo, ← ep, ← er, ← eq, ← ew) h)
 
 -- ---- the verdicts from an index on
 
@@ -53,6 +61,10 @@ module _ (lock udt start s : List ℕ) where
   at-next at i (fine f) = rw add-one
   at-next at i (refused n l) = refl
 
+  -- what is known of the one is known of the next
+  readable-on : (at i : ℕ) → readable (option Transaction) (transactionAt start s (handedBack (verdictAt at i) at (i + 1))) ≡ readable (option Transaction) (transactionAt start s at)
+  readable-on at i = ap (readable (option Transaction)) (at-next at i (verdictAt at i)) ∙ readable-next lock udt (transactionAt start s at) (callAt s i)
+
   rest-on : (at i n : ℕ) → i < n → rest at i n ≡ verdictAt at i ∷ rest (handedBack (verdictAt at i) at (i + 1)) (i + 1) n
   rest-on at i n l =
       rw (span-on (callAt s) i n l)
@@ -74,8 +86,9 @@ module _ (lock udt start s : List ℕ) where
 
 -- ---- the loop: the updates before i are judged, and those from i on decide what is left in the end
 
-pub record Running (lock udt start s out₀ : List ℕ) (n i at accepted : ℕ) (out : List ℕ) : Type 0 where
+pub record Running (lock udt start s out₀ : List ℕ) (known : Bool) (n i at accepted : ℕ) (out : List ℕ) : Type 0 where
   pub count : n ≡ itemCount s
+  pub read : known ≡ readable (option Transaction) (transactionAt start s at)
   pub within : i ≤ n
   pub few : accepted ≤ i
   pub long : length out ≡ length out₀
@@ -84,15 +97,16 @@ pub record Running (lock udt start s out₀ : List ℕ) (n i at accepted : ℕ) 
   pub index : indexAfter at i (rest lock udt start s at i n) ≡ indexAfter 0 0 (all lock udt start s)
   pub total : accepted + acceptedOf (rest lock udt start s at i n) ≡ acceptedOf (all lock udt start s)
 
-module _ (lock udt start s out : List ℕ) (n : ℕ) where
+module _ (lock udt start s out : List ℕ) (known : Bool) (n : ℕ) where
   all-is : n ≡ itemCount s → rest lock udt start s 0 0 n ≡ all lock udt start s
   unfolding transactionAt
   all-is e = rw (← e) (ap (verdicts (updateForPeer lock udt) start) (sym (span-whole (callAt s) n)))
 
-  pub run-none : n ≡ itemCount s → 5 * n ≤ length out → Running lock udt start s out n 0 0 0 out
+  pub run-none : n ≡ itemCount s → 5 * n ≤ length out → known ≡ readable (option Transaction) start → Running lock udt start s out known n 0 0 0 out
   unfolding transactionAt
-  run-none e h = record {
+  run-none e h k = record {
     count = e;
+    read = k;
     within = omega arith;
     few = omega arith;
     long = refl;
@@ -112,9 +126,9 @@ count-few : (v : Outcome Figures) (k i : ℕ) → k ≤ i → handedBack v k (k 
 count-few (fine f) k i h = omega arith
 count-few (refused n l) k i h = omega arith
 
-module _ {lock udt start s out₀ : List ℕ} {n i at accepted : ℕ} {out : List ℕ} (g : Running lock udt start s out₀ n i at accepted out) where
+module _ {lock udt start s out₀ : List ℕ} {known : Bool} {n i at accepted : ℕ} {out : List ℕ} (g : Running lock udt start s out₀ known n i at accepted out) where
   more : {out' : List ℕ} → i < n → out' ≡ splice out (5 * i) (words (verdictAt lock udt start s at i))
-      → Running lock udt start s out₀ n (i + 1) (handedBack (verdictAt lock udt start s at i) at (i + 1)) (handedBack (verdictAt lock udt start s at i) accepted (accepted + 1)) out'
+      → Running lock udt start s out₀ known n (i + 1) (handedBack (verdictAt lock udt start s at i) at (i + 1)) (handedBack (verdictAt lock udt start s at i) accepted (accepted + 1)) out'
   unfolding allWords indexAfter
   more {out'} l e =
       let v = verdictAt lock udt start s at i in
@@ -128,6 +142,7 @@ module _ {lock udt start s out₀ : List ℕ} {n i at accepted : ℕ} {out : Lis
       let q : Put out' (5 * (i + 1)) (allWords r) (splice out' (5 * (i + 1)) (allWords r)) (5 * (i + 1) + length (allWords r)) = record { bytes = refl; end = refl; room = omega arith } in
       record {
         count = g .count;
+        read = g .read ∙ sym (readable-on lock udt start s at i);
         within = omega arith;
         few = count-few v accepted i (g .few);
         long = k ∙ g .long;
@@ -138,7 +153,7 @@ module _ {lock udt start s out₀ : List ℕ} {n i at accepted : ℕ} {out : Lis
       }
 
   pub run-more : (u : Update) {out' : List ℕ} {at' accepted' : ℕ} → i < n → told u ≡ judge lock udt (transactionAt start s at) (callAt s i) → out' ≡ splice out (5 * i) (words (told u))
-      → at' ≡ inForceOf u at (i + 1) → accepted' ≡ inForceOf u accepted (accepted + 1) → Running lock udt start s out₀ n (i + 1) at' accepted' out'
+      → at' ≡ inForceOf u at (i + 1) → accepted' ≡ inForceOf u accepted (accepted + 1) → Running lock udt start s out₀ known n (i + 1) at' accepted' out'
   run-more u l e h ha hc =
       let v = verdictAt lock udt start s at i in
       rw (ha ∙ hands v u at (i + 1) e, hc ∙ hands v u accepted (accepted + 1) e) (more l (rw e at h))

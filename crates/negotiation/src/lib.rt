@@ -5,9 +5,10 @@ use rules::Update;
 ghost use mathlib.Core.Path.{_≡_};
 ghost use Prim.Native.Nat.{_+_, _*_, _≤_};
 ghost use lib.ListN.{length};
-ghost use Rattle.molecule.specs.Molecule.{readable};
+ghost use Rattle.molecule.specs.Molecule.{option, readable};
 ghost use Rattle.molecule.specs.Layout.{inside, itemCount};
 ghost use Rattle.molecule.specs.Write.{splice};
+ghost use Rattle.transaction.specs.Ckb.{Transaction};
 ghost use Rattle.rules.specs.Judge.{judge};
 ghost use Rattle.rules.specs.Outcome.{fine};
 ghost use Rattle.rules.specs.Told.{told, inForceOf};
@@ -100,23 +101,29 @@ pub fn transaction_at<'a>(start: &'a [u8], updates: &'a [u8], at: usize) -> &'a 
 
 // ---- one update
 
-// Judges update i against the transaction with index `at`.
+// Judges update i against the transaction with index `at`, of which it is known whether it is readable: that is not read again, and the time goes by the
+// update's own bytes.
 fn judge_at<'a>(
     start: &'a [u8],
     lock: &[u8],
     udt: &[u8],
     updates: &'a [u8],
+    known: bool,
     at: usize,
     i: usize,
 ) -> Update
+    requires { ⌜ known ≡ readable (option Transaction) (transactionAt (now start) (now updates) at) ⌝ }
     ensures { λ r. ⌜ told r ≡ judge (now (lock .entry)) (now (udt .entry)) (transactionAt (now (start .entry)) (now (updates .entry)) at) (callAt (now (updates .entry)) i) ⌝ }
 {
+    if !known {
+        return Update::Refused(Refusal::OurTransactionUnreadable);
+    }
     let ours = transaction_at(start, updates, at);
     let peer = bytes(updates, i, 0);
     let records = bytes(updates, i, 1);
     let source = bytes(updates, i, 2);
     let rate = rate(updates, i);
-    funding_tx::update_for_peer(ours, peer, lock, udt, source, rate, records)
+    funding_tx::judge_against(ours, peer, lock, udt, source, rate, records)
 }
 
 // Copies words to `at`, where there is room.
@@ -157,7 +164,8 @@ fn after(update: Update, ours: usize, peer: usize) -> usize
 
 // ---- all updates
 
-// Judges the n updates one after another.
+// Judges the n updates one after another. The start is read once: where it is readable so is every transaction that is accepted after it, and where it is not
+// none is accepted.
 fn judge_all<'a>(
     start: &'a [u8],
     lock: &[u8],
@@ -169,11 +177,12 @@ fn judge_all<'a>(
     requires { ⌜ (n ≡ itemCount (now updates)) × (5 * n ≤ length (now answers)) ⌝ }
     ensures { λ r. ⌜ (answered r, now (answers .exit)) ≡ leaves (fine (verdicts (updateForPeer (now (lock .entry)) (now (udt .entry))) (now (start .entry)) (callsOf (now (updates .entry))))) (now (answers .entry)) ⌝ }
 {
+    let known = transaction::is_optional_transaction(start);
     let mut at = 0;
     let mut accepted = 0;
     let mut i = 0;
     while i < n {
-        let update = judge_at(start, lock, udt, updates, at, i);
+        let update = judge_at(start, lock, udt, updates, known, at, i);
         put_words(answers, 5 * i, update);
         i += 1;
         at = after(update, at, i);

@@ -16,8 +16,8 @@ use Rattle.molecule.specs.Molecule.{option, readable}
 use Rattle.molecule.proofs.ReadableLaws.{readable-option}
 use Rattle.transaction.specs.Ckb.{Transaction}
 use Rattle.rules.specs.Surplus.{total, first, added, Measure, capacities, capacityOf, amountOf, tokenOf, isOf, hasAmount, tokens, nothing, expected, isEmpty}
-use Rattle.rules.specs.Judge.{Call, Figures, txOf, judge, spent, comparison, live, liveCells, counted, tally, settled, account, growth, tokenDelta, fundingOutputDelta, covered, tokenAccount, accounts, contribution}
-use Rattle.rules.specs.Run.{allCells}
+use Rattle.rules.specs.Judge.{Call, Figures, txOf, judge, judgeAgainst, spent, comparison, live, liveCells, counted, tally, settled, account, growth, tokenDelta, fundingOutputDelta, covered, tokenAccount, accounts, contribution}
+use Rattle.rules.specs.Run.{allCells, handedBack, next, updateForPeer}
 use Rattle.rules.proofs.Telescope.{prefix-length}
 use Rattle.rules.specs.Step.{Settled, with-data, Extends, Step}
 use Rattle.rules.proofs.Tests.{both, agree-prefix, drop-more, fine-inj, bind-fine, check-fine, checkWith-fine, check-last, then-fine, given-fine, never}
@@ -279,13 +279,14 @@ read-again bs t e = e ∙ ap some (sym (ours-tx bs t e))
 
 -- What an acceptance of update_for_peer says of the bytes it was given.
 pub record Accepted (type oursBytes : List ℕ) (call : Call) (s : Figures) : Type 0 where
+  pub oursReadable : readOurs oursBytes ≡ some (txOf oursBytes)
   pub peerReadable : readOurs (call .peer) ≡ some (txOf (call .peer))
   pub capacity : Step capacities (txOf oursBytes) (txOf (call .peer)) (allCells (readRecords (call .records))) (s .capacity)
   pub token : Step (expected type) (txOf oursBytes) (txOf (call .peer)) (allCells (readRecords (call .records))) (s .token)
 
 pub accepted : (lock type oursBytes : List ℕ) (call : Call) (s : Figures) → judge lock type oursBytes call ≡ fine s
     → Accepted type oursBytes call s
-unfolding judge
+unfolding judge judgeAgainst
 accepted lock type oursBytes call s e =
     let (ours, o, e₁) = bind-fine _ _ _ e in
     let (peer, p, e₂) = bind-fine _ _ _ e₁ in
@@ -299,7 +300,29 @@ accepted lock type oursBytes call s e =
     let c : Extends ours peer = compared lock type ours peer tt compares in
     let seen : Examined ours peer (readRecords (call .records)) cs = examined ours peer _ _ cs (prefix-length (c .inputs)) x in
     record {
+      oursReadable = read-again oursBytes ours readO;
       peerReadable = read-again (call .peer) peer readP;
       capacity = as-step oursBytes call readO readP c seen capacityPaid;
       token = as-step oursBytes call readO readP c seen tokenPaid;
     }
+
+-- ---- what is known of our bytes
+
+read-is : (bs : List ℕ) (t : Tx) → readOurs bs ≡ some t → readable (option Transaction) bs ≡ true
+unfolding readOurs only
+read-is bs t e = by (readable (option Transaction) bs) e
+  where
+    by : (b : Bool) → only b (some (txAt bs)) ≡ some t → b ≡ true
+    by true e = refl
+    by false e = absurd (Option·none-ne-some t e)
+
+-- a call leaves bytes in force that are readable, or none, where ours were, and only there: against unreadable ones nothing is accepted
+pub readable-next : (lock type ours : List ℕ) (c : Call)
+    → readable (option Transaction) (next (updateForPeer lock type) ours c) ≡ readable (option Transaction) ours
+readable-next lock type ours c = by (judge lock type ours c) refl
+  where
+    by : (v : Outcome Figures) → judge lock type ours c ≡ v → readable (option Transaction) (handedBack v ours (c .peer)) ≡ readable (option Transaction) ours
+    by (fine f) e =
+        let a : Accepted type ours c f = accepted lock type ours c f e in
+        read-is (c .peer) _ (a .peerReadable) ∙ sym (read-is ours _ (a .oursReadable))
+    by (refused n l) e = refl

@@ -205,10 +205,9 @@ scripts lock type source = do
   check 3 (readable (option Script) type)
   check 3 (readable Script source)
 
-unfoldable pub judge : List ℕ → List ℕ → List ℕ → Call → Outcome Figures
-judge lock type oursBytes call = do
-  -- our bytes unreadable
-  ours ← given 1 (readOurs oursBytes)
+-- the checks after "our bytes unreadable", against our transaction as it was read
+unfoldable pub judgeAgainst : List ℕ → List ℕ → Tx → Call → Outcome Figures
+judgeAgainst lock type ours call = do
   -- peer's bytes unreadable
   peer ← given 2 (readTx (call .peer))
   scripts lock type (call .source)
@@ -216,3 +215,9 @@ judge lock type oursBytes call = do
   comparison lock type ours peer
   records ← spent (call .source) ours peer (readRecords (call .records))
   contribution type ours peer records (call .rate) (length (call .peer) + 4)
+
+unfoldable pub judge : List ℕ → List ℕ → List ℕ → Call → Outcome Figures
+judge lock type oursBytes call = do
+  -- our bytes unreadable
+  ours ← given 1 (readOurs oursBytes)
+  judgeAgainst lock type ours call

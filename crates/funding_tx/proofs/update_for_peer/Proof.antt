@@ -1,4 +1,3 @@
-use Rattle.funding_tx.proofs.VerdictLaws.{judge-whole}
 use Rattle.funding_tx.proofs.Ways.{ways}
 use Rattle.funding_tx.proofs.update_for_peer.Statement.{statement}
 use Rattle.funding_tx.proofs.update_for_peer.Tie as tie
@@ -7,37 +6,7 @@ pub update-for-peer-spec : {M : Type 1} → statement M
 update-for-peer-spec =
     tie.close
     (tie.spec
-    (λ c. search ways)  -- sub-ours
-    (λ c. search ways)  -- part-ours-start
-    (λ c. search ways)  -- part-ours-end
-    (λ c. search ways)  -- sub-peer
-    (λ c. search ways)  -- part-peer-start
-    (λ c. search ways)  -- part-peer-end
-    (λ c. search ways)  -- sub-lock
-    (λ c. search ways)  -- part-lock-start
-    (λ c. search ways)  -- part-lock-end
-    (λ c. search ways)  -- sub-udt
-    (λ c. search ways)  -- part-udt-start
-    (λ c. search ways)  -- part-udt-end
-    (λ c. search ways)  -- sub-source
-    (λ c. search ways)  -- part-source-start
-    (λ c. search ways)  -- part-source-end
-    (λ c. search ways)  -- sub-records
-    (λ c. search ways)  -- part-records-start
-    (λ c. search ways)  -- part-records-end
     (λ c κs. search ways)  -- is-optional-transaction-requires
-    (λ c. judge-whole _ _ _ _ _ _ _ (search ways))  -- returns
-    (λ c κs. search ways)  -- is-transaction-requires
-    (λ c. judge-whole _ _ _ _ _ _ _ (search ways))  -- returns-2
-    (λ c κs. search ways)  -- are-scripts-requires
-    (λ c. judge-whole _ _ _ _ _ _ _ (search ways))  -- returns-3
-    (λ c κs. search ways)  -- validate-peer-funding-tx-complexity-requires
-    (λ c. judge-whole _ _ _ _ _ _ _ (search ways))  -- returns-4
-    (λ c κs. search ways)  -- keeps-ours-requires
-    (λ c. judge-whole _ _ _ _ _ _ _ (search ways))  -- returns-5
-    (λ c κs. search ways)  -- resolve-requires
-    (λ c. search ways)  -- enum-known-capacity
-    (λ c κs. search ways)  -- verify-peer-funding-contribution-requires
-    (λ c. search ways)  -- enum-known-e
-    (λ c. judge-whole _ _ _ _ _ _ _ (search ways))  -- returns-6
-    (λ c. judge-whole _ _ _ _ _ _ _ (search ways)))  -- returns-7
+    (λ c. search ways)  -- returns
+    (λ c κs. search ways)  -- judge-against-requires
+    (λ c. search ways))  -- returns-2

@@ -5,10 +5,10 @@ use Rattle.negotiation.proofs.judge_all.Statement.{statement}
 use Rattle.negotiation.proofs.judge_all.Tie as tie
 
 abbrev Inv-loop : tie.InvT-loop
-Inv-loop start lock udt updates n answers₀ at₀ accepted₀ i₀ answers at accepted i = Running lock udt start updates answers₀ n i at accepted answers
+Inv-loop start lock udt updates n answers₀ known at₀ accepted₀ i₀ answers at accepted i = Running lock udt start updates answers₀ known n i at accepted answers
 
 abbrev μ-loop : tie.MeasureT-loop
-μ-loop start lock udt updates n answers₀ at₀ accepted₀ i₀ answers at accepted i = n - i
+μ-loop start lock udt updates n answers₀ known at₀ accepted₀ i₀ answers at accepted i = n - i
 
 pub judge-all-spec : {M : Type 1} → statement M
 judge-all-spec =
@@ -16,6 +16,7 @@ judge-all-spec =
     (tie.spec
     Inv-loop
     μ-loop
+    (λ c κs. search ways)  -- is-optional-transaction-requires
     (λ c. search ways)  -- loop-holds
     (λ c κs. search ways)  -- judge-at-requires
     (λ c. search ways)  -- mul-put-words
