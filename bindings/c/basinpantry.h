@@ -222,7 +222,8 @@ uint32_t basinpantry_build_base(const uint8_t *ours, size_t ours_len,
 
 /* Held cells: 256 places of 48 bytes, each an out point (36), a kind (4) and a number (8). Kind 0 is a funding, and the number its holder; any other kind the
    watchtower, and the number the end in milliseconds: every content means a table, and a count above 256 counts as 256. A call that is done writes the
-   records that stand anew in this form. Watchtower records that have ended are dropped by lock_held and take; the two calls that hold count them for 14. */
+   records that stand anew in this form. Watchtower records that have ended are dropped by lock_held and take; the two calls that hold count them for 14. Of a
+   cell with two watchtower records, which no call makes, hold_for_watchtower renews the first. */
 #define BASINPANTRY_HELD_BYTES 12292
 
 /* The funding inputs that `holder` holds now, in place of the ones that it held before. A holder is a number of the caller's: two that use one number replace

@@ -5,7 +5,8 @@ use mathlib.Core.List.{List, [], _∷_}
 use Rattle.error.specs.declared.Refusal.{Refusal}
 use Rattle.error.specs.Refusal.{number, values}
 use Rattle.units.specs.declared.{Shannons.Shannons, Tokens.Tokens}
-use Rattle.units.specs.Units.{shannonCount, tokenCount}
+use Rattle.arithmetic.specs.Amount.{halves, amountOf}
+use Rattle.units.specs.Units.{inShannons, shannonCount, tokenCount}
 use Rattle.words.specs.Words.{setWords, numberOf, valuesOf, inWords}
 use Rattle.words.proofs.WordLaws.{refused-as, low-is, high-is}
 use Rattle.transaction_writer.specs.declared.Written.{Written}
@@ -14,7 +15,7 @@ use Rattle.funding_cell.specs.FundingCell as cell
 use Rattle.udt_cells.specs.declared.UdtInputsOutputs.{UdtInputsOutputs}
 use Rattle.udt_cells.specs.Change.{answered}
 use Rattle.base_writer.specs.Answer as writer
-use Rattle.answer_words.specs.Answers.{countWords, cellWords, pickWords}
+use Rattle.answer_words.specs.Answers.{countWords, cellWords, pickWords, request}
 
 pub bytes-written : (w : Written) (words : List ℕ) {n : ℕ} {r : ℕ × List ℕ} → w ≡ Written.Wrote n → r ≡ setWords 0 (n ∷ 0 ∷ 0 ∷ 0 ∷ []) words → r ≡ inWords countWords (writer.told w) words
 unfolding setWords inWords numberOf valuesOf countWords
@@ -43,3 +44,15 @@ pick-made p words {taken} {change} {capacity} e hc hs k =
 pub pick-refused : (p : UdtInputsOutputs) (words : List ℕ) (why : Refusal) {r : ℕ × List ℕ} → p ≡ UdtInputsOutputs.Refused why
     → r ≡ setWords (number why) (values why) words → r ≡ inWords pickWords (answered p) words
 pick-refused p words why e k = refused-as pickWords words why (rw e) k
+
+-- ---- the figures of a request: a word is that many shannons
+
+pub request-is : (localLow localHigh localReserved remoteLow remoteHigh remoteReserved : ℕ) {c d : Shannons} → c ≡ inShannons (amountOf localReserved)
+    → d ≡ inShannons (amountOf remoteReserved)
+    → record {
+      «local_amount» = halves localLow localHigh;
+      «local_reserved_ckb_amount» = c;
+      «remote_amount» = halves remoteLow remoteHigh;
+      «remote_reserved_ckb_amount» = d;
+    } ≡ request localLow localHigh localReserved remoteLow remoteHigh remoteReserved
+request-is localLow localHigh localReserved remoteLow remoteHigh remoteReserved ec ed = rw (ec, ed)

@@ -1,7 +1,8 @@
 -- The values of each answer, as words for C, and the figures that come as words.
 use Prim.Native.Nat.{ℕ}
 use mathlib.Core.List.{List, [], _∷_}
-use Rattle.arithmetic.specs.Amount.{halves}
+use Rattle.arithmetic.specs.Amount.{halves, amountOf}
+use Rattle.units.specs.Units.{inShannons}
 use Rattle.rules.specs.Judge.{Figures}
 use Rattle.words.specs.Words.{low, high}
 use Rattle.funding_cell.specs.declared.FundingRequest.{FundingRequest}
@@ -26,11 +27,11 @@ replayWords s = s .updates ∷ s .accepted ∷ s .at ∷ []
 
 -- ---- figures that cross as words
 
--- what each side is to bring: the amounts in two words
+-- what each side is to bring: the amounts in two words, the reserves in one
 abbrev pub request : ℕ → ℕ → ℕ → ℕ → ℕ → ℕ → FundingRequest
 request localLow localHigh localReserved remoteLow remoteHigh remoteReserved = record {
   «local_amount» = halves localLow localHigh;
-  «local_reserved_ckb_amount» = localReserved;
+  «local_reserved_ckb_amount» = inShannons (amountOf localReserved);
   «remote_amount» = halves remoteLow remoteHigh;
-  «remote_reserved_ckb_amount» = remoteReserved;
+  «remote_reserved_ckb_amount» = inShannons (amountOf remoteReserved);
 }

@@ -8,6 +8,7 @@ use funding_cell::FundingRequest;
 use negotiation::Replayed;
 use transaction_writer::Written;
 use udt_cells::UdtInputsOutputs;
+use units::Shannons;
 ghost use mathlib.Core.Path.{_≡_};
 ghost use Rattle.words.specs.Words.{inWords};
 ghost use Rattle.funding_cell.specs.FundingCell as funding;
@@ -89,11 +90,11 @@ pub fn request(
             low: local_low,
             high: local_high,
         },
-        local_reserved_ckb_amount: local_reserved,
+        local_reserved_ckb_amount: Shannons::from_u64(local_reserved),
         remote_amount: Amount {
             low: remote_low,
             high: remote_high,
         },
-        remote_reserved_ckb_amount: remote_reserved,
+        remote_reserved_ckb_amount: Shannons::from_u64(remote_reserved),
     }
 }

@@ -4,9 +4,11 @@ use list_writer::MAX_BYTES;
 use list_writer::capped;
 use list_writer::list_size;
 use list_writer::put_list;
+use units::Shannons;
 ghost use mathlib.Core.Path.{_≡_};
 ghost use Prim.Native.Nat.{ℕ, _+_, min};
 ghost use lib.ListN.{length};
+ghost use Rattle.units.specs.Units.{shannonCount};
 ghost use Rattle.molecule.specs.Items.{join};
 ghost use Rattle.list_writer.specs.ListWriter.{ifPositive, putList, putListEnd};
 ghost use Rattle.cell_output.specs.CellOutput.{cellOutput};
@@ -21,10 +23,10 @@ fn cell_size(lock: &[u8], udt: &[u8]) -> usize
 }
 
 // How long the change's output is; a change without a capacity has none.
-fn change_size(change: u64, source: &[u8], udt: &[u8]) -> usize
-    ensures { λ r. ⌜ r ≡ min (length (ifPositive change (cellOutput change (now (source .entry)) (now (udt .entry))))) 133117 ⌝ }
+fn change_size(change: Shannons, source: &[u8], udt: &[u8]) -> usize
+    ensures { λ r. ⌜ r ≡ min (length (ifPositive (shannonCount change) (cellOutput (shannonCount change) (now (source .entry)) (now (udt .entry))))) 133117 ⌝ }
 {
-    if change == 0 {
+    if change.is_zero() {
         return 0;
     }
     cell_size(source, udt)
@@ -36,10 +38,10 @@ pub fn outputs_size(
     udt: &[u8],
     present: &[u8],
     k: usize,
-    change: u64,
+    change: Shannons,
     source: &[u8],
 ) -> usize
-    ensures { λ r. ⌜ ((capacity : ℕ) → r ≡ min (length (join (outputList capacity (now (lock .entry)) (now (udt .entry)) (now (present .entry)) k change (now (source .entry))))) 133117) ⌝ }
+    ensures { λ r. ⌜ ((n : ℕ) → r ≡ min (length (join (outputList n (now (lock .entry)) (now (udt .entry)) (now (present .entry)) k (shannonCount change) (now (source .entry))))) 133117) ⌝ }
 {
     let first = cell_size(lock, udt);
     let last = change_size(change, source, udt);
@@ -50,22 +52,22 @@ pub fn outputs_size(
 pub fn put_outputs(
     out: &mut [u8],
     at: usize,
-    capacity: u64,
+    capacity: Shannons,
     lock: &[u8],
     udt: &[u8],
     present: &[u8],
     k: usize,
-    change: u64,
+    change: Shannons,
     source: &[u8],
 ) -> usize
-    ensures { λ _. ⌜ now (out .exit) ≡ putList (now (out .entry)) at (join (outputList capacity (now (lock .entry)) (now (udt .entry)) (now (present .entry)) k change (now (source .entry)))) ⌝ }
-    ensures { λ r. ⌜ r ≡ putListEnd (now (out .entry)) at (join (outputList capacity (now (lock .entry)) (now (udt .entry)) (now (present .entry)) k change (now (source .entry)))) ⌝ }
+    ensures { λ _. ⌜ now (out .exit) ≡ putList (now (out .entry)) at (join (outputList (shannonCount capacity) (now (lock .entry)) (now (udt .entry)) (now (present .entry)) k (shannonCount change) (now (source .entry)))) ⌝ }
+    ensures { λ r. ⌜ r ≡ putListEnd (now (out .entry)) at (join (outputList (shannonCount capacity) (now (lock .entry)) (now (udt .entry)) (now (present .entry)) k (shannonCount change) (now (source .entry)))) ⌝ }
 {
     if cell_size(lock, udt) > MAX_BYTES {
         return at;
     }
     let head = output_head(capacity, lock.len(), udt.len());
-    if change == 0 {
+    if change.is_zero() {
         let none = &lock[0..0];
         return put_list(out, at, &head, lock, udt, present, k, none, none, none);
     }

@@ -15,7 +15,7 @@ use Rattle.error.specs.Refusal.{number, values}
 use Rattle.transaction_writer.specs.declared.Written.{Written}
 use Rattle.transaction_writer.specs.Written.{txBytes, txHead, fits}
 use Rattle.transaction_writer.proofs.PutLaws.{tx-length, head-length, head-runs}
-use Rattle.units.specs.Units.{tokenCount}
+use Rattle.units.specs.Units.{shannonCount, tokenCount}
 use Rattle.molecule.specs.Items.{join}
 use Rattle.molecule.specs.Layout.{itemCount, fixCount}
 use Rattle.rules.specs.Surplus.{isEmpty}
@@ -158,7 +158,7 @@ module _ (version : ℕ) (deps headers inputs outputs datas lock udt source cell
   first₃ = fixList (inputList inputs cells (p .taken))
 
   abbrev last₁ : List ℕ
-  last₁ = join (outputList (p .capacity) lock udt outputs (itemCount outputs - 1) (p .«change_capacity») source)
+  last₁ = join (outputList (shannonCount (p .capacity)) lock udt outputs (itemCount outputs - 1) (shannonCount (p .«change_capacity»)) source)
 
   abbrev last₂ : List ℕ
   last₂ = join (dataList (not (isEmpty udt)) (tokenCount (p .token)) datas (itemCount outputs - 1) (tokenCount (p .change)))

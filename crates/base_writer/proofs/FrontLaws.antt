@@ -12,7 +12,7 @@ use Rattle.transaction_writer.specs.Written.{txHead, putHead, headEnd}
 use Rattle.transaction_writer.proofs.PutLaws.{head-did, head-length}
 use Rattle.list_writer.specs.ListWriter.{putList, putListEnd}
 use Rattle.list_writer.proofs.AnswerLaws.{did-list, and-list}
-use Rattle.units.specs.Units.{tokenCount}
+use Rattle.units.specs.Units.{shannonCount, tokenCount}
 use Rattle.molecule.specs.Items.{join}
 use Rattle.molecule.specs.Layout.{itemCount, fixCount}
 use Rattle.rules.specs.Surplus.{isEmpty}
@@ -72,7 +72,7 @@ module _ (outputs datas udt : List ℕ) (p : Plan) (out : List ℕ) (at : ℕ) {
 -- the last three lists likewise, with how many inputs are present
 module _ (inputs outputs datas lock udt source : List ℕ) (p : Plan) (out : List ℕ) (at : ℕ) {later present : ℕ} (el : later ≡ itemCount outputs - 1) (ep : present ≡ fixCount inputs) where
   abbrev last₁ : List ℕ
-  last₁ = join (outputList (p .capacity) lock udt outputs (itemCount outputs - 1) (p .«change_capacity») source)
+  last₁ = join (outputList (shannonCount (p .capacity)) lock udt outputs (itemCount outputs - 1) (shannonCount (p .«change_capacity»)) source)
 
   abbrev last₂ : List ℕ
   last₂ = join (dataList (not (isEmpty udt)) (tokenCount (p .token)) datas (itemCount outputs - 1) (tokenCount (p .change)))
@@ -80,15 +80,15 @@ module _ (inputs outputs datas lock udt source : List ℕ) (p : Plan) (out : Lis
   abbrev last₃ : List ℕ
   last₃ = join (witnessList (fixCount inputs) (p .taken))
 
-  same₁ : join (outputList (p .capacity) lock udt outputs later (p .«change_capacity») source) ≡ last₁
+  same₁ : join (outputList (shannonCount (p .capacity)) lock udt outputs later (shannonCount (p .«change_capacity»)) source) ≡ last₁
   same₁ = rw el
 
   same₃ : join (witnessList present (p .taken)) ≡ last₃
   same₃ = rw ep
 
   pub back-done : BackFits at last₁ last₂ last₃ out → {o₁ o₂ o₃ : List ℕ} {n₁ n₂ n₃ : ℕ}
-      → o₁ ≡ putList out at (join (outputList (p .capacity) lock udt outputs later (p .«change_capacity») source))
-      → n₁ ≡ putListEnd out at (join (outputList (p .capacity) lock udt outputs later (p .«change_capacity») source))
+      → o₁ ≡ putList out at (join (outputList (shannonCount (p .capacity)) lock udt outputs later (shannonCount (p .«change_capacity»)) source))
+      → n₁ ≡ putListEnd out at (join (outputList (shannonCount (p .capacity)) lock udt outputs later (shannonCount (p .«change_capacity»)) source))
       → o₂ ≡ putList o₁ n₁ (join (dataList (not (isEmpty udt)) (tokenCount (p .token)) datas (itemCount outputs - 1) (tokenCount (p .change))))
       → n₂ ≡ putListEnd o₁ n₁ (join (dataList (not (isEmpty udt)) (tokenCount (p .token)) datas (itemCount outputs - 1) (tokenCount (p .change))))
       → o₃ ≡ putList o₂ n₂ (join (witnessList present (p .taken))) → n₃ ≡ putListEnd o₂ n₂ (join (witnessList present (p .taken)))

@@ -8,7 +8,7 @@ use lib.Dec.{eqb}
 use lib.ListN.{length}
 use Rattle.arithmetic.specs.LittleEndian.{toLe}
 use Rattle.arithmetic.proofs.LittleEndianLaws.{length-toLe}
-use Rattle.units.specs.Units.{tokenCount}
+use Rattle.units.specs.Units.{shannonCount, tokenCount}
 use Rattle.molecule.specs.Items.{join}
 use Rattle.molecule.specs.Layout.{itemCount, fixCount}
 use Rattle.molecule.specs.Write.{putAt, putEnd}
@@ -61,7 +61,7 @@ pub sized : (t : Present) (l : Beside) (x : List ℕ) (p : Plan) {later present 
     → d ≡ min (length (fixList (depsAt (t .deps) (l .udtDeps) (l .lockDep) (l .extraDeps) x))) 133117
     → h ≡ min (length (orEmpty (t .headers))) 133117
     → i ≡ min (length (fixList (inputList (t .inputs) (l .cells) (p .taken)))) 133117
-    → ((capacity : ℕ) → o ≡ min (length (join (outputList capacity (l .lock) (l .udt) (t .outputs) later (p .«change_capacity») (l .source)))) 133117)
+    → ((capacity : ℕ) → o ≡ min (length (join (outputList capacity (l .lock) (l .udt) (t .outputs) later (shannonCount (p .«change_capacity»)) (l .source)))) 133117)
     → ((tokens : ℕ) → a ≡ min (length (join (dataList (not (eqb (length (l .udt)) 0)) tokens (t .datas) later (tokenCount (p .change))))) 133117)
     → w ≡ min (length (join (witnessList present (p .taken)))) 133117
     → Capped (record { deps = d; headers = h; inputs = i; outputs = o; datas = a; witnesses = w }) (listsOf t l x p)
@@ -70,7 +70,7 @@ sized t l x p el ep ed eh ei eo ea ew = record {
   deps = ed;
   headers = eh;
   inputs = ei;
-  outputs = rw (← el) (eo (p .capacity));
+  outputs = rw (← el) (eo (shannonCount (p .capacity)));
   datas = rw (← el, ← typed-is (l .udt)) (ea (tokenCount (p .token)));
   witnesses = rw (← ep) ew;
 }

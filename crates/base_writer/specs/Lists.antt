@@ -5,7 +5,7 @@ use mathlib.Core.Bool.{not}
 use mathlib.Core.List.{List, [], _∷_, _++_}
 use lib.ListN.{length}
 use Rattle.arithmetic.specs.LittleEndian.{toLe}
-use Rattle.units.specs.Units.{tokenCount}
+use Rattle.units.specs.Units.{shannonCount, tokenCount}
 use Rattle.molecule.specs.Items.{join}
 use Rattle.molecule.specs.Layout.{itemCount, fixCount}
 use Rattle.rules.specs.Surplus.{isEmpty}
@@ -60,7 +60,7 @@ listsOf t l x p = record {
   deps = fixList (depsAt (t .deps) (l .udtDeps) (l .lockDep) (l .extraDeps) x);
   headers = orEmpty (t .headers);
   inputs = fixList (inputList (t .inputs) (l .cells) (p .taken));
-  outputs = join (outputList (p .capacity) (l .lock) (l .udt) (t .outputs) (itemCount (t .outputs) - 1) (p .«change_capacity») (l .source));
+  outputs = join (outputList (shannonCount (p .capacity)) (l .lock) (l .udt) (t .outputs) (itemCount (t .outputs) - 1) (shannonCount (p .«change_capacity»)) (l .source));
   datas = join (dataList (not (isEmpty (l .udt))) (tokenCount (p .token)) (t .datas) (itemCount (t .outputs) - 1) (tokenCount (p .change)));
   witnesses = join (witnessList (fixCount (t .inputs)) (p .taken));
 }

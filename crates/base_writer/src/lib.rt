@@ -3,6 +3,7 @@ use error::Refusal;
 use list_writer::MAX_BYTES;
 use molecule::write;
 use transaction_writer::Written;
+use units::Shannons;
 use units::Tokens;
 ghost use mathlib.Core.Path.{_≡_};
 ghost use Prim.Native.Nat.{_-_, min};
@@ -12,7 +13,7 @@ ghost use Rattle.molecule.specs.Layout.{itemCount, fixCount};
 ghost use Rattle.molecule.specs.Write.{putAt, putEnd, Put};
 ghost use Rattle.rules.specs.Outcome.{fine};
 ghost use Rattle.base_writer.specs.Answer.{written, told};
-ghost use Rattle.units.specs.Units.{tokenCount};
+ghost use Rattle.units.specs.Units.{shannonCount, tokenCount};
 ghost use Rattle.molecule.specs.Items.{join};
 ghost use Rattle.rules.specs.Surplus.{isEmpty};
 ghost use Rattle.base_inputs.specs.BaseInputs.{inputList};
@@ -24,11 +25,11 @@ ghost use Rattle.base_writer.specs.Lists.{orEmpty, presentOf, besideOf, 
 // The figures of a base transaction: the funding cell's, how many token cells are taken, what change is left of them, and the capacity of its
 // output, 0 where there is none.
 pub struct Plan {
-    pub capacity: u64,
+    pub capacity: Shannons,
     pub token: Tokens,
     pub taken: usize,
     pub change: Tokens,
-    pub change_capacity: u64,
+    pub change_capacity: Shannons,
 }
 
 // How long each list is.
@@ -173,8 +174,8 @@ fn put_back(
     source: &[u8],
     plan: Plan,
 ) -> usize
-    requires { ⌜ BackFits at (join (outputList (plan .capacity) (now lock) (now udt) (now outputs) (itemCount (now outputs) - 1) (plan .«change_capacity») (now source))) (join (dataList (not (isEmpty (now udt))) (tokenCount (plan .token)) (now datas) (itemCount (now outputs) - 1) (tokenCount (plan .change)))) (join (witnessList (fixCount (now inputs)) (plan .taken))) (now out) ⌝ }
-    ensures { λ r. ⌜ Put (now (out .entry)) at (back (join (outputList (plan .capacity) (now (lock .entry)) (now (udt .entry)) (now (outputs .entry)) (itemCount (now (outputs .entry)) - 1) (plan .«change_capacity») (now (source .entry)))) (join (dataList (not (isEmpty (now (udt .entry)))) (tokenCount (plan .token)) (now (datas .entry)) (itemCount (now (outputs .entry)) - 1) (tokenCount (plan .change)))) (join (witnessList (fixCount (now (inputs .entry))) (plan .taken)))) (now (out .exit)) r ⌝ }
+    requires { ⌜ BackFits at (join (outputList (shannonCount (plan .capacity)) (now lock) (now udt) (now outputs) (itemCount (now outputs) - 1) (shannonCount (plan .«change_capacity»)) (now source))) (join (dataList (not (isEmpty (now udt))) (tokenCount (plan .token)) (now datas) (itemCount (now outputs) - 1) (tokenCount (plan .change)))) (join (witnessList (fixCount (now inputs)) (plan .taken))) (now out) ⌝ }
+    ensures { λ r. ⌜ Put (now (out .entry)) at (back (join (outputList (shannonCount (plan .capacity)) (now (lock .entry)) (now (udt .entry)) (now (outputs .entry)) (itemCount (now (outputs .entry)) - 1) (shannonCount (plan .«change_capacity»)) (now (source .entry)))) (join (dataList (not (isEmpty (now (udt .entry)))) (tokenCount (plan .token)) (now (datas .entry)) (itemCount (now (outputs .entry)) - 1) (tokenCount (plan .change)))) (join (witnessList (fixCount (now (inputs .entry))) (plan .taken)))) (now (out .exit)) r ⌝ }
 {
     let later = later_count(outputs);
     let present = molecule::fix_count(inputs) as usize;

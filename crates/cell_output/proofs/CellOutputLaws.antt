@@ -42,6 +42,7 @@ module _ (room at lock type : ℕ) where
 
 -- ---- the head
 
+-- the low half of the capacity, in its 8 bytes
 capacity-of : (c : Shannons) → c .0 .low < 2 ^ 64 → toLe 8 (c .0 .low) ≡ toLe 8 (shannonCount c)
 unfolding shannonCount
 capacity-of c h = sym (low-bytes 8 (c .0 .low) (c .0 .high))
@@ -58,17 +59,17 @@ bytes-of x y c ea eb ez = rw (ea, eb, ez)
 low-sum : (m n : ℕ) → (m % 2 ^ 32 + n % 2 ^ 32) % 2 ^ 32 ≡ (m + n) % 2 ^ 32
 low-sum m n = omega arith
 
-pub head-is : (c lock type : ℕ) {m n x y : ℕ} {a b z : List ℕ} → m ≡ lock % 2 ^ 32 → y ≡ (24 + m) % 2 ^ 32 → n ≡ type % 2 ^ 32 → x ≡ (y + n) % 2 ^ 32
-    → a ≡ toLe 4 x → b ≡ toLe 4 y → z ≡ toLe 8 c
+pub head-is : (c : Shannons) (lock type : ℕ) {m n x y : ℕ} {a b z : List ℕ} → c .0 .low < 2 ^ 64 → m ≡ lock % 2 ^ 32 → y ≡ (24 + m) % 2 ^ 32 → n ≡ type % 2 ^ 32 → x ≡ (y + n) % 2 ^ 32
+    → a ≡ toLe 4 x → b ≡ toLe 4 y → z ≡ toLe 8 (c .0 .low)
     → getD a 0 0 ∷ getD a 1 0 ∷ getD a 2 0 ∷ getD a 3 0 ∷ 16 ∷ 0 ∷ 0 ∷ 0 ∷ 24 ∷ 0 ∷ 0 ∷ 0
     ∷ getD b 0 0 ∷ getD b 1 0 ∷ getD b 2 0 ∷ getD b 3 0
     ∷ getD z 0 0 ∷ getD z 1 0 ∷ getD z 2 0 ∷ getD z 3 0 ∷ getD z 4 0 ∷ getD z 5 0 ∷ getD z 6 0 ∷ getD z 7 0 ∷ []
-    ≡ outputHead c lock type
+    ≡ outputHead (shannonCount c) lock type
 unfolding outputHead
-head-is c lock type {m} {n} {x} {y} em ey en ex ea eb ez =
+head-is c lock type {m} {n} {x} {y} low em ey en ex ea eb ez =
     let fy : y ≡ (24 + lock) % 2 ^ 32 = omega arith in
     let fx : x ≡ (24 + lock + type) % 2 ^ 32 = ex ∙ ap₂ (λ (i j : ℕ). (i + j) % 2 ^ 32) fy en ∙ low-sum (24 + lock) type in
-    bytes-of (24 + lock + type) (24 + lock) c (ea ∙ ap (toLe 4) fx ∙ wrapped _) (eb ∙ ap (toLe 4) fy ∙ wrapped _) ez
+    bytes-of (24 + lock + type) (24 + lock) (shannonCount c) (ea ∙ ap (toLe 4) fx ∙ wrapped _) (eb ∙ ap (toLe 4) fy ∙ wrapped _) (ez ∙ capacity-of c low)
 
 -- by the lengths of lock and type
 head-length : (c lock type : ℕ) → length (outputHead c lock type) ≡ 24
@@ -118,17 +119,12 @@ module _ (c : ℕ) (lock type : List ℕ) where
     unfolding putEnd
     end-none h = rw (lt-leb (at + length (cellOutput c lock type)) (length out) (short h))
 
--- the head has the low half of the capacity, which has 8 bytes
-module _ (c : Shannons) (lock type out : List ℕ) (at : ℕ) {x after : List ℕ} {next : ℕ} (low : c .0 .low < 2 ^ 64) (ex : x ≡ outputHead (c .0 .low) (length lock) (length type)) (p : Put out at (x ++ lock ++ type) after next) where
-  same-head : outputHead (c .0 .low) (length lock) (length type) ≡ outputHead (shannonCount c) (length lock) (length type)
-  unfolding outputHead
-  same-head = ap (λ (y : List ℕ). unwords ((24 + length lock + length type) ∷ 16 ∷ 24 ∷ (24 + length lock) ∷ []) ++ y) (capacity-of c low)
+module _ (c : ℕ) (lock type out : List ℕ) (at : ℕ) {x after : List ℕ} {next : ℕ} (ex : x ≡ outputHead c (length lock) (length type)) (p : Put out at (x ++ lock ++ type) after next) where
+  whole : Put out at (cellOutput c lock type) after next
+  whole = as-bytes (ap (λ (y : List ℕ). y ++ lock ++ type) ex ∙ runs c lock type) p
 
-  whole : Put out at (cellOutput (shannonCount c) lock type) after next
-  whole = as-bytes (ap (λ (y : List ℕ). y ++ lock ++ type) (ex ∙ same-head) ∙ runs (shannonCount c) lock type) p
-
-  pub put-all : after ≡ putAt out at (cellOutput (shannonCount c) lock type)
+  pub put-all : after ≡ putAt out at (cellOutput c lock type)
   put-all = whole .bytes ∙ sym (put-yes out at _ (whole .room))
 
-  pub end-all : next ≡ putEnd out at (cellOutput (shannonCount c) lock type)
+  pub end-all : next ≡ putEnd out at (cellOutput c lock type)
   end-all = whole .end ∙ sym (end-yes out at _ (whole .room))

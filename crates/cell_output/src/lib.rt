@@ -37,15 +37,17 @@ fn low_word(n: usize) -> u32
     (n % 4_294_967_296) as u32
 }
 
-// What stands before the lock, by the lengths of lock and type. The size and the offsets are modulo 2^32, as four bytes hold them.
-pub fn output_head(capacity: u64, lock: usize, udt: usize) -> [u8; 24]
-    ensures { λ r. ⌜ r ≡ outputHead capacity lock udt ⌝ }
+// What stands before the lock, by the lengths of lock and type. The size and the offsets are modulo 2^32, as four bytes hold them, and the capacity
+// is modulo 2^64.
+pub fn output_head(capacity: Shannons, lock: usize, udt: usize) -> [u8; 24]
+    ensures { λ r. ⌜ r ≡ outputHead (shannonCount capacity) lock udt ⌝ }
 {
+    let amount = capacity.0;
     let before_type = std::num::wrapping_add_u32(24, low_word(lock));
     let whole = std::num::wrapping_add_u32(before_type, low_word(udt));
     let size = little_endian::u32_bytes(whole);
     let third = little_endian::u32_bytes(before_type);
-    let shannons = little_endian::u64_bytes(capacity);
+    let shannons = little_endian::u64_bytes(amount.low);
     [
         size[0],
         size[1],
@@ -98,7 +100,6 @@ pub fn put_cell_output(
     if !has_room(out.len(), at, lock.len(), udt.len()) {
         return at;
     }
-    let amount = capacity.0;
-    let head = output_head(amount.low, lock.len(), udt.len());
+    let head = output_head(capacity, lock.len(), udt.len());
     put_parts(out, at, &head, lock, udt)
 }

@@ -28,7 +28,7 @@ use Rattle.base_writer.specs.declared.Plan.{Plan}
 use Rattle.base_writer.specs.Answer.{inRoom, leaves, written, told}
 use Rattle.base_writer.specs.Lists.{presentOf, besideOf, listsOf, bytesOf}
 use Rattle.funding_builder.specs.Base.{Lent, lentOf, Packed, packed, baseTx}
-use Rattle.funding_builder.specs.Steps.{Ready, Roomy, Planned, presentIn, cellOf, pickOf}
+use Rattle.funding_builder.specs.Steps.{Readable, Roomy, Planned, presentIn, cellOf, pickOf}
 use Rattle.funding_builder.proofs.PresentLaws.{deps-readable, headers-again, option-of}
 
 packed-long : (t : Packed) → length (fixList (t .cellDeps)) ≤ length (packed t)
@@ -43,7 +43,7 @@ module _ (ours lock udt source cells udtDeps lockDep extraDeps : List ℕ) (capa
   abbrev base : List ℕ
   base = packed (baseTx l (cellOf capacity token) (pickOf taken change))
 
-  module _ (ready : Ready l capacity) {l₁ l₂ r : ℕ} (roomy : Roomy l taken l₁ l₂) {p : List ℕ} (choice : Chooses (rawField ours 1) (ifPositive taken udtDeps) (ifPositive taken lockDep) extraDeps (min l₁ l₂) p r) where
+  module _ (ready : Readable l) {l₁ l₂ r : ℕ} (roomy : Roomy l taken l₁ l₂) {p : List ℕ} (choice : Chooses (rawField ours 1) (ifPositive taken udtDeps) (ifPositive taken lockDep) extraDeps (min l₁ l₂) p r) where
     abbrev list : List (List ℕ)
     list = cellDeps (rawField ours 1) (ifPositive taken udtDeps) (ifPositive taken lockDep) extraDeps
 
@@ -59,7 +59,7 @@ module _ (ours lock udt source cells udtDeps lockDep extraDeps : List ℕ) (capa
         let n = choice .number in
         let most = roomy .enough (omega arith) in
         let far : 133116 < length (fixList list)
-        = too-many (rawField ours 1) (ifPositive taken udtDeps) (ifPositive taken lockDep) extraDeps (deps-readable ours (ready .lent .ours)) (if-readable CellDeps taken udtDeps (ready .lent .udtDeps)) (if-readable CellDep taken lockDep (ready .lent .lockDep)) (option-of CellDeps extraDeps (ready .lent .extraDeps)) (omega arith) in
+        = too-many (rawField ours 1) (ifPositive taken udtDeps) (ifPositive taken lockDep) extraDeps (deps-readable ours (ready .ours)) (if-readable CellDeps taken udtDeps (ready .udtDeps)) (if-readable CellDep taken lockDep (ready .lockDep)) (option-of CellDeps extraDeps (ready .extraDeps)) (omega arith) in
         let long : 133116 < length base = omega (arith, packed-long (baseTx l (cellOf capacity token) (pickOf taken change)), ap (λ (ds : List (List ℕ)). length (fixList ds)) same-deps) in
         rw (lt-leb (length base) 133116 long)
 
@@ -74,7 +74,7 @@ module _ (ours lock udt source cells udtDeps lockDep extraDeps : List ℕ) (capa
           let many : length (txAt ours .outputs) ≡ itemCount (rawField ours 4) = span-length (itemOf (rawField ours 4)) 0 (itemCount (rawField ours 4)) in
           let ins : length (txAt ours .inputs) ≡ fixCount (rawField ours 3) = span-length (fixItem (rawField ours 3) 44) 0 (fixCount (rawField ours 3)) in
           let dep : depsAt (rawField ours 1) (ifPositive taken udtDeps) (ifPositive taken lockDep) extraDeps (take r p) ≡ list = choice .chosen (omega arith) in
-          rw (plan .cell, plan .tokens, plan .picked, plan .left, plan .back, whole, dep, many, ins, ← headers-again ours (ready .lent .ours) b)
+          rw (plan .cell, plan .tokens, plan .picked, plan .left, plan .back, whole, dep, many, ins, ← headers-again ours (ready .ours) b)
 
       pub assembled : {y : Outcome ℕ × List ℕ} → r ≤ l₁
           → y ≡ written (fine (bytesOf (txAt ours .version) (listsOf (presentIn ours)

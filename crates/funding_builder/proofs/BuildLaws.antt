@@ -25,12 +25,11 @@ use Rattle.rules.proofs.Tests.{is-true, check-fine, check-last}
 use Rattle.transaction_writer.specs.declared.Written.{Written}
 use Rattle.funding_cell.specs.declared.{FundingRequest.FundingRequest, FundingCell.FundingCell}
 use Rattle.funding_cell.specs.FundingCell.{fundingCell, told as toldCell}
-use Rattle.funding_cell.proofs.FundingCellLaws.{capacity-below}
 use Rattle.udt_cells.specs.declared.Picked.{Picked}
 use Rattle.udt_cells.specs.Pick.{Pick, pickTyped, told as toldPick}
 use Rattle.base_writer.specs.Answer.{inRoom, leaves, written, told}
 use Rattle.funding_builder.specs.Base.{Lent, lentOf, lists, supplied, packed, baseTx, withPick, withCell, withRequest, buildBase}
-use Rattle.funding_builder.specs.Steps.{Readable, Ready, cellOf, pickOf}
+use Rattle.funding_builder.specs.Steps.{Readable, cellOf, pickOf}
 
 -- a refusal leaves the buffer
 refused-is : (e : Refusal) (out : List ℕ) {tx : Outcome (List ℕ)} → tx ≡ refusal e → (told (Written.Refused e), out) ≡ written tx out
@@ -96,9 +95,6 @@ module _ (ours lock udt source cells udtDeps lockDep extraDeps out : List ℕ) w
         → y ≡ written (withCell l (cellOf capacity token) (tokenCount (record { 0 = request .«local_amount» }))) out → y ≡ written (withRequest l request) out
     unfolding withRequest _>>=_ tokenCount
     cell-made f e = e ∙ rw (← cell-is, f)
-
-    pub cell-ready : {capacity : Shannons} {token : Tokens} → Readable l → x ≡ FundingCell.Cell capacity token → Ready l capacity
-    cell-ready h f = record { lent = h; low = capacity-below (not (eqb n 0)) (not (eqb (length udt) 0)) request x ex f }
 
   -- ---- build_base
 

@@ -7,9 +7,9 @@ use native.Mathlib.Omega.{arith}
 use borrow.Author.Tests.{eq-eqb, ne-eqb, eqb-true, not-true, not-false}
 use lib.Dec.{T, eqb}
 use lib.ListN.{length}
-use Rattle.arithmetic.specs.Amount.{value, isZero}
+use Rattle.arithmetic.specs.Amount.{value, halves, isZero}
 use Rattle.units.specs.declared.{Shannons.Shannons, Tokens.Tokens, CheckedShannons.CheckedShannons}
-use Rattle.units.specs.Units.{shannonCount, tokenCount}
+use Rattle.units.specs.Units.{inShannons, shannonCount, tokenCount}
 use Rattle.units.specs.Fee.{changeShannons, changeCapacity as checkedCapacity}
 use Rattle.molecule.specs.Molecule.{option, size, sizes, readable}
 use Rattle.molecule.specs.Layout.{part}
@@ -76,13 +76,9 @@ picked-some (suc n) deps h = refl
 
 -- ---- figures
 
-pub low-half : (x : Shannons) → shannonCount x < 2 ^ 64 → x .0 .low ≡ shannonCount x
-unfolding shannonCount
-low-half x h = omega arith
-
 module _ (change : Tokens) (source udt : List ℕ) {z : Bool} (ez : z ≡ isZero (change .0)) where
-  pub no-change : z ≡ true → 0 ≡ changeCapacity (tokenCount change) source udt
-  unfolding changeCapacity isZero tokenCount
+  pub no-change : z ≡ true → shannonCount (inShannons (halves 0 0)) ≡ changeCapacity (tokenCount change) source udt
+  unfolding changeCapacity isZero tokenCount shannonCount
   no-change h = let e : value (change .0) ≡ 0 = eqb-true _ _ (sym ez ∙ h) in rw e
 
   module _ (h : z ≡ false) where
@@ -104,11 +100,8 @@ module _ (change : Tokens) (source udt : List ℕ) {z : Bool} (ez : z ≡ isZero
       is-low : capacityFor source udt < 2 ^ 64
       is-low = low (ready .0) (ready .1)
 
-      pub change-low : {c : Shannons} → k ≡ CheckedShannons.Fits c → shannonCount c < 2 ^ 64
-      change-low f = let l = is-low in omega (arith, capacity-fits _ _ is-low ek f)
+      pub change-is : {c : Shannons} → k ≡ CheckedShannons.Fits c → shannonCount c ≡ changeCapacity (tokenCount change) source udt
+      change-is f = capacity-fits _ _ is-low ek f ∙ some (tokenCount change) not-zero
 
-      pub change-is : {c : Shannons} {r : ℕ} → k ≡ CheckedShannons.Fits c → r ≡ shannonCount c → r ≡ changeCapacity (tokenCount change) source udt
-      change-is f e = e ∙ capacity-fits _ _ is-low ek f ∙ some (tokenCount change) not-zero
-
-      pub change-over : k ≡ CheckedShannons.Overflow → 0 ≡ changeCapacity (tokenCount change) source udt
+      pub change-over : k ≡ CheckedShannons.Overflow → shannonCount (inShannons (halves 0 0)) ≡ changeCapacity (tokenCount change) source udt
       change-over f = absurd (capacity-over _ _ is-low ek f)

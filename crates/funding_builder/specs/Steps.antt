@@ -1,6 +1,6 @@
 -- What the functions inside promise one another; no public contract cites it.
 use mathlib.Core.Path.{_≡_}
-use Prim.Native.Nat.{ℕ, _^_, _≤_, _<_}
+use Prim.Native.Nat.{ℕ, _≤_, _<_}
 use mathlib.Core.Bool.{true}
 use mathlib.Core.List.{List}
 use lib.ListN.{length}
@@ -17,7 +17,7 @@ use Rattle.base_writer.specs.declared.Plan.{Plan}
 use Rattle.base_writer.specs.Lists.{Present, presentOf}
 use Rattle.funding_builder.specs.Base.{Lent, changeCapacity}
 
--- what the checks at entry have shown; with the funding cell's capacity, which is a number of 64 bits
+-- what the checks at entry have shown
 pub record Readable (l : Lent) : Type 0 where
   pub ours : readable (option Transaction) (l .ours) ≡ true
   pub udt : readable (option Script) (l .udt) ≡ true
@@ -26,10 +26,6 @@ pub record Readable (l : Lent) : Type 0 where
   pub lockDep : readable (option CellDep) (l .lockDep) ≡ true
   pub extraDeps : readable CellDeps (l .extraDeps) ≡ true
 
-pub record Ready (l : Lent) (capacity : Shannons) : Type 0 where
-  pub lent : Readable l
-  pub low : shannonCount capacity < 2 ^ 64
-
 -- there is room for l places and for m: of all deps, or of as many as fit a transaction
 pub record Roomy (t : Lent) (taken l m : ℕ) : Type 0 where
   pub same : l ≡ m
@@ -37,11 +33,11 @@ pub record Roomy (t : Lent) (taken l m : ℕ) : Type 0 where
 
 -- the figures that are written are those of the cell, the pick and the change
 pub record Planned (p : Plan) (capacity : Shannons) (token : Tokens) (taken : ℕ) (change : Tokens) (source udt : List ℕ) : Type 0 where
-  pub cell : p .capacity ≡ shannonCount capacity
+  pub cell : p .capacity ≡ capacity
   pub tokens : p .token ≡ token
   pub picked : p .taken ≡ taken
   pub left : p .change ≡ change
-  pub back : p .«change_capacity» ≡ changeCapacity (tokenCount change) source udt
+  pub back : shannonCount (p .«change_capacity») ≡ changeCapacity (tokenCount change) source udt
 
 -- the parts of our transaction that stay
 abbrev pub presentIn : List ℕ → Present

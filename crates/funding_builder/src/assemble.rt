@@ -21,7 +21,7 @@ ghost use Rattle.cell_deps.specs.CellDeps.{depCount, Chooses};
 ghost use Rattle.base_writer.specs.Answer.{written, told};
 ghost use Rattle.base_writer.specs.Lists.{besideOf, listsOf, bytesOf};
 ghost use Rattle.funding_builder.specs.Base.{lentOf, changeCapacity, packed, baseTx};
-ghost use Rattle.funding_builder.specs.Steps.{Ready, Roomy, Planned, presentIn, cellOf, pickOf};
+ghost use Rattle.funding_builder.specs.Steps.{Readable, Roomy, Planned, presentIn, cellOf, pickOf};
 
 // How many cell deps 133,116 bytes have room for.
 const MOST_DEPS: usize = 3597;
@@ -40,26 +40,17 @@ fn if_picked(taken: usize, deps: &[u8]) -> &[u8]
 }
 
 // The capacity of the change output, 0 where no change is left.
-fn change_capacity(change: Tokens, source: &[u8], udt: &[u8]) -> u64
+fn change_capacity(change: Tokens, source: &[u8], udt: &[u8]) -> Shannons
     requires { ⌜ (readable Script (now source) ≡ true) × (readable (option Script) (now udt) ≡ true) ⌝ }
-    ensures { λ r. ⌜ r ≡ changeCapacity (tokenCount change) (now (source .entry)) (now (udt .entry)) ⌝ }
+    ensures { λ r. ⌜ shannonCount r ≡ changeCapacity (tokenCount change) (now (source .entry)) (now (udt .entry)) ⌝ }
 {
     if change.is_zero() {
-        return 0;
+        return Shannons::ZERO;
     }
     match udt_cells::change_capacity(source, udt) {
-        CheckedShannons::Fits(capacity) => low_half(capacity),
-        CheckedShannons::Overflow => 0,
+        CheckedShannons::Fits(capacity) => capacity,
+        CheckedShannons::Overflow => Shannons::ZERO,
     }
-}
-
-// A figure of shannons below 2^64 as a number.
-fn low_half(x: Shannons) -> u64
-    requires { ⌜ shannonCount x < 2 ^ 64 ⌝ }
-    ensures { λ r. ⌜ r ≡ shannonCount x ⌝ }
-{
-    let count = x.0;
-    count.low
 }
 
 // Writes the base transaction of these deps and figures to the start of out.
@@ -181,10 +172,9 @@ fn make_plan(
     source: &[u8],
     udt: &[u8],
 ) -> Plan
-    requires { ⌜ (readable Script (now source) ≡ true) × (readable (option Script) (now udt) ≡ true) × (shannonCount capacity < 2 ^ 64) ⌝ }
+    requires { ⌜ (readable Script (now source) ≡ true) × (readable (option Script) (now udt) ≡ true) ⌝ }
     ensures { λ r. ⌜ Planned r capacity token taken change (now (source .entry)) (now (udt .entry)) ⌝ }
 {
-    let capacity = low_half(capacity);
     let change_capacity = change_capacity(change, source, udt);
     Plan {
         capacity,
@@ -213,7 +203,7 @@ fn assemble_with<'a>(
     sorted: &mut [usize],
     out: &mut [u8],
 ) -> Written
-    requires { ⌜ Ready (lentOf (now ours) (now lock) (now udt) (now source) (now cells) (now «udt_deps») (now «lock_dep») (now «extra_deps»)) capacity ⌝ }
+    requires { ⌜ Readable (lentOf (now ours) (now lock) (now udt) (now source) (now cells) (now «udt_deps») (now «lock_dep») (now «extra_deps»)) ⌝ }
     requires { ⌜ Roomy (lentOf (now ours) (now lock) (now udt) (now source) (now cells) (now «udt_deps») (now «lock_dep») (now «extra_deps»)) taken (length (now places)) (length (now sorted)) ⌝ }
     ensures { λ r. ⌜ (told r, now (out .exit)) ≡ written (fine (packed (baseTx (lentOf (now (ours .entry)) (now (lock .entry)) (now (udt .entry)) (now (source .entry)) (now (cells .entry)) (now («udt_deps» .entry)) (now («lock_dep» .entry)) (now («extra_deps» .entry))) (cellOf capacity token) (pickOf taken change)))) (now (out .entry)) ⌝ }
 {
@@ -255,7 +245,7 @@ pub(crate) fn assemble_base_tx<'a>(
     change: Tokens,
     out: &mut [u8],
 ) -> Written
-    requires { ⌜ Ready (lentOf (now ours) (now lock) (now udt) (now source) (now cells) (now «udt_deps») (now «lock_dep») (now «extra_deps»)) capacity ⌝ }
+    requires { ⌜ Readable (lentOf (now ours) (now lock) (now udt) (now source) (now cells) (now «udt_deps») (now «lock_dep») (now «extra_deps»)) ⌝ }
     ensures { λ r. ⌜ (told r, now (out .exit)) ≡ written (fine (packed (baseTx (lentOf (now (ours .entry)) (now (lock .entry)) (now (udt .entry)) (now (source .entry)) (now (cells .entry)) (now («udt_deps» .entry)) (now («lock_dep» .entry)) (now («extra_deps» .entry))) (cellOf capacity token) (pickOf taken change)))) (now (out .entry)) ⌝ }
 {
     if dep_count(ours, udt_deps, lock_dep, extra_deps, taken) <= FEW_DEPS {

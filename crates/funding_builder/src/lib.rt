@@ -18,7 +18,7 @@ ghost use Rattle.transaction.specs.Ckb.{CellDep, CellDeps};
 ghost use Rattle.rules.specs.Outcome.{check};
 ghost use Rattle.base_writer.specs.Answer.{written, told};
 ghost use Rattle.funding_builder.specs.Base.{lentOf, lists, supplied, withPick, withCell, withRequest, buildBase};
-ghost use Rattle.funding_builder.specs.Steps.{Readable, Ready, cellOf, pickOf};
+ghost use Rattle.funding_builder.specs.Steps.{Readable, cellOf, pickOf};
 
 // Whether the bytes are a list of cell deps, or nothing.
 fn is_optional_cell_deps(s: &[u8]) -> bool
@@ -82,7 +82,7 @@ fn with_pick<'a>(
     change: Tokens,
     out: &mut [u8],
 ) -> Written
-    requires { ⌜ Ready (lentOf (now ours) (now lock) (now udt) (now source) (now cells) (now «udt_deps») (now «lock_dep») (now «extra_deps»)) capacity ⌝ }
+    requires { ⌜ Readable (lentOf (now ours) (now lock) (now udt) (now source) (now cells) (now «udt_deps») (now «lock_dep») (now «extra_deps»)) ⌝ }
     ensures { λ r. ⌜ (told r, now (out .exit)) ≡ written (withPick (lentOf (now (ours .entry)) (now (lock .entry)) (now (udt .entry)) (now (source .entry)) (now (cells .entry)) (now («udt_deps» .entry)) (now («lock_dep» .entry)) (now («extra_deps» .entry))) (cellOf capacity token) (pickOf taken change)) (now (out .entry)) ⌝ }
 {
     if !is_supplied(taken, udt_deps) {
@@ -123,7 +123,7 @@ fn with_cell<'a>(
     wanted: Tokens,
     out: &mut [u8],
 ) -> Written
-    requires { ⌜ Ready (lentOf (now ours) (now lock) (now udt) (now source) (now cells) (now «udt_deps») (now «lock_dep») (now «extra_deps»)) capacity ⌝ }
+    requires { ⌜ Readable (lentOf (now ours) (now lock) (now udt) (now source) (now cells) (now «udt_deps») (now «lock_dep») (now «extra_deps»)) ⌝ }
     ensures { λ r. ⌜ (told r, now (out .exit)) ≡ written (withCell (lentOf (now (ours .entry)) (now (lock .entry)) (now (udt .entry)) (now (source .entry)) (now (cells .entry)) (now («udt_deps» .entry)) (now («lock_dep» .entry)) (now («extra_deps» .entry))) (cellOf capacity token) (tokenCount wanted)) (now (out .entry)) ⌝ }
 {
     match udt_cells::pick_typed(cells, udt, wanted) {

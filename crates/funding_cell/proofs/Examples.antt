@@ -4,6 +4,7 @@ use mathlib.Core.Bool.{Bool, true, false}
 use mathlib.Core.List.{[]}
 use Prim.Native.Nat.{ℕ, _-_, _^_}
 use Rattle.arithmetic.specs.Amount.{amountOf}
+use Rattle.units.specs.Units.{inShannons, shannonCount}
 use Rattle.rules.specs.Outcome.{Outcome, fine, refused, check, checkWith, _>>=_, _>>_}
 use Rattle.rules.specs.Judge.{Figures}
 use Rattle.funding_cell.specs.declared.FundingRequest.{FundingRequest}
@@ -12,16 +13,16 @@ use Rattle.funding_cell.specs.FundingCell.{cellOf, cellOfSums, fundingCe
 abbrev request : ℕ → ℕ → ℕ → ℕ → FundingRequest
 request local localReserve remote remoteReserve = record {
   «local_amount» = amountOf local;
-  «local_reserved_ckb_amount» = localReserve;
+  «local_reserved_ckb_amount» = inShannons (amountOf localReserve);
   «remote_amount» = amountOf remote;
-  «remote_reserved_ckb_amount» = remoteReserve;
+  «remote_reserved_ckb_amount» = inShannons (amountOf remoteReserve);
 }
 
 abbrev cell : ℕ → ℕ → Outcome Figures
 cell capacity token = fine (record { capacity = capacity; token = token })
 
 unfoldable computing : Unit {0}
-unfolding check checkWith _>>=_ _>>_ cellOf cellOfSums fundingCell
+unfolding check checkWith _>>=_ _>>_ shannonCount cellOf cellOfSums fundingCell
 computing = tt
 
 -- untyped, a figure or a sum of 2^64 is too wide, and 2^64 - 1 is not
@@ -45,6 +46,10 @@ wide-amounts = refl
 pub wide-reserves : fundingCell true true (request 0 (2 ^ 64 - 1) 0 1) ≡ refused 7 []
 unfolding computing
 wide-reserves = refl
+
+pub wide-reserve : fundingCell false true (request 0 (2 ^ 64) 0 0) ≡ refused 7 []
+unfolding computing
+wide-reserve = refl
 
 pub widest : fundingCell true true (request (2 ^ 128 - 2) (2 ^ 64 - 2) 1 1) ≡ cell (2 ^ 64 - 1) (2 ^ 128 - 1)
 unfolding computing

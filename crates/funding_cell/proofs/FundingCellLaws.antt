@@ -41,14 +41,14 @@ pub counted-no : (funded : Bool) (r : FundingRequest) → funded ≡ false
       «local_amount» = r .«local_amount»;
       «local_reserved_ckb_amount» = r .«local_reserved_ckb_amount»;
       «remote_amount» = halves 0 0;
-      «remote_reserved_ckb_amount» = 0;
+      «remote_reserved_ckb_amount» = inShannons (halves 0 0);
     } ≡ counted funded r
 unfolding counted
 counted-no funded r h = rw h
 
 -- of them the cell is that of a funded request
 by-counted : (funded typed : Bool) (r : FundingRequest) → fundingCell true typed (counted funded r) ≡ fundingCell funded typed r
-unfolding fundingCell counted
+unfolding fundingCell counted shannonCount
 by-counted true typed r = refl
 by-counted false typed r = ap₂ (cellOfSums typed) (add-zero _) (add-zero _)
 
@@ -105,10 +105,9 @@ module _ (a b : Amount) {q : CheckedShannons} (e : q ≡ checkedShannons (sum a 
   shannons-over : q ≡ CheckedShannons.Overflow → 2 ^ 64 ≤ value a + value b
   shannons-over f = over _ (sum-over a b refl (shannons-isnt (sum a b) e f))
 
-pub reserves-are : (r : FundingRequest) {c d : Shannons} {q : CheckedShannons} → c ≡ inShannons (amountOf (r .«local_reserved_ckb_amount»))
-    → d ≡ inShannons (amountOf (r .«remote_reserved_ckb_amount»)) → q ≡ checkedShannons (sum (c .0) (d .0)) → q ≡ reserves r
+pub reserves-are : (r : FundingRequest) {q : CheckedShannons} → q ≡ checkedShannons (sum (r .«local_reserved_ckb_amount» .0) (r .«remote_reserved_ckb_amount» .0)) → q ≡ reserves r
 unfolding reserves
-reserves-are r ec ed e = e ∙ ap₂ (λ (c d : Shannons). checkedShannons (sum (c .0) (d .0))) ec ed
+reserves-are r e = e
 
 -- ---- the cell of a funded request
 
@@ -116,15 +115,12 @@ abbrev amountSum : FundingRequest → ℕ
 amountSum r = value (r .«local_amount») + value (r .«remote_amount»)
 
 abbrev reserveSum : FundingRequest → ℕ
-reserveSum r = r .«local_reserved_ckb_amount» + r .«remote_reserved_ckb_amount»
+reserveSum r = shannonCount (r .«local_reserved_ckb_amount») + shannonCount (r .«remote_reserved_ckb_amount»)
 
 module _ (r : FundingRequest) {p : CheckedShannons} (ep : p ≡ reserves r) where
-  reserve-values : value (amountOf (r .«local_reserved_ckb_amount»)) + value (amountOf (r .«remote_reserved_ckb_amount»)) ≡ reserveSum r
-  reserve-values = ap₂ _+_ (value-amountOf _) (value-amountOf _)
-
   reserves-over : p ≡ CheckedShannons.Overflow → 2 ^ 64 ≤ reserveSum r
-  unfolding reserves
-  reserves-over f = rw reserve-values at (shannons-over _ _ ep f)
+  unfolding reserves shannonCount
+  reserves-over f = shannons-over _ _ ep f
 
   pub typed-reserves-wide : p ≡ CheckedShannons.Overflow → told (FundingCell.Refused Refusal.OverflowError) ≡ fundingCell true true r
   unfolding fundingCell cellOfSums
@@ -139,8 +135,8 @@ module _ (r : FundingRequest) {p : CheckedShannons} (ep : p ≡ reserves r) wher
 
   module _ {s : Shannons} (fp : p ≡ CheckedShannons.Fits s) where
     reserve-sum : shannonCount s ≡ reserveSum r
-    unfolding reserves
-    reserve-sum = shannons-sum _ _ ep fp ∙ reserve-values
+    unfolding reserves shannonCount
+    reserve-sum = shannons-sum _ _ ep fp
 
     module _ {q : CheckedTokens} (eq : q ≡ checkedTokens (sum (r .«local_amount») (r .«remote_amount»))) where
       pub typed-amounts-wide : q ≡ CheckedTokens.Overflow → told (FundingCell.Refused Refusal.OverflowError) ≡ fundingCell true true r
@@ -184,10 +180,6 @@ pub capacity-low : (funded typed : Bool) (r : FundingRequest) (f : Figures) → 
 unfolding fundingCell cellOfSums
 capacity-low funded true r f e = of-cell _ _ f (by-counted funded true r ∙ e)
 capacity-low funded false r f e = of-cell _ _ f (by-counted funded false r ∙ e)
-
-pub capacity-below : (funded typed : Bool) (r : FundingRequest) (x : FundingCell) {c : Shannons} {t : Tokens} → told x ≡ fundingCell funded typed r → x ≡ FundingCell.Cell c t
-    → shannonCount c < 2 ^ 64
-capacity-below funded typed r x e f = capacity-low funded typed r _ (sym e ∙ ap told f)
 
 -- ---- by the lent bytes
 

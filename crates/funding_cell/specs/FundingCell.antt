@@ -5,9 +5,9 @@ use Prim.Native.Nat.{ℕ, _+_, _^_}
 use mathlib.Core.Bool.{Bool, true, false, not, cond}
 use mathlib.Core.List.{List}
 use lib.Dec.{ltb}
-use Rattle.arithmetic.specs.Amount.{value, halves, amountOf, sum}
+use Rattle.arithmetic.specs.Amount.{value, halves, sum}
 use Rattle.units.specs.declared.CheckedShannons.{CheckedShannons}
-use Rattle.units.specs.Units.{shannonCount, tokenCount, checkedShannons}
+use Rattle.units.specs.Units.{inShannons, shannonCount, tokenCount, checkedShannons}
 use Rattle.molecule.specs.Molecule.{readable, option}
 use Rattle.transaction.specs.Ckb.{Script}
 use Rattle.rules.specs.Outcome.{Outcome, fine, check, given, _>>=_, _>>_}
@@ -35,9 +35,10 @@ cellOfSums typed amounts reserves = cond typed (cellOf reserves amounts) (cellOf
 
 -- by whether the present transaction has outputs; unfunded, the remote figures are unread
 unfoldable pub fundingCell : Bool → Bool → FundingRequest → Outcome Figures
-fundingCell false typed r = cellOfSums typed (value (r .«local_amount»)) (r .«local_reserved_ckb_amount»)
+fundingCell false typed r = cellOfSums typed (value (r .«local_amount»)) (shannonCount (r .«local_reserved_ckb_amount»))
 fundingCell true typed r =
-    cellOfSums typed (value (r .«local_amount») + value (r .«remote_amount»)) (r .«local_reserved_ckb_amount» + r .«remote_reserved_ckb_amount»)
+    cellOfSums typed (value (r .«local_amount») + value (r .«remote_amount»))
+    (shannonCount (r .«local_reserved_ckb_amount») + shannonCount (r .«remote_reserved_ckb_amount»))
 
 unfoldable pub buildFundingCell : List ℕ → List ℕ → FundingRequest → Outcome Figures
 buildFundingCell oursBytes type request = do
@@ -56,9 +57,9 @@ counted false r = record {
   «local_amount» = r .«local_amount»;
   «local_reserved_ckb_amount» = r .«local_reserved_ckb_amount»;
   «remote_amount» = halves 0 0;
-  «remote_reserved_ckb_amount» = 0;
+  «remote_reserved_ckb_amount» = inShannons (halves 0 0);
 }
 
 -- the sum of the reserves
 unfoldable pub reserves : FundingRequest → CheckedShannons
-reserves r = checkedShannons (sum (amountOf (r .«local_reserved_ckb_amount»)) (amountOf (r .«remote_reserved_ckb_amount»)))
+reserves r = checkedShannons (sum (r .«local_reserved_ckb_amount» .0) (r .«remote_reserved_ckb_amount» .0))

@@ -14,9 +14,9 @@ ghost use Rattle.funding_cell.specs.FundingCell.{told, counted, reserves
 // What each side is to bring: an amount, of shannons where the channel is untyped and else of the token, and a reserve in shannons.
 pub struct FundingRequest {
     pub local_amount: Amount,
-    pub local_reserved_ckb_amount: u64,
+    pub local_reserved_ckb_amount: Shannons,
     pub remote_amount: Amount,
-    pub remote_reserved_ckb_amount: u64,
+    pub remote_reserved_ckb_amount: Shannons,
 }
 
 // The capacity is below 2^64; the token amount is 0 when untyped.
@@ -33,11 +33,12 @@ fn counted(funded: bool, request: FundingRequest) -> FundingRequest
         return request;
     }
     let local_amount = request.local_amount;
+    let local_reserved_ckb_amount = request.local_reserved_ckb_amount;
     FundingRequest {
         local_amount,
-        local_reserved_ckb_amount: request.local_reserved_ckb_amount,
+        local_reserved_ckb_amount,
         remote_amount: Amount::ZERO,
-        remote_reserved_ckb_amount: 0,
+        remote_reserved_ckb_amount: Shannons::ZERO,
     }
 }
 
@@ -56,8 +57,8 @@ fn cell_of(capacity: Shannons, token: Tokens) -> FundingCell
 fn reserves(request: FundingRequest) -> CheckedShannons
     ensures { λ r. ⌜ r ≡ reserves request ⌝ }
 {
-    let local = Shannons::from_u64(request.local_reserved_ckb_amount);
-    let remote = Shannons::from_u64(request.remote_reserved_ckb_amount);
+    let local = request.local_reserved_ckb_amount;
+    let remote = request.remote_reserved_ckb_amount;
     local.checked_add(remote)
 }
 

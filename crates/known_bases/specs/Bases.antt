@@ -6,6 +6,7 @@ use mathlib.Core.Option.{some}
 use lib.ListN.{replicate}
 use Rattle.arithmetic.specs.LittleEndian.{toLe}
 use Rattle.arithmetic.specs.Amount.{amountOf}
+use Rattle.units.specs.Units.{inShannons}
 use Rattle.molecule.specs.Molecule.{Value, encode}
 use Rattle.transaction.specs.Ckb.{Script, CellDep, CellDeps, CellInput, TokenCell, TokenCells}
 use Rattle.rules.specs.Outcome.{Outcome, fine, refused}
@@ -19,7 +20,12 @@ use Rattle.known_cases.specs.Cases.{plainScript, expectedLock, ourLock, tokenTy
 
 -- so much local, reserve 7; remote 11, reserve 13
 abbrev pub request : ℕ → FundingRequest
-request local = record { «local_amount» = amountOf local; «local_reserved_ckb_amount» = 7; «remote_amount» = amountOf 11; «remote_reserved_ckb_amount» = 13 }
+request local = record {
+  «local_amount» = amountOf local;
+  «local_reserved_ckb_amount» = inShannons (amountOf 7);
+  «remote_amount» = amountOf 11;
+  «remote_reserved_ckb_amount» = inShannons (amountOf 13);
+}
 
 abbrev depList : List (Value CellDep) → List ℕ
 depList l = encode CellDeps l

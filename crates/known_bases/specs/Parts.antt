@@ -4,6 +4,7 @@ use Prim.Native.Nat.{ℕ, _-_, _^_}
 use mathlib.Core.List.{List, [], _∷_, _++_}
 use lib.ListN.{replicate}
 use Rattle.arithmetic.specs.Amount.{amountOf}
+use Rattle.units.specs.Units.{inShannons}
 use Rattle.error.specs.declared.{Refusal.Refusal}
 use Rattle.error.specs.Refusal.{number}
 use Rattle.molecule.specs.Molecule.{Value, encode, readable}
@@ -22,8 +23,12 @@ use Rattle.known_bases.specs.Bases.{tokenCell, threeCells, noList}
 
 -- so much local and so much in reserve, and the same of the remote side
 abbrev sides : ℕ → ℕ → ℕ → ℕ → FundingRequest
-sides local reserve remote remoteReserve =
-    record { «local_amount» = amountOf local; «local_reserved_ckb_amount» = reserve; «remote_amount» = amountOf remote; «remote_reserved_ckb_amount» = remoteReserve }
+sides local reserve remote remoteReserve = record {
+  «local_amount» = amountOf local;
+  «local_reserved_ckb_amount» = inShannons (amountOf reserve);
+  «remote_amount» = amountOf remote;
+  «remote_reserved_ckb_amount» = inShannons (amountOf remoteReserve);
+}
 
 -- nothing remote
 abbrev funding : ℕ → ℕ → FundingRequest

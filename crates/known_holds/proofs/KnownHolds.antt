@@ -26,7 +26,7 @@ use Rattle.known_holds.proofs.Computing.{computing}
 pub known-returning : AllRight returning
 unfolding computing
 known-returning =
-    refl and refl and refl and refl and refl and refl and refl
+    refl and refl and refl and refl and refl and refl and refl and refl and refl
     and refl and refl and refl and refl and refl and refl and refl and refl and refl and refl and refl and done
 
 -- by its length, since no proof goes over so many bytes
@@ -49,7 +49,7 @@ known-locking = refl and refl and refl and refl and done
 pub known-taking : AllRight taking
 unfolding computing
 known-taking =
-    refl and refl and refl and refl and refl and refl and refl and refl and refl and refl
+    refl and refl and refl and refl and refl and refl and refl and refl and refl and refl and refl and refl and refl
     and refl and refl and refl and refl and refl and refl and refl and refl and done
 
 pub known-naming : AllRight naming

@@ -72,6 +72,10 @@ returning =
     ∷ (holdForWatchtower (holdsOf []) (of1 A) (ms 1000) gives done (tower 1801000 A ∷ []))
     ∷ (holdForWatchtower (holdsOf []) (of1 A) (ms (2 ^ 64 - 1800001)) gives done (tower (2 ^ 64 - 1) A ∷ []))
     ∷ (holdForWatchtower (holdsOf []) (of1 A) (ms (2 ^ 64 - 1)) gives done (tower (2 ^ 64 - 1) A ∷ []))
+    -- taken at 1,000 for the watchtower, until 61,000, and renewed before that
+    ∷ (holdForWatchtower (holdsOf (tower 61000 A ∷ [])) (of1 A) (ms 50000) gives done (tower 1850000 A ∷ []))
+    -- a cell that has two watchtower records, which no call makes: the first is renewed
+    ∷ (holdForWatchtower (holdsOf (tower 5 A ∷ tower 9 A ∷ [])) (of1 A) (ms 1000) gives done (tower 1801000 A ∷ tower 9 A ∷ []))
     -- 14, and a cell named twice is one record; ended records count
     ∷ (holdForWatchtower (holdsOf (others 256)) (of1 A) (ms 1000) gives refused 14 (holdsOf (others 256)))
     ∷ (holdForWatchtower (holdsOf (others 255)) (of2 A A) (ms 1000) gives done (others 255 ++ (tower 1801000 A ∷ [])))
@@ -117,6 +121,10 @@ taking =
     -- held by the watchtower at 1,000: busy at 1,800,999, free at 1,801,000
     ∷ (takeCells (holdsOf (tower 1801000 A ∷ [])) (of1 A) none (Taker.Funding 7) (ms 1800999) (room 4) (room 40) gives (done (tower 1801000 A ∷ []), none, of1 A))
     ∷ (takeCells (holdsOf (tower 1801000 A ∷ [])) (of1 A) none (Taker.Funding 7) (ms 1801000) (room 40) (room 4) gives (done (funding 7 A ∷ []), of1 A, none))
+    -- taken at 1,000 and renewed at 50,000: refused from the first end on, 61,000, to the new one
+    ∷ (takeCells (holdsOf (tower 1850000 A ∷ [])) (of1 A) none (Taker.Funding 7) (ms 61000) (room 4) (room 40) gives (done (tower 1850000 A ∷ []), none, of1 A))
+    ∷ (takeCells (holdsOf (tower 1850000 A ∷ [])) (of1 A) none Taker.Watchtower (ms 1849999) (room 4) (room 40) gives (done (tower 1850000 A ∷ []), none, of1 A))
+    ∷ (takeCells (holdsOf (tower 1850000 A ∷ [])) (of1 A) none (Taker.Funding 7) (ms 1850000) (room 40) (room 4) gives (done (funding 7 A ∷ []), of1 A, none))
     -- free A, B; pick A, A, B: taken A, B; refused A
     ∷ (takeCells (holdsOf []) (pointList (A ∷ A ∷ B ∷ [])) none Taker.Watchtower (ms 1000) (room 76) (room 40) gives (done (tower 61000 A ∷ tower 61000 B ∷ []), of2 A B, of1 A))
     -- "for the watchtower until now + 60,000 (capped)"

@@ -7,6 +7,7 @@ use lib.ListN.{length, replicate}
 use Rattle.units.specs.declared.{Shannons.Shannons, CheckedShannons.CheckedShannons}
 use Rattle.arithmetic.specs.LittleEndian.{toLe}
 use Rattle.arithmetic.specs.Amount.{value, amountOf}
+use Rattle.units.specs.Units.{inShannons}
 use Rattle.units.specs.Fee.{requiredFee, changeCapacity}
 use Rattle.molecule.specs.Molecule.{Value, encode}
 use Rattle.transaction.specs.Ckb.{Script, CellOutput, TokenCell, TokenCells}
@@ -87,7 +88,12 @@ turnedAway (o, out₁, out₂) = listed (numberOf o, out₂)
 
 -- a request of local 5, reserve 7, remote 11, reserve 13
 abbrev figures : FundingRequest
-figures = record { «local_amount» = amountOf 5; «local_reserved_ckb_amount» = 7; «remote_amount» = amountOf 11; «remote_reserved_ckb_amount» = 13 }
+figures = record {
+  «local_amount» = amountOf 5;
+  «local_reserved_ckb_amount» = inShannons (amountOf 7);
+  «remote_amount» = amountOf 11;
+  «remote_reserved_ckb_amount» = inShannons (amountOf 13);
+}
 
 -- ---- the token pick
 

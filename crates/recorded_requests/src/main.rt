@@ -53,9 +53,9 @@ fn head_amount(call: &[u8], at: usize) -> Amount {
 fn request(call: &[u8]) -> FundingRequest {
     FundingRequest {
         local_amount: head_amount(call, 4),
-        local_reserved_ckb_amount: head_u64(call, 36),
+        local_reserved_ckb_amount: Shannons::from_u64(head_u64(call, 36)),
         remote_amount: head_amount(call, 20),
-        remote_reserved_ckb_amount: head_u64(call, 44),
+        remote_reserved_ckb_amount: Shannons::from_u64(head_u64(call, 44)),
     }
 }
 

@@ -93,16 +93,16 @@ module _ (P : List Hold → Type 0) (h : Held) where
       (either₃ (hasRoom rest out₂) 13 out₁ out₂ _
       (either₃ (leb (length left + length taken) 256) 14 out₁ out₂ (done (left ++ map (heldBy (ownerFor taker now)) taken), written taken out₁, written rest out₂) s))))
 
--- ---- a table by value, or another that means one: what a call does to the meaning is what the definition gives, or nothing
+-- ---- a table by value, or another that means one: what a call does to the meaning is what the definition gives or, if it is refused, nothing
 
-pub data Step (a : Answer) (h g : Held) (o : After) : Type 0 where
-  goes : told recordsOf a g ≡ o → Step a h g o
-  stays : g ≡ h → Step a h g o
+pub data Step (h g : Held) (o : After) : Answer → Type 0 where
+  goes : {a : Answer} → told recordsOf a g ≡ o → Step h g o a
+  stays : {why : Refusal} → g ≡ h → Step h g o (Answer.Refused why)
 
 pub record Faithful {T O : Type 0} (F : Table T O) : Type 0 where
-  pub alone : (s t : T) (a : Answer) (o : After) → F .says a t ≡ F .gives s o → Step a (F .held s) (F .held t) o
-  pub beside : (s t : T) (a : Answer) (b c : List ℕ) (o : After × List ℕ) → (F .says a t, c) ≡ F .givesWith s b o → Step a (F .held s) (F .held t) (o .0)
-  pub both : (s t : T) (a : Answer) (b₁ b₂ c₁ c₂ : List ℕ) (o : After × List ℕ × List ℕ) → (F .says a t, c₁, c₂) ≡ F .givesTwo s b₁ b₂ o → Step a (F .held s) (F .held t) (o .0)
+  pub alone : (s t : T) (a : Answer) (o : After) → F .says a t ≡ F .gives s o → Step (F .held s) (F .held t) o a
+  pub beside : (s t : T) (a : Answer) (b c : List ℕ) (o : After × List ℕ) → (F .says a t, c) ≡ F .givesWith s b o → Step (F .held s) (F .held t) (o .0) a
+  pub both : (s t : T) (a : Answer) (b₁ b₂ c₁ c₂ : List ℕ) (o : After × List ℕ × List ℕ) → (F .says a t, c₁, c₂) ≡ F .givesTwo s b₁ b₂ o → Step (F .held s) (F .held t) (o .0) a
   pub beside-done : (s t : T) (b c : List ℕ) (o : After × List ℕ) → (F .says Answer.Done t, c) ≡ F .givesWith s b o → (told recordsOf Answer.Done (F .held t), c) ≡ o
   pub both-done : (s t : T) (b₁ b₂ c₁ c₂ : List ℕ) (o : After × List ℕ × List ℕ) → (F .says Answer.Done t, c₁, c₂) ≡ F .givesTwo s b₁ b₂ o → (told recordsOf Answer.Done (F .held t), c₁, c₂) ≡ o
 
@@ -115,15 +115,20 @@ by-value = record {
   both-done = λ s t b₁ b₂ c₁ c₂ o e. e;
 }
 
-pub moved : (P : List Hold → Type 0) {a : Answer} {h g : Held} {o : After} → Step a h g o → Fine P h o → P (recordsOf h) → P (recordsOf g)
+pub moved : (P : List Hold → Type 0) {a : Answer} {h g : Held} {o : After} → Step h g o a → Fine P h o → P (recordsOf h) → P (recordsOf g)
 moved P {a} {h} {g} {o} (goes e) f s = back P h a g o e f s
 moved P (stays e) f s = subst (λ (k : Held). P (recordsOf k)) (sym e) s
+
+-- a call that is done leaves the new list
+pub left-done : (P : List Hold → Type 0) {h g : Held} {o : After} → Step h g o Answer.Done → Fine P h o → P (recordsOf g)
+unfolding told
+left-done P {h} (goes e) f = subst (Fine P h) (sym e) f
 
 -- a refusal leaves what the table means
 abbrev pub Refuses : Held → After → Type 0
 Refuses h o = Fine (λ _. Unit {0}) h o
 
-pub refused-stays : {why : Refusal} {h g : Held} {o : After} → Step (Answer.Refused why) h g o → Refuses h o → g ≡ h
+pub refused-stays : {why : Refusal} {h g : Held} {o : After} → Step h g o (Answer.Refused why) → Refuses h o → g ≡ h
 unfolding told
 refused-stays {why} {h} {g} {o} (goes e) f = subst (Refuses h) (sym e) f
 refused-stays (stays e) f = e

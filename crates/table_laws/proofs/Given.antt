@@ -5,7 +5,8 @@ use mathlib.Core.List.{List, [], _∷_}
 use mathlib.Core.Bool.{Bool, true, false, not, cond, false≢true}
 use native.Mathlib.Omega.{arith}
 use lib.ListN.{length}
-use Rattle.units.specs.declared.Millis.{Millis}
+use Rattle.units.specs.{declared.Millis.Millis, Units.later}
+use Rattle.error.specs.declared.{Answer.Answer}
 use Rattle.molecule.specs.Partial.{All}
 use Rattle.out_points.specs.declared.OutPoint.{OutPoint}
 use Rattle.out_points.specs.OutPoints.{eqPoint, has, points, Fit}
@@ -13,12 +14,13 @@ use Rattle.out_points.specs.Tables.{keep}
 use Rattle.out_points.proofs.EqualLaws.{point-same, point-refl}
 use Rattle.out_points.proofs.ListLaws.{length-points}
 use Rattle.out_points.proofs.AgainLaws.{written-back, points-fit, count-fits}
-use Rattle.hold_records.specs.declared.{Hold.Hold, Held.Held, Taker.Taker}
-use Rattle.hold_records.specs.Holds.{recordsOf, cellsOf, isLive, isBusy, isNew, firsts, others, ownerFor}
-use Rattle.table_laws.specs.Holds.{Table, byValue, Stands, Took, Locked, InRange, HeldRefused, GivenHeld, LockedRefused, NotGiven, StaysHeld, GivenOnce}
-use Rattle.table_laws.proofs.Calls.{unended, Faithful, by-value, isFree, given, kept, locked-done, take-done}
+use Rattle.hold_records.specs.declared.{Owner.Owner, Hold.Hold, Held.Held, Taker.Taker}
+use Rattle.hold_records.specs.Holds.{recordsOf, cellsOf, isNotOf, isLive, isBusy, isNew, firsts, others, ownerFor}
+use Rattle.table_laws.specs.Holds as run
+use Rattle.table_laws.specs.Holds.{Table, byValue, Stands, Took, Locked, InRange, HeldRefused, HeldStands, LockedRefused, NotGiven, StaysHeld, HeldOnce}
+use Rattle.table_laws.proofs.Calls.{unended, Faithful, by-value, left-done, hold-fine, watch-fine, isFree, given, kept, locked-done, take-done}
 use Rattle.table_laws.proofs.Holds.{busy-not-given}
-use Rattle.table_laws.proofs.Stands.{stands-keep, stands-has, taken-stands, still}
+use Rattle.table_laws.proofs.Stands.{stands-keep, stands-has, taken-stands, named-stands, still}
 
 -- ---- parts of lists whose numbers fit: they are no longer, and theirs fit too
 
@@ -139,16 +141,22 @@ one-pick left p = by (has p (cellsOf left))
 -- of any form of table that means one by value
 module _ {T O : Type 0} {F : Table T O} (f : Faithful F) where
   pub refuses-held : HeldRefused F
-  refuses-held s t picked spent taker now taken refused k x q l =
+  refuses-held s x q t picked spent taker now taken refused k l =
       let b = live-busy (F .held s) now (points spent) x q l in (
         ap (has (x .point)) (taken-is f k) ∙ busy-not-given (unended (F .held s) now) (points spent) (x .point) (points picked) b,
         ap (has (x .point)) (refused-is f k) ∙ others-has (isFree (F .held s) now (points spent)) (x .point) [] (points picked) (ap not b),
       )
 
-  pub holds-given : GivenHeld F
-  holds-given s t picked spent taker now taken refused k p e =
-      subst (Stands _) (sym (take-done f k .0))
+  pub leaves-held : HeldStands F
+  leaves-held s t x (run.took {picked} {spent} {taker} {now} k p e) =
+      subst (Stands x) (sym (take-done f k .0))
       (taken-stands (ownerFor taker now) p (unended (F .held s) now) (given (F .held s) now (points spent) (points picked)) (sym (ap (has p) (taken-is f k)) ∙ e))
+  leaves-held s t x (run.funded {holder} {cells} k p e) =
+      left-done (Stands x) (f .alone s t Answer.Done _ (k .says))
+      (hold-fine (Stands x) (F .held s) holder cells (taken-stands (Owner.Funding holder) p (keep (isNotOf holder) (recordsOf (F .held s))) (points cells) e))
+  leaves-held s t x (run.watched {cells} {now} k p e) =
+      left-done (Stands x) (f .alone s t Answer.Done _ (k .says))
+      (watch-fine (Stands x) (F .held s) cells now (named-stands (later now (record { 0 = 1800000 })) p (points cells) (recordsOf (F .held s)) e))
 
   pub refuses-locked : LockedRefused F
   refuses-locked s now i t after l u picked spent taker taken refused k p e g =
@@ -159,22 +167,19 @@ module _ {T O : Type 0} {F : Table T O} (f : Faithful F) where
       let w : kept h now (points spent) (points picked) ≡ kept h now [] (p ∷ []) = rw (e, g) in
       (a ∙ o .0 ∙ sym (ap (has p) (refused-is f k ∙ w)), a ∙ o .1 ∙ sym (ap (λ (x : List OutPoint). not (has p x)) (taken-is f k ∙ v)))
 
-  not-given : (x : Hold) (s : T) → Stands x (recordsOf (F .held s)) → NotGiven F x s
-  not-given x s q t picked spent taker now taken refused k l = refuses-held s t picked spent taker now taken refused k x q l .0
-
   pub holds-on : StaysHeld F
-  holds-on x s t q cs = let r = still f x q cs in (r, not-given x t r)
+  holds-on s t x y q cs = let (r, e) = still f x q cs in (r, subst (λ (p : OutPoint). NotGiven F p y t) e (refuses-held t y r))
 
-  pub gives-once : GivenOnce F
-  gives-once s t u picked spent taker now taken refused k p e cs = not-given _ u (still f _ (holds-given s t picked spent taker now taken refused k p e) cs)
+  pub holds-once : HeldOnce F
+  holds-once s t u x y k cs = holds-on t u x y (leaves-held s t x k) cs .1
 
 -- by value
 
 pub held-refused : HeldRefused byValue
 held-refused = refuses-held by-value
 
-pub given-held : GivenHeld byValue
-given-held = holds-given by-value
+pub held-stands : HeldStands byValue
+held-stands = leaves-held by-value
 
 pub locked-refused : LockedRefused byValue
 locked-refused = refuses-locked by-value
@@ -182,5 +187,5 @@ locked-refused = refuses-locked by-value
 pub stays-held : StaysHeld byValue
 stays-held = holds-on by-value
 
-pub given-once : GivenOnce byValue
-given-once = gives-once by-value
+pub held-once : HeldOnce byValue
+held-once = holds-once by-value

@@ -22,11 +22,11 @@ use Rattle.table_bytes.proofs.AgainLaws.{places-fit}
 use Rattle.hold_records.proofs.LimitLaws.{After}
 use Rattle.held_bytes.specs.HeldBytes.{holdOf, heldOf, heldAt, heldBytes}
 use Rattle.held_bytes.proofs.BytesLaws.{held-zeros}
-use Rattle.table_laws.specs.Holds.{Reached, empty, InRange, OneEach, HeldRefused, GivenHeld, LockedRefused, StaysHeld, GivenOnce}
+use Rattle.table_laws.specs.Holds.{Reached, empty, InRange, OneEach, HeldRefused, HeldStands, LockedRefused, StaysHeld, HeldOnce}
 use Rattle.table_laws.specs.LentHolds.{lent}
 use Rattle.table_laws.proofs.Calls.{Step, goes, stays, Faithful}
 use Rattle.table_laws.proofs.Holds.{each-once}
-use Rattle.table_laws.proofs.Given.{refuses-held, holds-given, refuses-locked, holds-on, gives-once}
+use Rattle.table_laws.proofs.Given.{refuses-held, leaves-held, refuses-locked, holds-on, holds-once}
 
 -- ---- what is read off an outcome
 
@@ -45,7 +45,7 @@ left (refused n s) = s
 -- ---- a call on bytes of the length asked for
 
 module _ (s t : List ℕ) where
-  step : (a : Answer) (o : After) → told (withBytes heldAt) a t ≡ leaving heldBytes s o → Step a (heldOf s) (heldOf t) o
+  step : (a : Answer) (o : After) → told (withBytes heldAt) a t ≡ leaving heldBytes s o → Step (heldOf s) (heldOf t) o a
   unfolding told leaving withBytes heldAt isDone meant left
   step Answer.Done (done l) e = goes (ap done (ap (meant l) e))
   step Answer.Done (refused n h) e = absurd (false≢true (sym (ap isDone e)))
@@ -58,7 +58,7 @@ module _ (s t : List ℕ) where
   done-is (refused n h) e = absurd (false≢true (sym (ap isDone e)))
 
   -- and of another length
-  same : (a : Answer) (o : After) → told (withBytes heldAt) a t ≡ refused 3 s → Step a (heldOf s) (heldOf t) o
+  same : (a : Answer) (o : After) → told (withBytes heldAt) a t ≡ refused 3 s → Step (heldOf s) (heldOf t) o a
   unfolding told withBytes isDone left
   same Answer.Done o e = absurd (false≢true (sym (ap isDone e)))
   same (Answer.Refused why) o e = stays (ap (λ (x : bytes.After (List Hold)). heldOf (left x)) e)
@@ -69,11 +69,11 @@ module _ (s t : List ℕ) where
 
   -- ---- whatever the length: alone, with one buffer, with two
 
-  alone : (a : Answer) (o : After) → told (withBytes heldAt) a t ≡ lentTable heldBytes 12292 s o → Step a (heldOf s) (heldOf t) o
+  alone : (a : Answer) (o : After) → told (withBytes heldAt) a t ≡ lentTable heldBytes 12292 s o → Step (heldOf s) (heldOf t) o a
   unfolding lentTable
   alone a o e = by (eqb (length s) 12292) e
     where
-      by : (c : Bool) → told (withBytes heldAt) a t ≡ cond c (leaving heldBytes s o) (refused 3 s) → Step a (heldOf s) (heldOf t) o
+      by : (c : Bool) → told (withBytes heldAt) a t ≡ cond c (leaving heldBytes s o) (refused 3 s) → Step (heldOf s) (heldOf t) o a
       by true e = step a o e
       by false e = same a o e
 
@@ -81,11 +81,11 @@ module _ (s t : List ℕ) where
     abbrev Two : Type 0
     Two = bytes.After (List Hold) × List ℕ
 
-    beside : (a : Answer) → (told (withBytes heldAt) a t, c) ≡ lentWith heldBytes 12292 s b o → Step a (heldOf s) (heldOf t) (o .0)
+    beside : (a : Answer) → (told (withBytes heldAt) a t, c) ≡ lentWith heldBytes 12292 s b o → Step (heldOf s) (heldOf t) (o .0) a
     unfolding lentWith
     beside a e = by (eqb (length s) 12292) e
       where
-        by : (d : Bool) → (told (withBytes heldAt) a t, c) ≡ cond {A = Two} d (leaving heldBytes s (o .0), o .1) (refused 3 s, b) → Step a (heldOf s) (heldOf t) (o .0)
+        by : (d : Bool) → (told (withBytes heldAt) a t, c) ≡ cond {A = Two} d (leaving heldBytes s (o .0), o .1) (refused 3 s, b) → Step (heldOf s) (heldOf t) (o .0) a
         by true e = step a (o .0) (ap (λ (x : Two). x .0) e)
         by false e = same a (o .0) (ap (λ (x : Two). x .0) e)
 
@@ -101,11 +101,11 @@ module _ (s t : List ℕ) where
     abbrev Three : Type 0
     Three = bytes.After (List Hold) × List ℕ × List ℕ
 
-    both : (a : Answer) → (told (withBytes heldAt) a t, c₁, c₂) ≡ lentWithTwo heldBytes 12292 s b₁ b₂ o → Step a (heldOf s) (heldOf t) (o .0)
+    both : (a : Answer) → (told (withBytes heldAt) a t, c₁, c₂) ≡ lentWithTwo heldBytes 12292 s b₁ b₂ o → Step (heldOf s) (heldOf t) (o .0) a
     unfolding lentWithTwo
     both a e = by (eqb (length s) 12292) e
       where
-        by : (d : Bool) → (told (withBytes heldAt) a t, c₁, c₂) ≡ cond {A = Three} d (leaving heldBytes s (o .0), o .1, o .2) (refused 3 s, b₁, b₂) → Step a (heldOf s) (heldOf t) (o .0)
+        by : (d : Bool) → (told (withBytes heldAt) a t, c₁, c₂) ≡ cond {A = Three} d (leaving heldBytes s (o .0), o .1, o .2) (refused 3 s, b₁, b₂) → Step (heldOf s) (heldOf t) (o .0) a
         by true e = step a (o .0) (ap (λ (x : Three). x .0) e)
         by false e = same a (o .0) (ap (λ (x : Three). x .0) e)
 
@@ -153,8 +153,8 @@ one-each = each-once by-bytes
 pub held-refused : HeldRefused lent
 held-refused = refuses-held by-bytes
 
-pub given-held : GivenHeld lent
-given-held = holds-given by-bytes
+pub held-stands : HeldStands lent
+held-stands = leaves-held by-bytes
 
 pub locked-refused : LockedRefused lent
 locked-refused = refuses-locked by-bytes
@@ -162,5 +162,5 @@ locked-refused = refuses-locked by-bytes
 pub stays-held : StaysHeld lent
 stays-held = holds-on by-bytes
 
-pub given-once : GivenOnce lent
-given-once = gives-once by-bytes
+pub held-once : HeldOnce lent
+held-once = holds-once by-bytes

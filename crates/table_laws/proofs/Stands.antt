@@ -1,9 +1,12 @@
--- A record stands over any list of calls none of which ends it.
+-- What becomes of a record over any list of calls that does not let it go, and that it stands.
 use mathlib.Core.Path.{_≡_, refl, sym, ap, _∙_, subst}
 use Prim.Native.Nat.{ℕ}
 use native.Mathlib.Omega.{arith}
 use mathlib.Core.Bool.{Bool, true, false, not, cond, false≢true}
 use mathlib.Core.List.{List, [], _∷_, _++_, map}
+use mathlib.Core.Option.{Option, none, some}
+use borrow.Author.Tests.{eqb-true, not-false}
+use lib.Dec.{eqb}
 use Rattle.units.specs.declared.{Millis.Millis}
 use Rattle.units.specs.Units.{later}
 use Rattle.out_points.specs.declared.{OutPoint.OutPoint}
@@ -16,10 +19,10 @@ use Rattle.hold_records.specs.Holds.{recordsOf, heldBy, byOwner, cellsOf, isNot
 use Rattle.hold_records.proofs.LimitLaws.{After}
 use Rattle.watchtower_holds.proofs.RenewLaws.{tower}
 use Rattle.table_laws.specs.Holds as run
-use Rattle.table_laws.specs.Holds.{Table, Called, Stands, here, there, ifDone, outlives, Outlived}
-use Rattle.table_laws.proofs.Calls.{unended, Faithful, Step, Fine, moved, Refuses, refused-stays, hold-fine, watch-fine, release-fine, locked-fine, take-fine}
+use Rattle.table_laws.specs.Holds.{Table, Called, Stands, here, there, keptIf, ifDone, after, Followed}
+use Rattle.table_laws.proofs.Calls.{unended, Faithful, Step, Fine, left-done, Refuses, refused-stays, hold-fine, watch-fine, release-fine, locked-fine, take-fine}
 
--- ---- which calls it outlives
+-- ---- which list operations it outlives
 
 pub stands-keep : (r : Hold) (f : Hold → Bool) (l : List Hold) → f r ≡ true → Stands r l → Stands r (keep f l)
 unfolding keep
@@ -63,7 +66,45 @@ unfolding renewAll
 stands-renewed t r [] l h s = s
 stands-renewed t r (q ∷ ps) l h s = let (a, b) = unnamed-next r q ps h in stands-renewed t r ps (renew (isTowerOn q) (tower t q) l) b (stands-renew t r l q a s)
 
--- ---- what `take` gave stands
+-- a record that is renewed, or new, stands; and stays when it is renewed again with the same end
+
+renewed-here : (t : Millis) (p : OutPoint) (l : List Hold) → Stands (tower t p) (renew (isTowerOn p) (tower t p) l)
+unfolding renew
+renewed-here t p [] = here []
+renewed-here t p (x ∷ l) = by (isTowerOn p x) (renewed-here t p l)
+  where
+    by : (b : Bool) → Stands (tower t p) (renew (isTowerOn p) (tower t p) l) → Stands (tower t p) (cond b (tower t p ∷ l) (x ∷ renew (isTowerOn p) (tower t p) l))
+    by true s = here l
+    by false s = there x (renew (isTowerOn p) (tower t p) l) s
+
+renewed-stays : (t : Millis) (p q : OutPoint) (l : List Hold) → Stands (tower t p) l → Stands (tower t p) (renew (isTowerOn q) (tower t q) l)
+unfolding isTowerOn byOwner
+renewed-stays t p q l s = by (eqPoint q p) refl
+  where
+    by : (b : Bool) → eqPoint q p ≡ b → Stands (tower t p) (renew (isTowerOn q) (tower t q) l)
+    by true e = subst (λ (o : OutPoint). Stands (tower t p) (renew (isTowerOn o) (tower t o) l)) (sym (point-same q p e)) (renewed-here t p l)
+    by false e = stands-renew t (tower t p) l q e s
+
+all-stays : (t : Millis) (p : OutPoint) (ps : List OutPoint) (l : List Hold) → Stands (tower t p) l → Stands (tower t p) (renewAll t l ps)
+unfolding renewAll
+all-stays t p [] l s = s
+all-stays t p (q ∷ ps) l s = all-stays t p ps (renew (isTowerOn q) (tower t q) l) (renewed-stays t p q l s)
+
+pub named-stands : (t : Millis) (p : OutPoint) (ps : List OutPoint) (l : List Hold) → has p ps ≡ true → Stands (tower t p) (renewAll t l ps)
+unfolding renewAll has
+named-stands t p [] l h = absurd (false≢true h)
+named-stands t p (q ∷ ps) l h = by (eqPoint p q) refl h (named-stands t p ps (renew (isTowerOn q) (tower t q) l))
+  where
+    next : List Hold
+    next = renewAll t (renew (isTowerOn q) (tower t q) l) ps
+
+    by : (b : Bool) → eqPoint p q ≡ b → cond b true (has p ps) ≡ true → (has p ps ≡ true → Stands (tower t p) next) → Stands (tower t p) next
+    by true e h k =
+        all-stays t p ps (renew (isTowerOn q) (tower t q) l)
+        (subst (λ (o : OutPoint). Stands (tower t p) (renew (isTowerOn o) (tower t o) l)) (point-same p q e) (renewed-here t p l))
+    by false e h k = k h
+
+-- ---- what is added stands
 
 behind : (r : Hold) (a m : List Hold) → Stands r m → Stands r (a ++ m)
 behind r [] m s = s
@@ -92,32 +133,81 @@ stands-has r l (there x k s) = by (eqPoint (r .point) (x .point)) (stands-has r 
     by true h = refl
     by false h = h
 
+-- ---- a record that a call takes out is of its holder, or on a named cell
+
+is-of : (x : Hold) (holder : ℕ) → isNotOf holder x ≡ false → heldBy (Owner.Funding holder) (x .point) ≡ x
+unfolding isNotOf byOwner
+is-of x holder e = by (x .owner) refl e
+  where
+    by : (o : Owner) → x .owner ≡ o → byOwner (λ n. not (eqb n holder)) (λ end. true) o ≡ false → heldBy (Owner.Funding holder) (x .point) ≡ x
+    by (Owner.Funding n) k e = ap (λ (o : Owner). heldBy o (x .point)) (ap Owner.Funding (sym (eqb-true n holder (not-false (eqb n holder) e))) ∙ sym k)
+    by (Owner.Watchtower end) k e = absurd (false≢true (sym e))
+
+is-named : (x : Hold) (ps : List OutPoint) → isUnnamed ps x ≡ false → has (x .point) ps ≡ true
+unfolding isUnnamed byOwner
+is-named x ps e = by (x .owner) e
+  where
+    by : (o : Owner) → byOwner (λ n. true) (λ end. not (has (x .point) ps)) o ≡ false → has (x .point) ps ≡ true
+    by (Owner.Funding n) e = absurd (false≢true (sym e))
+    by (Owner.Watchtower end) e = not-false (has (x .point) ps) e
+
 -- ---- over any list of calls
 
-module _ {T O : Type 0} {F : Table T O} (f : Faithful F) (x : Hold) where
-  by-answer : (a : Answer) (b : Bool) {h g : Held} {o : After} → Step a h g o → Refuses h o → (b ≡ true → Fine (Stands x) h o) → ifDone a b ≡ true → Stands x (recordsOf h) → Stands x (recordsOf g)
-  unfolding ifDone
-  by-answer Answer.Done b st u fine o q = moved (Stands x) st (fine o) q
-  by-answer (Answer.Refused why) b st u fine o q = subst (λ (k : Held). Stands x (recordsOf k)) (sym (refused-stays st u)) q
+-- what a call makes of x: it is let go, or stands in what is left as y, on the same cell
+data Made (x : Hold) (l : List Hold) : Option Hold → Type 0 where
+  gone : Made x l none
+  becomes : {y : Hold} → Stands y l → y .point ≡ x .point → Made x l (some y)
 
-  outlived : {s t : T} (c : Called F s t) → outlives x c ≡ true → Stands x (recordsOf (F .held s)) → Stands x (recordsOf (F .held t))
-  unfolding outlives
-  outlived (run.hold {s} {t} a holder cells e) o q =
-      by-answer a (isNotOf holder x) (f .alone s t a _ e) (hold-fine (λ _. Unit {0}) (F .held s) holder cells tt)
-      (λ k. hold-fine (Stands x) (F .held s) holder cells (stands-append x (keep (isNotOf holder) (recordsOf (F .held s))) _ (stands-keep x (isNotOf holder) (recordsOf (F .held s)) k q))) o q
-  outlived (run.watch {s} {t} a cells now e) o q =
-      by-answer a (isUnnamed (points cells) x) (f .alone s t a _ e) (watch-fine (λ _. Unit {0}) (F .held s) cells now tt)
-      (λ k. watch-fine (Stands x) (F .held s) cells now (stands-renewed (later now (record { 0 = 1800000 })) x (points cells) (recordsOf (F .held s)) k q)) o q
-  outlived (run.release {s} {t} a cells e) o q =
-      by-answer a (isUnnamed (points cells) x) (f .alone s t a _ e) (release-fine (λ _. Unit {0}) (F .held s) cells tt)
-      (λ k. release-fine (Stands x) (F .held s) cells (stands-keep x (isUnnamed (points cells)) (recordsOf (F .held s)) k q)) o q
-  outlived (run.locked {s} {t} a now out after e) o q =
-      by-answer a (isLive now x) (f .beside s t a out after _ e) (locked-fine (λ _. Unit {0}) (F .held s) now out tt)
-      (λ k. locked-fine (Stands x) (F .held s) now out (stands-keep x (isLive now) (recordsOf (F .held s)) k q)) o q
-  outlived (run.take {s} {t} a picked spent taker now out₁ out₂ after₁ after₂ e) o q =
-      by-answer a (isLive now x) (f .both s t a out₁ out₂ after₁ after₂ _ e) (take-fine (λ _. Unit {0}) (F .held s) picked spent taker now out₁ out₂ tt)
-      (λ k. take-fine (Stands x) (F .held s) picked spent taker now out₁ out₂ (stands-append x (unended (F .held s) now) _ (stands-keep x (isLive now) (recordsOf (F .held s)) k q))) o q
+kept : (x : Hold) (b : Bool) (l : List Hold) → (b ≡ true → Stands x l) → Made x l (keptIf b x)
+unfolding keptIf
+kept x true l k = becomes (k refl) refl
+kept x false l k = gone
 
-  pub still : {s t : T} → Stands x (recordsOf (F .held s)) → Outlived F x s t → Stands x (recordsOf (F .held t))
-  still q run.none = q
-  still q (run.then cs c o) = outlived c o (still q cs)
+by-answer : (x : Hold) (a : Answer) (m : Option Hold) {h g : Held} {o : After} → Step h g o a → Refuses h o → Fine (λ l. Made x l m) h o → Stands x (recordsOf h) → Made x (recordsOf g) (ifDone a x m)
+unfolding ifDone
+by-answer x Answer.Done m st u fine q = left-done (λ l. Made x l m) st fine
+by-answer x (Answer.Refused why) m st u fine q = becomes (subst (λ (k : Held). Stands x (recordsOf k)) (sym (refused-stays st u)) q) refl
+
+module _ {T O : Type 0} {F : Table T O} (f : Faithful F) where
+  made : {s t : T} (x : Hold) (c : Called F s t) → Stands x (recordsOf (F .held s)) → Made x (recordsOf (F .held t)) (after x c)
+  unfolding after
+  made x (run.hold {s} {t} a holder cells e) q =
+      by-answer x a _ (f .alone s t a _ e) (hold-fine (λ _. Unit {0}) (F .held s) holder cells tt) (hold-fine (λ l. Made x l _) (F .held s) holder cells (kept x _ _ by)) q
+    where
+      by : cond (isNotOf holder x) true (has (x .point) (points cells)) ≡ true
+          → Stands x (keep (isNotOf holder) (recordsOf (F .held s)) ++ map (heldBy (Owner.Funding holder)) (points cells))
+      by h = either (isNotOf holder x) refl h
+        where
+          either : (b : Bool) → isNotOf holder x ≡ b → cond b true (has (x .point) (points cells)) ≡ true
+              → Stands x (keep (isNotOf holder) (recordsOf (F .held s)) ++ map (heldBy (Owner.Funding holder)) (points cells))
+          either true k h = stands-append x (keep (isNotOf holder) (recordsOf (F .held s))) _ (stands-keep x (isNotOf holder) (recordsOf (F .held s)) k q)
+          either false k h =
+              subst (λ (y : Hold). Stands y (keep (isNotOf holder) (recordsOf (F .held s)) ++ map (heldBy (Owner.Funding holder)) (points cells))) (is-of x holder k)
+              (taken-stands (Owner.Funding holder) (x .point) (keep (isNotOf holder) (recordsOf (F .held s))) (points cells) h)
+  made x (run.watch {s} {t} a cells now e) q =
+      by-answer x a _ (f .alone s t a _ e) (watch-fine (λ _. Unit {0}) (F .held s) cells now tt) (watch-fine (λ l. Made x l _) (F .held s) cells now (by (isUnnamed (points cells) x) refl)) q
+    where
+      end : Millis
+      end = later now (record { 0 = 1800000 })
+
+      by : (b : Bool) → isUnnamed (points cells) x ≡ b → Made x (renewAll end (recordsOf (F .held s)) (points cells)) (some (cond b x (tower end (x .point))))
+      by true k = becomes (stands-renewed end x (points cells) (recordsOf (F .held s)) k q) refl
+      by false k = becomes (named-stands end (x .point) (points cells) (recordsOf (F .held s)) (is-named x (points cells) k)) refl
+  made x (run.release {s} {t} a cells e) q =
+      by-answer x a _ (f .alone s t a _ e) (release-fine (λ _. Unit {0}) (F .held s) cells tt)
+      (release-fine (λ l. Made x l _) (F .held s) cells (kept x _ _ (λ k. stands-keep x (isUnnamed (points cells)) (recordsOf (F .held s)) k q))) q
+  made x (run.locked {s} {t} a now out buffer e) q =
+      by-answer x a _ (f .beside s t a out buffer _ e) (locked-fine (λ _. Unit {0}) (F .held s) now out tt)
+      (locked-fine (λ l. Made x l _) (F .held s) now out (kept x _ _ (λ k. stands-keep x (isLive now) (recordsOf (F .held s)) k q))) q
+  made x (run.take {s} {t} a picked spent taker now out₁ out₂ after₁ after₂ e) q =
+      by-answer x a _ (f .both s t a out₁ out₂ after₁ after₂ _ e) (take-fine (λ _. Unit {0}) (F .held s) picked spent taker now out₁ out₂ tt)
+      (take-fine (λ l. Made x l _) (F .held s) picked spent taker now out₁ out₂
+      (kept x _ _ (λ k. stands-append x (unended (F .held s) now) _ (stands-keep x (isLive now) (recordsOf (F .held s)) k q)))) q
+
+  pub still : {s t : T} (x : Hold) {y : Hold} → Stands x (recordsOf (F .held s)) → Followed F x s t y → Stands y (recordsOf (F .held t)) × (y .point ≡ x .point)
+  still x q run.start = (q, refl)
+  still x q (run.then {s} {t} {u} {y} {z} cs c e) =
+      let (r, k) = still x q cs in by k (subst (Made y (recordsOf (F .held u))) e (made y c r))
+    where
+      by : y .point ≡ x .point → Made y (recordsOf (F .held u)) (some z) → Stands z (recordsOf (F .held u)) × (z .point ≡ x .point)
+      by k (becomes m n) = (m, n ∙ k)

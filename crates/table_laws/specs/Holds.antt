@@ -3,15 +3,16 @@ use mathlib.Core.Path.{_≡_}
 use Prim.Native.Nat.{ℕ, suc, _≤_}
 use mathlib.Core.Bool.{Bool, true, false, not, cond}
 use mathlib.Core.List.{List, [], _∷_}
+use mathlib.Core.Option.{Option, none, some}
 use lib.ListN.{length}
 use Rattle.arithmetic.specs.LittleEndian.{AllBytes}
-use Rattle.units.specs.declared.Millis.{Millis}
+use Rattle.units.specs.{declared.Millis.Millis, Units.later}
 use Rattle.molecule.specs.Partial.{All}
 use Rattle.out_points.specs.declared.OutPoint.{OutPoint}
 use Rattle.error.specs.declared.{Answer.Answer}
 use Rattle.out_points.specs.OutPoints.{has, points, Fit}
 use Rattle.out_points.specs.Tables.{Outcome, told}
-use Rattle.hold_records.specs.declared.{Hold.Hold, Held.Held, Taker.Taker}
+use Rattle.hold_records.specs.declared.{Owner.Owner, Hold.Hold, Held.Held, Taker.Taker}
 use Rattle.hold_records.specs.Holds.{recordsOf, isNotOf, isUnnamed, isTowerOn, ownerFor, holdFunding, releaseForWatchtower, holdForWatchtower, lockHeld, takeCells, isLive, cellsOf, heldBy}
 
 -- what a table of holds is, by which the laws are said: a value, or lent bytes (`lent`, LentHolds.antt). It means a table by value; and of a call it is known that its answer, told
@@ -64,6 +65,13 @@ pub record Took {T O : Type 0} (F : Table T O) (s t : T) (picked spent : List �
   pub says : (F .says Answer.Done t, taken, refused) ≡ F .givesTwo s out₁ out₂ (takeCells (F .held s) picked spent taker now out₁ out₂)
   pub lent : AllBytes picked
 
+-- a `hold_funding`, and a `hold_for_watchtower`, that is done
+pub record Funded {T O : Type 0} (F : Table T O) (s t : T) (holder : ℕ) (cells : List ℕ) : Type 0 where
+  pub says : F .says Answer.Done t ≡ F .gives s (holdFunding (F .held s) holder cells)
+
+pub record Watched {T O : Type 0} (F : Table T O) (s t : T) (cells : List ℕ) (now : Millis) : Type 0 where
+  pub says : F .says Answer.Done t ≡ F .gives s (holdForWatchtower (F .held s) cells now)
+
 -- a `lock_held` that is done: it leaves `after` in the buffer
 pub record Locked {T O : Type 0} (F : Table T O) (s t : T) (now : Millis) (after : List ℕ) : Type 0 where
   pub out : List ℕ
@@ -74,16 +82,32 @@ pub record InRange (h : Held) : Type 0 where
   pub few : length (recordsOf h) ≤ 256
   pub fit : All Fit (cellsOf (recordsOf h))
 
--- a cell with a record that has not ended is given by no `take`, to anybody; picked, it is among the refused
-abbrev pub HeldRefused : {T O : Type 0} → Table T O → Type 0
-HeldRefused {T} F = (s t : T) (picked spent : List ℕ) (taker : Taker) (now : Millis) (taken refused : List ℕ) → Took F s t picked spent taker now taken refused
-    → (x : Hold) → Stands x (recordsOf (F .held s)) → isLive now x ≡ true
-    → (has (x .point) (points taken) ≡ false) × (has (x .point) (points refused) ≡ has (x .point) (points picked))
+-- at any time at which x is live, no `take` from s gives the cell p to anybody; picked, it is among the refused
+abbrev pub NotGiven : {T O : Type 0} → Table T O → OutPoint → Hold → T → Type 0
+NotGiven {T} F p x s = (t : T) (picked spent : List ℕ) (taker : Taker) (now : Millis) (taken refused : List ℕ)
+    → Took F s t picked spent taker now taken refused → isLive now x ≡ true
+    → (has p (points taken) ≡ false) × (has p (points refused) ≡ has p (points picked))
 
--- what `take` gives has a record of the taker's afterwards
-abbrev pub GivenHeld : {T O : Type 0} → Table T O → Type 0
-GivenHeld {T} F = (s t : T) (picked spent : List ℕ) (taker : Taker) (now : Millis) (taken refused : List ℕ) → Took F s t picked spent taker now taken refused
-    → (p : OutPoint) → has p (points taken) ≡ true → Stands (heldBy (ownerFor taker now) p) (recordsOf (F .held t))
+-- so it is of the cell of every record that stands
+abbrev pub HeldRefused : {T O : Type 0} → Table T O → Type 0
+HeldRefused {T} F = (s : T) (x : Hold) → Stands x (recordsOf (F .held s)) → NotGiven F (x .point) x s
+
+-- what a `hold_for_watchtower` at `now` leaves on a cell
+abbrev pub watchedAt : Millis → OutPoint → Hold
+watchedAt now p = heldBy (Owner.Watchtower (later now (record { 0 = 1800000 }))) p
+
+-- the three calls that hold a cell: one that is done leaves x, on a cell that it gave or that it names
+pub data Holding {T O : Type 0} (F : Table T O) (s t : T) : Hold → Type 0 where
+  took : {picked spent : List ℕ} {taker : Taker} {now : Millis} {taken refused : List ℕ} → Took F s t picked spent taker now taken refused
+      → (p : OutPoint) → has p (points taken) ≡ true → Holding F s t (heldBy (ownerFor taker now) p)
+  funded : {holder : ℕ} {cells : List ℕ} → Funded F s t holder cells
+      → (p : OutPoint) → has p (points cells) ≡ true → Holding F s t (heldBy (Owner.Funding holder) p)
+  watched : {cells : List ℕ} {now : Millis} → Watched F s t cells now
+      → (p : OutPoint) → has p (points cells) ≡ true → Holding F s t (watchedAt now p)
+
+-- and x stands in the table that the call leaves
+abbrev pub HeldStands : {T O : Type 0} → Table T O → Type 0
+HeldStands {T} F = (s t : T) (x : Hold) → Holding F s t x → Stands x (recordsOf (F .held t))
 
 -- `lock_held` writes exactly the cells that `take` refuses for being held: of one pick, and nothing spent
 abbrev pub LockedRefused : {T O : Type 0} → Table T O → Type 0
@@ -95,36 +119,34 @@ LockedRefused {T} F = (s : T) (now : Millis) → InRange (F .held s)
 
 -- ---- how long: over any list of calls
 
--- a call that is refused ends nothing; of one that is done the test says whether the record outlives it
-unfoldable pub ifDone : Answer → Bool → Bool
-ifDone Answer.Done b = b
-ifDone (Answer.Refused why) b = true
+-- x if the test passes, and else it is let go
+unfoldable pub keptIf : Bool → Hold → Option Hold
+keptIf b x = cond b (some x) none
 
--- the record outlives the call. What ends it, if it is done: `hold_funding` by its own holder; of a watchtower record, `hold_for_watchtower` on its cell, which replaces it,
--- and `release_for_watchtower` on its cell; `lock_held` and `take` at a time at which it is no longer live
-unfoldable pub outlives : {T O : Type 0} {F : Table T O} {s t : T} → Hold → Called F s t → Bool
-outlives x (hold a holder cells e) = ifDone a (isNotOf holder x)
-outlives x (watch a cells now e) = ifDone a (isUnnamed (points cells) x)
-outlives x (release a cells e) = ifDone a (isUnnamed (points cells) x)
-outlives x (locked a now out after e) = ifDone a (isLive now x)
-outlives x (take a picked spent taker now out₁ out₂ after₁ after₂ e) = ifDone a (isLive now x)
+-- a call that is refused leaves x; of one that is done it is said what it makes of x
+unfoldable pub ifDone : Answer → Hold → Option Hold → Option Hold
+ifDone Answer.Done x y = y
+ifDone (Answer.Refused why) x y = some x
 
--- a list of calls from one table to another, none of which ends x
-pub data Outlived {T O : Type 0} (F : Table T O) (x : Hold) : T → T → Type 0 where
-  none : {s : T} → Outlived F x s s
-  then : {s t u : T} → Outlived F x s t → (c : Called F t u) → outlives x c ≡ true → Outlived F x s u
+-- what becomes of a record x by a call that is done. `hold_funding` by its own holder lets it go if the new list does not name its cell again;
+-- `hold_for_watchtower` on the cell of a watchtower record gives it the new end, and `release_for_watchtower` lets it go; `lock_held` and `take` let
+-- it go if it is not live at their time. Nothing else does anything to it
+unfoldable pub after : {T O : Type 0} {F : Table T O} {s t : T} → Hold → Called F s t → Option Hold
+after x (hold a holder cells e) = ifDone a x (keptIf (cond (isNotOf holder x) true (has (x .point) (points cells))) x)
+after x (watch a cells now e) = ifDone a x (some (cond (isUnnamed (points cells) x) x (watchedAt now (x .point))))
+after x (release a cells e) = ifDone a x (keptIf (isUnnamed (points cells) x) x)
+after x (locked a now out buffer e) = ifDone a x (keptIf (isLive now x) x)
+after x (take a picked spent taker now out₁ out₂ after₁ after₂ e) = ifDone a x (keptIf (isLive now x) x)
 
--- no `take` from s gives the cell of x to anybody, whenever x is live
-abbrev pub NotGiven : {T O : Type 0} → Table T O → Hold → T → Type 0
-NotGiven {T} F x s = (t : T) (picked spent : List ℕ) (taker : Taker) (now : Millis) (taken refused : List ℕ) → Took F s t picked spent taker now taken refused
-    → isLive now x ≡ true → has (x .point) (points taken) ≡ false
+-- a list of calls from s to t that does not let x go: it is y in the end
+pub data Followed {T O : Type 0} (F : Table T O) (x : Hold) : T → T → Hold → Type 0 where
+  start : {s : T} → Followed F x s s x
+  then : {s t u : T} {y z : Hold} → Followed F x s t y → (c : Called F t u) → after y c ≡ some z → Followed F x s u z
 
--- a record stands after any list of calls none of which ends it, and so its cell is given to nobody while it is live
+-- from any table: what x has become stands, and x's cell is given to nobody while that is live
 abbrev pub StaysHeld : {T O : Type 0} → Table T O → Type 0
-StaysHeld {T} F = (x : Hold) (s t : T) → Stands x (recordsOf (F .held s)) → Outlived F x s t → Stands x (recordsOf (F .held t)) × NotGiven F x t
+StaysHeld {T} F = (s t : T) (x y : Hold) → Stands x (recordsOf (F .held s)) → Followed F x s t y → Stands y (recordsOf (F .held t)) × NotGiven F (x .point) y t
 
--- and so a cell p that a `take` gave is given to nobody by any later `take`, until a call ends its record or its time is over
-abbrev pub GivenOnce : {T O : Type 0} → Table T O → Type 0
-GivenOnce {T} F = (s t u : T) (picked spent : List ℕ) (taker : Taker) (now : Millis) (taken refused : List ℕ) → Took F s t picked spent taker now taken refused
-    → (p : OutPoint) → has p (points taken) ≡ true
-    → Outlived F (heldBy (ownerFor taker now) p) t u → NotGiven F (heldBy (ownerFor taker now) p) u
+-- and so a cell that one of the three calls held is given to nobody by any later `take`, until a call lets its record go or its time, renewed or not, is over
+abbrev pub HeldOnce : {T O : Type 0} → Table T O → Type 0
+HeldOnce {T} F = (s t u : T) (x y : Hold) → Holding F s t x → Followed F x t u y → NotGiven F (x .point) y u

@@ -30,6 +30,14 @@ module _ {s t : List ℕ} (a : Answer) where
       → (told (withBytes heldAt) a t, after₁, after₂) ≡ lentWithTwo heldBytes heldSize s out₁ out₂ (takeCells (heldOf s) picked spent taker time out₁ out₂) → holds.Called lent s t
   take-lent picked spent taker time out₁ out₂ after₁ after₂ e = holds.take a picked spent taker time out₁ out₂ after₁ after₂ e
 
+  pub hold-lent-done : (holder : ℕ) (cells : List ℕ) → told (withBytes heldAt) a t ≡ lentTable heldBytes heldSize s (holdFunding (heldOf s) holder cells)
+      → (a ≡ Answer.Done → holds.Funded lent s t holder cells)
+  hold-lent-done holder cells e d = record { says = subst (λ (v : Answer). told (withBytes heldAt) v t ≡ lentTable heldBytes heldSize s (holdFunding (heldOf s) holder cells)) d e }
+
+  pub watch-lent-done : (cells : List ℕ) (time : Millis) → told (withBytes heldAt) a t ≡ lentTable heldBytes heldSize s (holdForWatchtower (heldOf s) cells time)
+      → (a ≡ Answer.Done → holds.Watched lent s t cells time)
+  watch-lent-done cells time e d = record { says = subst (λ (v : Answer). told (withBytes heldAt) v t ≡ lentTable heldBytes heldSize s (holdForWatchtower (heldOf s) cells time)) d e }
+
   pub lock-lent-done : (time : Millis) (out after : List ℕ) → (told (withBytes heldAt) a t, after) ≡ lentWith heldBytes heldSize s out (lockHeld (heldOf s) time out)
       → (a ≡ Answer.Done → holds.Locked lent s t time after)
   lock-lent-done time out after e d =

@@ -27,6 +27,12 @@ module _ {h : Held} (r : HeldAnswer) where
       → (told recordsOf (r .answer) (r .held), after₁, after₂) ≡ takeCells h picked spent taker time out₁ out₂ → holds.Called holds.byValue h (r .held)
   take-step picked spent taker time out₁ out₂ after₁ after₂ e = holds.take (r .answer) picked spent taker time out₁ out₂ after₁ after₂ e
 
+  pub hold-done : (holder : ℕ) (cells : List ℕ) → told recordsOf (r .answer) (r .held) ≡ holdFunding h holder cells → (r .answer ≡ Answer.Done → holds.Funded holds.byValue h (r .held) holder cells)
+  hold-done holder cells e d = record { says = subst (λ (a : Answer). told recordsOf a (r .held) ≡ holdFunding h holder cells) d e }
+
+  pub watch-done : (cells : List ℕ) (time : Millis) → told recordsOf (r .answer) (r .held) ≡ holdForWatchtower h cells time → (r .answer ≡ Answer.Done → holds.Watched holds.byValue h (r .held) cells time)
+  watch-done cells time e d = record { says = subst (λ (a : Answer). told recordsOf a (r .held) ≡ holdForWatchtower h cells time) d e }
+
   pub lock-done : (time : Millis) (out after : List ℕ) → (told recordsOf (r .answer) (r .held), after) ≡ lockHeld h time out → (r .answer ≡ Answer.Done → holds.Locked holds.byValue h (r .held) time after)
   lock-done time out after e d = record { out = out; says = subst (λ (a : Answer). (told recordsOf a (r .held), after) ≡ lockHeld h time out) d e }
 

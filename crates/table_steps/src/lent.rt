@@ -9,12 +9,13 @@ ghost use Rattle.out_points.specs.Tables.{told};
 ghost use Rattle.hold_records.specs.Holds.{holdFunding, releaseForWatchtower, holdForWatchtower, lockHeld, takeCells};
 ghost use Rattle.table_bytes.specs.Lent.{lentTable, lentWith, lentWithTwo, withBytes};
 ghost use Rattle.held_bytes.specs.HeldBytes.{heldSize, heldOf, heldAt, heldBytes};
-ghost use Rattle.table_laws.specs.Holds.{Called, Locked, Took, InRange};
+ghost use Rattle.table_laws.specs.Holds.{Called, Funded, Watched, Locked, Took, InRange};
 ghost use Rattle.table_laws.specs.LentHolds.{lent};
 
 pub fn hold_funding(held: &mut [u8], holder: u64, cells: &[u8]) -> Answer
     ensures { λ r. ⌜ told (withBytes heldAt) r (now (held .exit)) ≡ lentTable heldBytes heldSize (now (held .entry)) (holdFunding (heldOf (now (held .entry))) holder (now (cells .entry))) ⌝ }
     ensures { λ _. ⌜ Called lent (now (held .entry)) (now (held .exit)) ⌝ }
+    ensures { λ r. ⌜ (r ≡ Answer.Done → Funded lent (now (held .entry)) (now (held .exit)) holder (now (cells .entry))) ⌝ }
 {
     held_bytes::calls::hold_funding(held, holder, cells)
 }
@@ -29,6 +30,7 @@ pub fn release_for_watchtower(held: &mut [u8], cells: &[u8]) -> Answer
 pub fn hold_for_watchtower(held: &mut [u8], cells: &[u8], time: Millis) -> Answer
     ensures { λ r. ⌜ told (withBytes heldAt) r (now (held .exit)) ≡ lentTable heldBytes heldSize (now (held .entry)) (holdForWatchtower (heldOf (now (held .entry))) (now (cells .entry)) time) ⌝ }
     ensures { λ _. ⌜ Called lent (now (held .entry)) (now (held .exit)) ⌝ }
+    ensures { λ r. ⌜ (r ≡ Answer.Done → Watched lent (now (held .entry)) (now (held .exit)) (now (cells .entry)) time) ⌝ }
 {
     held_bytes::calls::hold_for_watchtower(held, cells, time)
 }

@@ -11,6 +11,6 @@ put-cell-output-spec =
     (λ c. search ways)  -- returns
     (λ c κs. search ways)  -- output-head-requires
     (λ c. search ways)  -- slice-aggregate-put-parts
-    (λ c κs. parts-room _ _ _ _ _ (c .before .before .before .before .before .has-room .ensures) (c .before .before .before .before .if1 .left) (c .before .before .output-head .ensures))  -- put-parts-requires
+    (λ c κs. parts-room _ _ _ _ _ (c .before .before .before .before .has-room .ensures) (c .before .before .before .if1 .left) (c .before .before .output-head .ensures))  -- put-parts-requires
     (λ c. search ways)  -- same-length
     (λ c. search ways))  -- returns-2

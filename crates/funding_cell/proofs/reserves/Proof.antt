@@ -6,7 +6,5 @@ pub reserves-spec : {M : Type 1} → statement M
 reserves-spec =
     tie.close
     (tie.spec
-    (λ c κs. search ways)  -- from-u64-requires
-    (λ c κs. search ways)  -- from-u64-requires-2
     (λ c κs. search ways)  -- checked-add-requires
     (λ c. search ways))  -- returns

@@ -9,4 +9,4 @@ outputs-size-spec =
     (λ c κs. search ways)  -- cell-size-requires
     (λ c κs. search ways)  -- change-size-requires
     (λ c κs. search ways)  -- list-size-requires
-    (λ c. λ capacity. search ways))  -- returns
+    (λ c. λ n. search ways))  -- returns

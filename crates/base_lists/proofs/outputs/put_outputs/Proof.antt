@@ -8,7 +8,8 @@ put-outputs-spec =
     (tie.spec
     (λ c κs. search ways)  -- cell-size-requires
     (λ c. search ways)  -- returns
-    (λ c κs. search ways)  -- cell-head-requires
+    (λ c κs. search ways)  -- output-head-requires
+    (λ c κs. search ways)  -- is-zero-requires
     (λ c. search ways)  -- sub-none
     (λ c. search ways)  -- part-none-start
     (λ c. search ways)  -- part-none-end
@@ -18,7 +19,7 @@ put-outputs-spec =
     (λ c. search ways)  -- returns-2
     (λ c κs. search ways)  -- cell-size-requires-2
     (λ c. search ways)  -- returns-3
-    (λ c κs. search ways)  -- cell-head-requires-2
+    (λ c κs. search ways)  -- output-head-requires-2
     (λ c. search ways)  -- slice-aggregate-put-list-2
     (λ c. search ways)  -- slice-aggregate-put-list-3
     (λ c κs. search ways)  -- put-list-requires-2

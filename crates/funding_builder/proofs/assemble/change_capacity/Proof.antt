@@ -10,7 +10,6 @@ change-capacity-spec =
     (λ c. search ways)  -- returns
     (λ c κs. search ways)  -- change-capacity-requires
     (λ c. search ways)  -- enum-known-capacity
-    (λ c κs. search ways)  -- low-half-requires
     (λ c. search ways)  -- enum-told
     (λ c. search ways)  -- returns-2
     (λ c. search ways))  -- returns-3
