@@ -2,6 +2,7 @@
 //! list's own items. A row has the slowest of them beside the same call with honest lists.
 use super::bytes::*;
 use super::clock::{Clock, Row, Size};
+use super::reading;
 use crate::library::{self, EXCLUSIONS_BYTES, HELD_BYTES};
 use oracle::standins::molecule::write_table;
 use std::hint::black_box;
@@ -15,14 +16,14 @@ const ENTRIES: &[Entry] = &[
     ("is_script", || vec![script()], |l, _| library::is_script(&l[0]).into()),
     ("is_records", || vec![records()], |l, _| library::is_records(&l[0]).into()),
     ("is_out_points", || vec![points()], |l, _| library::is_out_points(&l[0]).into()),
-    ("version", tx, |l, _| library::version(&l[0])),
-    ("item_count", tx, |l, _| library::item_count(&l[0], 3)),
+    ("version", tx, |l, out| reading::VERSION(&l[0], out)),
+    ("item_count", tx, |l, out| reading::COUNT_WITNESSES(&l[0], out)),
     ("item", tx, |l, out| library::item(&l[0], 3, 0, out, &mut [0; 4])),
     ("write_transaction", lists, |l, out| library::write_transaction(0, &l[0], &l[1], &l[2], &l[3], &l[4], &l[5], out, &mut [0; 4])),
     ("rewrite", tx, |l, out| library::rewrite(&l[0], out, &mut [0; 4])),
     ("update_for_peer", update, |l, _| library::update_for_peer(&l[0], &l[1], &l[2], &l[3], &l[4], 1_000, &l[5], &mut [0; 4])),
     ("replay", replay, |l, _| library::replay(&l[0], &l[1], &l[2], &l[3], &mut [0; 5], &mut [0; 4])),
-    ("check_case", case, |l, out| library::check_case(&l[0], out) as u32),
+    ("check_case", case, |l, out| reading::CHECK_CASE(&l[0], out)),
     ("build_funding_cell", || vec![small(), script()], |l, _| library::build_funding_cell(&l[0], &l[1], 5, 0, 7, 5, 0, 7, &mut [0; 4])),
     ("build_udt_inputs_outputs", pick, |l, out| library::build_udt_inputs_outputs(&l[0], &l[1], &l[2], 5, 0, out, &mut [0; 4])),
     ("build_base", base, |l, out| library::build_base_of(&l[0], &l[1], &l[2], &l[3], &l[4], &l[5], &l[6], &l[7], 5, 0, 7, 5, 0, 7, out, &mut [0; 4])),
@@ -99,9 +100,11 @@ fn pick() -> Vec<Vec<u8>> {
 fn base() -> Vec<Vec<u8>> {
     vec![small(), script(), script(), script(), cells(), deps(), [1; 37].to_vec(), deps()]
 }
+/// Full: 128 cells, each held for a funding and by the watchtower.
 fn held() -> Vec<u8> {
-    let mut held = vec![0; HELD_BYTES];
-    assert_eq!(library::hold_for_watchtower(&mut held, &fixvec(&Hashes::Random.points(0..256)), 5), 0);
+    let (mut held, cells) = (vec![0; HELD_BYTES], fixvec(&Hashes::Random.points(0..128)));
+    assert_eq!(library::hold_funding(&mut held, 1, &cells), 0);
+    assert_eq!(library::hold_for_watchtower(&mut held, &cells, 5), 0);
     held
 }
 fn held_and_points() -> Vec<Vec<u8>> {

@@ -11,14 +11,18 @@ const SIZES: [usize; 3] = [MOST / 4, MOST / 2, MOST];
 const CASE_SIZES: [usize; 3] = [16_000, 32_000, 64_000];
 
 /// A call that is lent bytes, and a buffer.
-type Call = fn(&[u8], &mut [u8]) -> u32;
+pub type Call = fn(&[u8], &mut [u8]) -> u32;
 /// Bytes of about so many.
 type Bytes = fn(usize) -> Vec<u8>;
 
+pub const VERSION: Call = |tx, _| library::version(tx);
+pub const COUNT_WITNESSES: Call = |tx, _| library::item_count(tx, 5);
+pub const CHECK_CASE: Call = |file, line| library::check_case(file, line) as u32;
+
 const READ_TRANSACTIONS: &[(&str, Call)] = &[
     ("is_transaction", |tx, _| library::is_transaction(tx).into()),
-    ("version", |tx, _| library::version(tx)),
-    ("item_count", |tx, _| library::item_count(tx, 5)),
+    ("version", VERSION),
+    ("item_count", COUNT_WITNESSES),
     ("item", |tx, out| library::item(tx, 5, 0, out, &mut [0; 4])),
     ("rewrite", |tx, out| library::rewrite(tx, out, &mut [0; 4])),
     ("write_transaction", write_again),
@@ -149,9 +153,6 @@ const CASES: &[(&str, Bytes)] = &[
     ("items that are no record", |n| [usual_case(0).write(), vec![0; n]].concat()),
     ("an item that claims 2^28 - 1 bytes", |n| [usual_case(n).write(), CLAIM.to_vec()].concat()),
 ];
-fn check_case(file: &[u8], line: &mut [u8]) -> u32 {
-    library::check_case(file, line) as u32
-}
 
 // ---- rows
 
@@ -168,6 +169,6 @@ fn rows_of(entry: &'static str, call: Call, hostile: &[(&str, Bytes)], honest: B
 pub fn rows() -> Vec<Row> {
     let mut rows: Vec<Row> = READ_TRANSACTIONS.iter().flat_map(|(entry, call)| rows_of(entry, *call, TRANSACTIONS, usual, SIZES)).collect();
     rows.extend(READ_LISTS.iter().flat_map(|(entry, call, hostile, honest)| rows_of(entry, *call, hostile, *honest, SIZES)));
-    rows.extend(rows_of("check_case", check_case, CASES, |n| usual_case(n).write(), CASE_SIZES));
+    rows.extend(rows_of("check_case", CHECK_CASE, CASES, |n| usual_case(n).write(), CASE_SIZES));
     rows
 }
