@@ -22,15 +22,20 @@ fn spending(from: usize, count: usize) -> Vec<u8> {
     Tx { inputs: inputs(from + count).split_off(from), ..Tx::default() }.bytes()
 }
 
-/// The map of n transactions, committed one after the other from block 1 on, here and in the original.
+/// The block in which entry i was committed: every other one in a block that is long past, so that a truncation moves the most.
+fn block(i: usize) -> u64 {
+    [1, 1_000][i % 2]
+}
+
+/// The map of n committed transactions, here and in the original.
 fn full(hashes: Hashes, n: usize) -> (Vec<u8>, Map) {
     let (mut here, mut there) = (vec![0; EXCLUSIONS_BYTES], Map::default());
     for i in 0..n {
         let (hash, tx) = (hash(hashes, i), spending(POINTS * i, POINTS));
         assert_eq!(library::exclusions_add(&mut here, &hash, &tx), 0);
-        assert_eq!(library::exclusions_commit(&mut here, &hash, 1 + i as u64), 0);
+        assert_eq!(library::exclusions_commit(&mut here, &hash, block(i)), 0);
         there.add(&hash, &tx);
-        there.commit(&hash, 1 + i as u64);
+        there.commit(&hash, block(i));
     }
     (here, there)
 }
@@ -51,12 +56,8 @@ const MIGRATE: (&str, Call, Original) = (
     |map, hash, tx, _| library::exclusions_migrate_funding_tx(map, hash, &NEW, tx),
     |map, hash, tx| map.migrate(hash, &NEW, tx),
 );
-const TRUNCATE: (&str, Call, Original) = (
-    "exclusions_truncate",
-    // half of 64 go
-    |map, _, _, _| library::exclusions_truncate(map, 13 + 32),
-    |map, _, _| map.truncate(13 + 32),
-);
+const TRUNCATE: (&str, Call, Original) =
+    ("exclusions_truncate", |map, _, _, _| library::exclusions_truncate(map, 500), |map, _, _| map.truncate(500));
 const APPLY: (&str, Call, Original) =
     ("exclusions_apply", |map, _, _, out| library::exclusions_apply(map, out), |map, _, _| drop(black_box(map.apply())));
 
@@ -122,7 +123,7 @@ pub fn rows() -> Vec<Row> {
     let all = |n, hashes| Lent { hashes, entries: n, place: 0, tx: vec![] };
     rows.extend([TRUNCATE, APPLY].map(|entry| {
         let size = |n| size(entry, n, all(n, Hashes::LastByte), all(n, Hashes::Random));
-        Row::new(entry.0, "all but the last byte alike", ENTRIES, size)
+        Row::new(entry.0, "all entries, all but the last byte alike", ENTRIES, size)
     }));
     rows
 }
