@@ -134,7 +134,7 @@ fn main() {
         by_turns(
             name,
             || (table.clone(), room(), room()),
-            |(held, taken, refused)| assert_eq!(library::take(held, &pick_list, &none, 2, 5, taken, refused), answer),
+            |(held, taken, refused)| assert_eq!(library::take(held, &pick_list, &none, false, 2, 5, taken, refused), answer),
             || {
                 holds::reset();
                 holds::hold_funding(1, &cells);
@@ -254,7 +254,7 @@ fn main() {
     bases();
     let picks = list(&points(1000..1064));
     let (mut held, mut taken, mut refused) = (filled(&fewer_list), room(), room());
-    let of_take = stack_use(|| assert_eq!(library::take(&mut held, &picks, &none, 2, 5, &mut taken, &mut refused), 0));
+    let of_take = stack_use(|| assert_eq!(library::take(&mut held, &picks, &none, false, 2, 5, &mut taken, &mut refused), 0));
     let of_migrate = stack_use(|| assert_eq!(library::exclusions_migrate_funding_tx(&mut map, hash, &[99; 32], tx), 0));
     println!("stack: take {of_take} bytes, exclusions_migrate_funding_tx {of_migrate} bytes");
 }

@@ -1,8 +1,8 @@
 //! Times `update_for_peer` beside the original's, in turns: see bench/update.
+mod judged;
 mod library;
 
-use oracle::original::parsed::Parsed;
-use oracle::original::update::{judge, read_records, Lent, Verdict};
+use judged::Update;
 use oracle::selftest::{data, output, script, tx};
 use oracle::standins::molecule::write_table;
 use oracle::standins::packed::{Bytes, CellOutput, Script};
@@ -12,48 +12,9 @@ use std::time::Instant;
 /// The greatest size of a peer's transaction, without the 4 bytes that a block adds.
 const MOST: usize = 133_116;
 
-/// What is lent to a call.
-struct Update {
-    ours: Vec<u8>,
-    peer: Vec<u8>,
-    lock: Vec<u8>,
-    udt: Vec<u8>,
-    source: Vec<u8>,
-    rate: u64,
-    records: Vec<u8>,
-}
-
-impl Update {
-    fn lent(&self) -> Lent<'_> {
-        let Update { peer, lock, udt, source, rate, records, .. } = self;
-        Lent { peer, lock, udt, source, rate: *rate, records: read_records(records) }
-    }
-    /// From raw bytes, by the original.
-    fn read(&self) -> Parsed {
-        let mut parsed = Parsed::read(&self.ours, self.lent()).expect("readable");
-        parsed.lend();
-        parsed
-    }
-    /// From raw bytes, by the library.
-    fn call(&self, values: &mut [u64; 4]) -> u32 {
-        let Update { ours, peer, lock, udt, source, rate, records } = self;
-        library::update_for_peer(ours, peer, lock, udt, source, *rate, records, values)
-    }
-    /// One pass over all bytes of the transactions and records.
-    fn pass(&self) -> u64 {
-        [&self.ours, &self.peer, &self.records].iter().fold(0, |sum, b| sum.wrapping_add(summed(b)))
-    }
-    fn bytes(&self) -> usize {
-        self.ours.len() + self.peer.len() + self.records.len()
-    }
-    /// Both accept it and report the same surpluses.
-    fn agrees(&self, name: &str) {
-        let Verdict::Accept(capacity, token) = judge(&self.ours, self.lent()) else { panic!("{name}: the original refuses") };
-        let mut values = [0; 4];
-        let number = self.call(&mut values);
-        let expected = [capacity as u64, (capacity >> 64) as u64, token as u64, (token >> 64) as u64];
-        assert_eq!((number, values), (0, expected), "{name}");
-    }
+/// One pass over all bytes of the transactions and records.
+fn pass(update: &Update) -> u64 {
+    [&update.ours, &update.peer, &update.records].iter().fold(0, |sum, b| sum.wrapping_add(summed(b)))
 }
 
 fn summed(bytes: &[u8]) -> u64 {
@@ -187,7 +148,7 @@ impl Clock {
 fn beside_the_original(rounds: usize) {
     println!("{:<36}{:>8}{:>8}{:>8}{:>8}{:>7}{:>7}{:>7}", "ns for a call", "a", "b", "c", "d", "c/a", "c/b", "c/d");
     for (name, update) in updates() {
-        update.agrees(name);
+        assert_eq!(update.agrees(name), 0);
         let calls = (400_000 / update.bytes()).max(3);
         let (mut a, mut b, mut c, mut d) = (Clock::new(), Clock::new(), Clock::new(), Clock::new());
         for _ in 0..rounds {
@@ -196,7 +157,7 @@ fn beside_the_original(rounds: usize) {
             b.time(calls, || assert!(black_box(&update).read().passes()));
             c.time(calls, || assert!(black_box(&update).call(&mut [0; 4]) == 0));
             d.time(calls, || {
-                black_box(black_box(&update).pass());
+                black_box(pass(black_box(&update)));
             });
         }
         let (a, b, c, d) = (a.0, b.0, c.0, d.0);
@@ -210,7 +171,7 @@ fn for_each_byte(rounds: usize) {
     for bytes in [10_000, 20_000, 40_000, 80_000, MOST] {
         cases.extend(growing(bytes).map(|(name, update)| (name, update, Clock::new())));
     }
-    cases.iter().for_each(|(name, update, _)| update.agrees(name));
+    cases.iter().for_each(|(name, update, _)| assert_eq!(update.agrees(name), 0));
     for _ in 0..rounds {
         for (_, update, clock) in &mut cases {
             clock.time(400_000 / update.bytes(), || assert!(black_box(&*update).call(&mut [0; 4]) == 0));

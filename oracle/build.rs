@@ -61,7 +61,7 @@ fn main() {
     let library = env::var("BASINPANTRY_LIB").map(PathBuf::from).unwrap_or_else(|_| folder().join("../target/staticlib/libcapi.a"));
     println!("cargo:rerun-if-changed={}", library.display());
     if library.is_file() {
-        for program in ["compare", "bench_update", "bench_tables"] {
+        for program in ["compare", "bench_update", "bench_tables", "bench_hostile"] {
             println!("cargo:rustc-link-arg-bin={program}={}", library.display());
         }
     }

@@ -159,36 +159,9 @@ fn declarations() {
     assert_eq!(declared, header);
 }
 
-/// The declarations of a file of the benchmarks: their types.
-fn declared_for_benchmarks() -> BTreeMap<String, Vec<String>> {
-    let text = text("../../bench/library.rs");
-    let block = text.split_once("extern \"C\" {").expect("the declarations").1.split_once("\n}").expect("their end").0;
-    let kind = |kind: &str| match kind {
-        "In" => "*const u8".to_string(),
-        "Out" => "*mut u8".to_string(),
-        other => other.to_string(),
-    };
-    let mut found = BTreeMap::new();
-    for declaration in block.split(';').filter(|declaration| !declaration.trim().is_empty()) {
-        let declaration = declaration.trim().strip_prefix("fn ").expect("a function");
-        let (parameters, answer) = declaration.split_once('(').expect("parameters").1.split_once(')').expect("an end");
-        let parameters = parameters.split(',').map(str::trim).filter(|parameter| !parameter.is_empty());
-        let parameters = parameters.map(|parameter| parameter.split_once(':').expect("a name and a type").1.trim());
-        let answer = answer.trim().strip_prefix("->").expect("an answer").trim();
-        found.insert(name_of(declaration).to_string(), parameters.chain([answer]).map(kind).collect());
-    }
-    assert!(text.contains("type In = *const u8;\ntype Out = *mut u8;\n"));
-    found
-}
-
-/// The benchmarks need not call every function.
 #[test]
 fn declarations_of_the_benchmarks() {
-    let (header, declared) = (header(), declared_for_benchmarks());
-    assert!(declared.len() >= 12, "{}", declared.len());
-    for (name, kinds) in &declared {
-        assert_eq!(*kinds, header[name].iter().map(|(_, kind)| kind.clone()).collect::<Vec<_>>(), "{name}");
-    }
+    assert_eq!(declared_by_kinds("../../bench/library.rs"), header());
     let text = text("../../bench/library.rs");
     assert!(text.contains(&format!("const HELD_BYTES: usize = {};", thousands(HELD_BYTES))));
     assert!(text.contains(&format!("const EXCLUSIONS_BYTES: usize = {};", thousands(EXCLUSIONS_BYTES))));
@@ -199,9 +172,9 @@ fn thousands(n: usize) -> String {
     format!("{}_{:03}", n / 1000, n % 1000)
 }
 
-/// The declarations of the comparison: a kind of slice is a pointer and then a length.
-fn declared_for_comparison() -> BTreeMap<String, Signature> {
-    let text = text("../../oracle/src/bin/compare/library.rs");
+/// The declarations of the comparison or of the benchmarks: a kind of slice is a pointer and then a length.
+fn declared_by_kinds(path: &str) -> BTreeMap<String, Signature> {
+    let text = text(path);
     let block = text.split_once("\ninterface! {").expect("the declarations").1.split_once("\n}").expect("their end").0;
     let mut found = BTreeMap::new();
     for declaration in block.split(';').filter(|declaration| !declaration.trim().is_empty()) {
@@ -213,7 +186,7 @@ fn declared_for_comparison() -> BTreeMap<String, Signature> {
             let pointer = match kind {
                 "bytes" => Some("*const u8"),
                 "buffer" => Some("*mut u8"),
-                "words" => Some("*mut u64"),
+                "words" | "values" => Some("*mut u64"),
                 _ => None,
             };
             signature.push((name.to_string(), pointer.unwrap_or(kind).to_string()));
@@ -229,7 +202,7 @@ fn declared_for_comparison() -> BTreeMap<String, Signature> {
 
 #[test]
 fn declarations_of_the_comparison() {
-    assert_eq!(declared_for_comparison(), header());
+    assert_eq!(declared_by_kinds("../../oracle/src/bin/compare/library.rs"), header());
 }
 
 /// A name of the header for a name of Rust.
