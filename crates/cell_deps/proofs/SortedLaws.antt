@@ -18,6 +18,7 @@ use Rattle.cell_deps.specs.CellDeps.{depAt}
 use Rattle.cell_deps.specs.Sorted.{placedAt, Ordered, Lower, Sought, shifted, Inserted}
 use Rattle.item_index.specs.declared.ordering.Order.{Order}
 use Rattle.item_index.specs.Order.{isBefore, orderOf}
+use Rattle.item_index.proofs.FindLaws.{eq-sym}
 use Rattle.item_index.proofs.OrderLaws.{three, before-not, before-trans, before-differs, before-other, after-less, order-less, order-more, order-same}
 
 -- ---- looking by halves
@@ -93,9 +94,6 @@ none-there : (x : List ℕ) (f : ℕ → List ℕ) (j k : ℕ) → ((i : ℕ) �
 unfolding contains span
 none-there x f j zero h = refl
 none-there x f j (suc k) h = rw (h j (omega arith) (omega arith)) (none-there x f (suc j) k (λ i p q. h i (omega arith) (omega arith)))
-
-eq-sym : (x y : List ℕ) → eqBytes y x ≡ false → eqBytes x y ≡ false
-eq-sym x y e = not-so (eqBytes x y) (λ t. false≢true (sym e ∙ ap (eqBytes y) (eq-true x y t) ∙ eq-refl y))
 
 module _ (f : ℕ → List ℕ) (n : ℕ) (x : List ℕ) {at : ℕ} (k : Lower f n x at) where
   sought-none : n ≤ at → Sought f n x (record { at = at; there = false })

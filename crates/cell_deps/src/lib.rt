@@ -1,5 +1,5 @@
 // The cell deps of a base transaction: of four lists, one after the other, each dep where it first stands.
-mod indexed;
+pub mod distinct;
 
 use arithmetic::sizes;
 use item_index::ordering;
@@ -16,11 +16,6 @@ ghost use Rattle.cell_deps.specs.Sorted.{placedAt, Ordered, Lower, Sough
 
 // How many bytes a cell dep has: an out point and the dep type.
 const CELL_DEP_BYTES: u32 = 37;
-
-// So few deps are kept in order as they come, and so many are put in order at once.
-const FEW: usize = 64;
-
-const MANY: usize = 3600;
 
 // Where a dep stands among sorted ones, or where it is to be put.
 struct Found {
@@ -206,30 +201,6 @@ fn choose_in_turn<'a>(
         }
     }
     count
-}
-
-// Puts a place of each dep, in the order in which they first stand, at the start of `places`, and returns how many there are; where there are more than the two
-// slices have room for, one more than that. Both slices are work room. To put a place among others in order moves those behind it, so many deps are put in
-// order at once; with more than there is room for, at most 3,597 are ever moved.
-pub fn choose<'a>(
-    present: &'a [u8],
-    udt: &'a [u8],
-    lock: &'a [u8],
-    extra: &'a [u8],
-    places: &mut [usize],
-    sorted: &mut [usize],
-) -> usize
-    ensures { λ r. ⌜ Chooses (now (present .entry)) (now (udt .entry)) (now (lock .entry)) (now (extra .entry)) (min (length (now (places .entry))) (length (now (sorted .entry)))) (now (places .exit)) r ⌝ }
-{
-    let n = dep_count(present, udt, lock, extra);
-    if n <= FEW {
-        return choose_in_turn(present, udt, lock, extra, places, sorted);
-    }
-    if MANY < n {
-        return choose_in_turn(present, udt, lock, extra, places, sorted);
-    }
-    let room = sizes::min(places.len(), sorted.len());
-    indexed::choose_indexed(present, udt, lock, extra, n, places, room)
 }
 
 // How long the list of the chosen deps is; 133,117 for all that is longer.

@@ -1,6 +1,6 @@
 use Rattle.cell_deps.proofs.Ways.{ways}
-use Rattle.cell_deps.proofs.indexed.is_lock.Statement.{statement}
-use Rattle.cell_deps.proofs.indexed.is_lock.Tie as tie
+use Rattle.cell_deps.proofs.distinct.is_lock.Statement.{statement}
+use Rattle.cell_deps.proofs.distinct.is_lock.Tie as tie
 
 pub is-lock-spec : {M : Type 1} → statement M
 is-lock-spec =

@@ -1,18 +1,24 @@
-// The distinct deps by an index of each list: a dep is new where it stands nowhere before, in its own list or in one of those before it.
+// The distinct deps. By an index of each list a dep is new where it stands nowhere before, in its own list or in one of those before it.
 use crate::CELL_DEP_BYTES;
 use crate::any_count;
+use crate::choose_in_turn;
 use crate::dep_at;
+use crate::dep_count;
+use arithmetic::sizes;
 ghost use mathlib.Core.Path.{_≡_};
 ghost use mathlib.Core.Bool.{not};
-ghost use Prim.Native.Nat.{_+_, _≤_, _<_};
+ghost use Prim.Native.Nat.{_+_, _≤_, _<_, min};
 ghost use lib.ListN.{length};
 ghost use Rattle.molecule.specs.Layout.{span, fixCount};
 ghost use Rattle.lists.specs.Lists.{contains};
 ghost use Rattle.item_index.specs.Index.{Index, keyOf};
 ghost use Rattle.cell_deps.specs.CellDeps.{anyCount, lastDepAt, ownDepAt, depAt, depCount, Chooses};
 
-// For how many places of each list there is room.
+// For how many places of each list there is room. So many deps are put in order at once.
 const ROOM: usize = 3600;
+
+// So few are kept in order as they come.
+const FEW: usize = 64;
 
 // Whether x is the lock's dep.
 fn is_lock(lock: &[u8], x: &[u8]) -> bool
@@ -147,7 +153,7 @@ fn gather<'a>(
 }
 
 // Puts a place of each dep, in the order in which they first stand, at the start of `places`; where there are more than `room`, the answer is one more than that.
-pub fn choose_indexed<'a>(
+fn choose_indexed<'a>(
     present: &'a [u8],
     udt: &'a [u8],
     lock: &'a [u8],
@@ -168,4 +174,28 @@ pub fn choose_indexed<'a>(
     let mut u = [0u32; ROOM];
     index_list(extra, &mut u);
     gather(present, udt, lock, extra, &s, &t, &u, n, places, room)
+}
+
+// Puts a place of each dep, in the order in which they first stand, at the start of `places`, and returns how many there are; where there are more than the two
+// slices have room for, one more than that. Both slices are work room. To put a place among others in order moves those behind it, so many deps are put in
+// order at once; with more than there is room for, at most 3,597 are ever moved.
+pub fn choose<'a>(
+    present: &'a [u8],
+    udt: &'a [u8],
+    lock: &'a [u8],
+    extra: &'a [u8],
+    places: &mut [usize],
+    sorted: &mut [usize],
+) -> usize
+    ensures { λ r. ⌜ Chooses (now (present .entry)) (now (udt .entry)) (now (lock .entry)) (now (extra .entry)) (min (length (now (places .entry))) (length (now (sorted .entry)))) (now (places .exit)) r ⌝ }
+{
+    let n = dep_count(present, udt, lock, extra);
+    if n <= FEW {
+        return choose_in_turn(present, udt, lock, extra, places, sorted);
+    }
+    if ROOM < n {
+        return choose_in_turn(present, udt, lock, extra, places, sorted);
+    }
+    let room = sizes::min(places.len(), sorted.len());
+    choose_indexed(present, udt, lock, extra, n, places, room)
 }

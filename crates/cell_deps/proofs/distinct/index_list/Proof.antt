@@ -1,6 +1,6 @@
 use Rattle.cell_deps.proofs.Ways.{ways}
-use Rattle.cell_deps.proofs.indexed.index_list.Statement.{statement}
-use Rattle.cell_deps.proofs.indexed.index_list.Tie as tie
+use Rattle.cell_deps.proofs.distinct.index_list.Statement.{statement}
+use Rattle.cell_deps.proofs.distinct.index_list.Tie as tie
 
 pub index-list-spec : {M : Type 1} → statement M
 index-list-spec =

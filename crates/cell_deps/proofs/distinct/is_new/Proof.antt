@@ -1,6 +1,6 @@
 use Rattle.cell_deps.proofs.Ways.{ways}
-use Rattle.cell_deps.proofs.indexed.is_new.Statement.{statement}
-use Rattle.cell_deps.proofs.indexed.is_new.Tie as tie
+use Rattle.cell_deps.proofs.distinct.is_new.Statement.{statement}
+use Rattle.cell_deps.proofs.distinct.is_new.Tie as tie
 
 pub is-new-spec : {M : Type 1} → statement M
 is-new-spec =

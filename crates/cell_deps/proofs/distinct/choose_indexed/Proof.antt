@@ -1,6 +1,6 @@
 use Rattle.cell_deps.proofs.Ways.{ways}
-use Rattle.cell_deps.proofs.indexed.choose_indexed.Statement.{statement}
-use Rattle.cell_deps.proofs.indexed.choose_indexed.Tie as tie
+use Rattle.cell_deps.proofs.distinct.choose_indexed.Statement.{statement}
+use Rattle.cell_deps.proofs.distinct.choose_indexed.Tie as tie
 
 pub choose-indexed-spec : {M : Type 1} → statement M
 choose-indexed-spec =

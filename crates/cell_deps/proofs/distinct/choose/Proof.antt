@@ -1,6 +1,6 @@
 use Rattle.cell_deps.proofs.Ways.{ways}
-use Rattle.cell_deps.proofs.choose.Statement.{statement}
-use Rattle.cell_deps.proofs.choose.Tie as tie
+use Rattle.cell_deps.proofs.distinct.choose.Statement.{statement}
+use Rattle.cell_deps.proofs.distinct.choose.Tie as tie
 
 pub choose-spec : {M : Type 1} → statement M
 choose-spec =

@@ -1,10 +1,10 @@
 use Prim.Native.Nat.{_-_}
 use lib.ListN.{length}
 use Rattle.cell_deps.specs.CellDeps.{cellDeps}
-use Rattle.cell_deps.proofs.IndexedLaws.{Gathering}
+use Rattle.cell_deps.proofs.DistinctLaws.{Gathering}
 use Rattle.cell_deps.proofs.Ways.{ways}
-use Rattle.cell_deps.proofs.indexed.gather.Statement.{statement}
-use Rattle.cell_deps.proofs.indexed.gather.Tie as tie
+use Rattle.cell_deps.proofs.distinct.gather.Statement.{statement}
+use Rattle.cell_deps.proofs.distinct.gather.Tie as tie
 
 abbrev Inv-loop : tie.InvT-loop
 Inv-loop present udt lock extra s t u n places₀ room count₀ i₀ places count i = Gathering present udt lock extra (length places₀) room places count n i (cellDeps present udt lock extra)
