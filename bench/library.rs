@@ -11,12 +11,12 @@ extern "C" {
     fn basinpantry_is_transaction(s: In, n: usize) -> bool;
     fn basinpantry_update_for_peer(
         ours: In, ours_n: usize, peer: In, peer_n: usize, lock: In, lock_n: usize, udt: In, udt_n: usize, source: In, source_n: usize, rate: u64, records: In,
-        records_n: usize, values: *mut u64, values_n: usize,
+        records_n: usize, values: *mut u64,
     ) -> u32;
     fn basinpantry_build_base(
         ours: In, ours_n: usize, lock: In, lock_n: usize, udt: In, udt_n: usize, source: In, source_n: usize, cells: In, cells_n: usize, udt_deps: In,
         udt_deps_n: usize, lock_dep: In, lock_dep_n: usize, extra: In, extra_n: usize, local_low: u64, local_high: u64, local_reserved: u64, remote_low: u64,
-        remote_high: u64, remote_reserved: u64, out: Out, out_n: usize, values: *mut u64, values_n: usize,
+        remote_high: u64, remote_reserved: u64, out: Out, out_n: usize, values: *mut u64,
     ) -> u32;
     fn basinpantry_hold_funding(held: Out, held_n: usize, holder: u64, cells: In, cells_n: usize) -> u32;
     fn basinpantry_hold_for_watchtower(held: Out, held_n: usize, cells: In, cells_n: usize, time: u64) -> u32;
@@ -46,7 +46,7 @@ pub fn update_for_peer(
     unsafe {
         basinpantry_update_for_peer(
             ours.as_ptr(), ours.len(), peer.as_ptr(), peer.len(), lock.as_ptr(), lock.len(), udt.as_ptr(), udt.len(), source.as_ptr(), source.len(), rate,
-            records.as_ptr(), records.len(), values.as_mut_ptr(), values.len(),
+            records.as_ptr(), records.len(), values.as_mut_ptr(),
         )
     }
 }
@@ -72,7 +72,7 @@ pub fn build_base(base: &Base, out: &mut [u8]) -> u32 {
         basinpantry_build_base(
             ours.as_ptr(), ours.len(), lock.as_ptr(), lock.len(), udt.as_ptr(), udt.len(), source.as_ptr(), source.len(), cells.as_ptr(), cells.len(), udt_deps.as_ptr(),
             udt_deps.len(), lock_dep.as_ptr(), lock_dep.len(), extra_deps.as_ptr(), extra_deps.len(), local, 0, reserved, 0, 0, 0, out.as_mut_ptr(), out.len(),
-            values.as_mut_ptr(), values.len(),
+            values.as_mut_ptr(),
         )
     }
 }
