@@ -93,23 +93,8 @@ mod c {
         ) -> u32;
         pub fn basinpantry_version(tx: *const u8, tx_len: usize, values: *mut u64) -> u32;
         pub fn basinpantry_item_count(tx: *const u8, tx_len: usize, list: u32, values: *mut u64) -> u32;
-        pub fn basinpantry_items(
-            tx: *const u8,
-            tx_len: usize,
-            list: u32,
-            places: *mut u64,
-            places_len: usize,
-            values: *mut u64,
-        ) -> u32;
-        pub fn basinpantry_item(
-            tx: *const u8,
-            tx_len: usize,
-            list: u32,
-            i: usize,
-            out: *mut u8,
-            out_len: usize,
-            values: *mut u64,
-        ) -> u32;
+        pub fn basinpantry_items(tx: *const u8, tx_len: usize, list: u32, places: *mut u64, places_len: usize, values: *mut u64) -> u32;
+        pub fn basinpantry_item(tx: *const u8, tx_len: usize, list: u32, i: usize, out: *mut u8, out_len: usize, values: *mut u64) -> u32;
         pub fn basinpantry_write_transaction(
             version: u32,
             cell_deps: *const u8,

@@ -98,8 +98,9 @@ impl Reading {
         let w = field(s, 1);
         let fits = s.len() <= input.room.min(133_116);
         let (expected, answer): (&[u8], _) = if fits { (s, (0, s.len() as u64)) } else { (&[], (13, 0)) };
-        let call =
-            |buffer: &mut [u8], values: &mut [u64; 4]| library::write_transaction(raw.version(), &f[0], &f[1], &f[2], &f[3], &f[4], &w, buffer, values);
+        let call = |buffer: &mut [u8], values: &mut [u64; 4]| {
+            library::write_transaction(raw.version(), &f[0], &f[1], &f[2], &f[3], &f[4], &w, buffer, values)
+        };
         Some(written("write_transaction", input.room, expected, answer, call))
     }
 }
