@@ -20,13 +20,13 @@ macro_rules! interface {
     (@declare $s:ident [$($d:tt)*] [$a:ident: bytes, $($r:tt)*] $out:ty) => { interface!(@declare $s [$($d)* _: *const u8, _: usize,] [$($r)*] $out) };
     (@declare $s:ident [$($d:tt)*] [$a:ident: buffer, $($r:tt)*] $out:ty) => { interface!(@declare $s [$($d)* _: *mut u8, _: usize,] [$($r)*] $out) };
     (@declare $s:ident [$($d:tt)*] [$a:ident: words, $($r:tt)*] $out:ty) => { interface!(@declare $s [$($d)* _: *mut u64, _: usize,] [$($r)*] $out) };
-    (@declare $s:ident [$($d:tt)*] [$a:ident: values, $($r:tt)*] $out:ty) => { interface!(@declare $s [$($d)* _: *mut u64, _: usize,] [$($r)*] $out) };
+    (@declare $s:ident [$($d:tt)*] [$a:ident: values, $($r:tt)*] $out:ty) => { interface!(@declare $s [$($d)* _: *mut u64,] [$($r)*] $out) };
     (@declare $s:ident [$($d:tt)*] [$a:ident: $t:ident, $($r:tt)*] $out:ty) => { interface!(@declare $s [$($d)* _: $t,] [$($r)*] $out) };
     (@declare $s:ident [$($d:tt)*] [] $out:ty) => { extern "C" { fn $s($($d)*) -> $out; } };
     (@call $s:ident [$($d:tt)*] [$a:ident: bytes, $($r:tt)*]) => { interface!(@call $s [$($d)* $a.as_ptr(), $a.len(),] [$($r)*]) };
     (@call $s:ident [$($d:tt)*] [$a:ident: buffer, $($r:tt)*]) => { interface!(@call $s [$($d)* $a.as_mut_ptr(), $a.len(),] [$($r)*]) };
     (@call $s:ident [$($d:tt)*] [$a:ident: words, $($r:tt)*]) => { interface!(@call $s [$($d)* $a.as_mut_ptr(), $a.len(),] [$($r)*]) };
-    (@call $s:ident [$($d:tt)*] [$a:ident: values, $($r:tt)*]) => { interface!(@call $s [$($d)* $a.as_mut_ptr(), $a.len(),] [$($r)*]) };
+    (@call $s:ident [$($d:tt)*] [$a:ident: values, $($r:tt)*]) => { interface!(@call $s [$($d)* $a.as_mut_ptr(),] [$($r)*]) };
     (@call $s:ident [$($d:tt)*] [$a:ident: $t:ident, $($r:tt)*]) => { interface!(@call $s [$($d)* $a,] [$($r)*]) };
     (@call $s:ident [$($d:tt)*] []) => { unsafe { $s($($d)*) } };
 }
@@ -36,8 +36,9 @@ interface! {
     fn is_script = basinpantry_is_script(s: bytes) -> bool;
     fn is_records = basinpantry_is_records(s: bytes) -> bool;
     fn is_out_points = basinpantry_is_out_points(s: bytes) -> bool;
-    fn version = basinpantry_version(tx: bytes) -> u32;
-    fn item_count = basinpantry_item_count(tx: bytes, list: u32) -> u32;
+    fn version = basinpantry_version(tx: bytes, values: values) -> u32;
+    fn item_count = basinpantry_item_count(tx: bytes, list: u32, values: values) -> u32;
+    fn items = basinpantry_items(tx: bytes, list: u32, places: words, values: values) -> u32;
     fn item = basinpantry_item(tx: bytes, list: u32, i: usize, out: buffer, values: values) -> u32;
     fn write_transaction = basinpantry_write_transaction(version: u32, cell_deps: bytes, header_deps: bytes, inputs: bytes, outputs: bytes,
         outputs_data: bytes, witnesses: bytes, out: buffer, values: values) -> u32;
@@ -46,7 +47,7 @@ interface! {
     fn update_for_peer = basinpantry_update_for_peer(ours: bytes, peer: bytes, lock: bytes, udt: bytes, source: bytes, rate: u64, records: bytes,
         values: values) -> u32;
     fn replay = basinpantry_replay(start: bytes, lock: bytes, udt: bytes, updates: bytes, answers: words, values: values) -> u32;
-    fn check_case = basinpantry_check_case(file: bytes, line: buffer) -> usize;
+    fn check_case = basinpantry_check_case(file: bytes, line: buffer, values: values) -> u32;
 
     fn build_funding_cell = basinpantry_build_funding_cell(ours: bytes, udt: bytes, local_low: u64, local_high: u64, local_reserved: u64,
         remote_low: u64, remote_high: u64, remote_reserved: u64, values: values) -> u32;

@@ -15,9 +15,9 @@ pub type Call = fn(&[u8], &mut [u8]) -> u32;
 /// Bytes of about so many.
 type Bytes = fn(usize) -> Vec<u8>;
 
-pub const VERSION: Call = |tx, _| library::version(tx);
-pub const COUNT_WITNESSES: Call = |tx, _| library::item_count(tx, 5);
-pub const CHECK_CASE: Call = |file, line| library::check_case(file, line) as u32;
+pub const VERSION: Call = |tx, _| library::version(tx, &mut [0; 4]);
+pub const COUNT_WITNESSES: Call = |tx, _| library::item_count(tx, 5, &mut [0; 4]);
+pub const CHECK_CASE: Call = |file, line| library::check_case(file, line, &mut [0; 4]);
 
 const READ_TRANSACTIONS: &[(&str, Call)] = &[
     ("is_transaction", |tx, _| library::is_transaction(tx).into()),

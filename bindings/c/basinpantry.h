@@ -9,10 +9,10 @@
 
    A function whose comment says "Refused" returns 0 on success, or the number of its refusal (1 to 15, BASINPANTRY_...), and then no table and no buffer that
    was lent has changed. The numbers are listed in the order in which they are looked for: where several apply, the first of them is the answer.
-   Some of these functions, and none of the twelve on tables of cells, have more to tell, in `values`: an array of at least BASINPANTRY_VALUES words of 64 bits.
-   Such a call sets the first four, on success to what its comment says, to what the refusal carries where it is refused, and the unused ones to 0. With fewer
-   words the answer is 13 before all else, and they stay as they are.
-   `values_len` and `answers_len` count words of 64 bits; every other length counts bytes.
+   Some of these functions, and none of the twelve on tables of cells, have more to tell, in `values`: an array of BASINPANTRY_VALUES words of 64 bits, for
+   which the caller answers as for every pointer; it is never NULL. On success such a call sets the words that its comment names, where it is refused those that
+   the refusal carries (6 and 8, below, and no other), and all others keep their value.
+   `places_len` and `answers_len` count words of 64 bits; every other length counts bytes.
 
    A thread that calls needs half a megabyte of stack; measured were up to 165 KB (basinpantry_check_case) and 129 KB (basinpantry_take). Calls may run at once
    unless one of them writes to a table or buffer that another is lent: two that only read a table may. */
@@ -85,7 +85,7 @@ static inline const char *basinpantry_refusal_sentence(uint32_t number)
     }
 }
 
-/* How many words `values` has at least. */
+/* How many words `values` has. */
 #define BASINPANTRY_VALUES 4
 
 /* The longest transaction that is judged, and the most bytes of a transaction, an item or a change output that is written. */
@@ -108,9 +108,9 @@ bool basinpantry_is_records(const uint8_t *s, size_t s_len);
 /* Whether the bytes are a list of out points: a count of four bytes and 36 bytes for each. */
 bool basinpantry_is_out_points(const uint8_t *s, size_t s_len);
 
-/* The version of a transaction, and 0 of bytes that are none. This and the next two look first whether the bytes are a transaction, in time that goes by
-   their length. */
-uint32_t basinpantry_version(const uint8_t *tx, size_t tx_len);
+/* The version of a transaction: on success values[0]. This and the next three look first whether the bytes are a transaction, in time that goes by their
+   length. Refused: 1, where tx is no transaction. */
+uint32_t basinpantry_version(const uint8_t *tx, size_t tx_len, uint64_t values[4]);
 
 /* The lists of a transaction, by number. */
 #define BASINPANTRY_CELL_DEPS 0
@@ -120,25 +120,33 @@ uint32_t basinpantry_version(const uint8_t *tx, size_t tx_len);
 #define BASINPANTRY_OUTPUTS_DATA 4
 #define BASINPANTRY_WITNESSES 5
 
-/* How many items a list of a transaction has. Another number of a list, or bytes that are no transaction, are no error: there is nothing there, and the answer
-   is 0. */
-uint32_t basinpantry_item_count(const uint8_t *tx, size_t tx_len, uint32_t list);
+/* How many items a list of a transaction has: on success values[0]. Refused: 1, where tx is no transaction; 3, where there is no such list. */
+uint32_t basinpantry_item_count(const uint8_t *tx, size_t tx_len, uint32_t list, uint64_t values[4]);
+
+/* How many words each item has in `places`: where it starts in tx, and how many bytes it has. */
+#define BASINPANTRY_PLACE_WORDS 2
+
+/* Where the items of a list of a transaction stand, all of them after one reading of it, so that the caller goes through the list in its own bytes. For item
+   i, tx + places[2 * i] is where it starts, and it has places[2 * i + 1] bytes: those that basinpantry_item writes, and however many they are. Words behind
+   those of the last item keep their value. On success values[0] is how many items there are.
+   Refused: 1, where tx is no transaction; 3, where there is no such list; 13, where `places` has fewer than two words for each item. */
+uint32_t basinpantry_items(const uint8_t *tx, size_t tx_len, uint32_t list, uint64_t *places, size_t places_len, uint64_t values[4]);
 
 /* Writes item i of a list of a transaction to the start of out: a cell dep (37 bytes), header dep (32), input (44), output (a table), or the bytes of a
-   data entry or a witness. Each call reads the whole transaction first. On success values[0] is how many bytes.
+   data entry or a witness. Each call reads the whole transaction first; basinpantry_items is for a whole list. On success values[0] is how many bytes.
    Refused: 1, where tx is no transaction; 3, where there is no such list or no item i; 13, where the item is longer than out, or has more than 133,116 bytes
    however long out is (the transaction itself may be longer). */
-uint32_t basinpantry_item(const uint8_t *tx, size_t tx_len, uint32_t list, size_t i, uint8_t *out, size_t out_len, uint64_t *values, size_t values_len);
+uint32_t basinpantry_item(const uint8_t *tx, size_t tx_len, uint32_t list, size_t i, uint8_t *out, size_t out_len, uint64_t values[4]);
 
 /* Writes a transaction from its version and six lists. On success values[0] is how many bytes; BASINPANTRY_MAX_TRANSACTION_BYTES are always enough.
    Refused: 3, 13. */
 uint32_t basinpantry_write_transaction(uint32_t version, const uint8_t *cell_deps, size_t cell_deps_len, const uint8_t *header_deps, size_t header_deps_len,
                                        const uint8_t *inputs, size_t inputs_len, const uint8_t *outputs, size_t outputs_len, const uint8_t *outputs_data,
                                        size_t outputs_data_len, const uint8_t *witnesses, size_t witnesses_len, uint8_t *out, size_t out_len,
-                                       uint64_t *values, size_t values_len);
+                                       uint64_t values[4]);
 
 /* Reads the fields of a transaction and writes them again. On success values[0] is how many bytes. Refused: 1, 13. */
-uint32_t basinpantry_rewrite(const uint8_t *tx, size_t tx_len, uint8_t *out, size_t out_len, uint64_t *values, size_t values_len);
+uint32_t basinpantry_rewrite(const uint8_t *tx, size_t tx_len, uint8_t *out, size_t out_len, uint64_t values[4]);
 
 /* ---- a peer's update */
 
@@ -151,7 +159,7 @@ uint32_t basinpantry_rewrite(const uint8_t *tx, size_t tx_len, uint8_t *out, siz
    tokens). */
 uint32_t basinpantry_update_for_peer(const uint8_t *ours, size_t ours_len, const uint8_t *peer, size_t peer_len, const uint8_t *lock, size_t lock_len,
                                      const uint8_t *udt, size_t udt_len, const uint8_t *source, size_t source_len, uint64_t rate, const uint8_t *records,
-                                     size_t records_len, uint64_t *values, size_t values_len);
+                                     size_t records_len, uint64_t values[4]);
 
 /* How many words the answer to each update of a list has: its number and four values. */
 #define BASINPANTRY_ANSWER_WORDS 5
@@ -159,22 +167,21 @@ uint32_t basinpantry_update_for_peer(const uint8_t *ours, size_t ours_len, const
 /* Judges a list of updates, from the transaction `start` (no bytes: none) on and each against the one that the update before it left in force, under one
    expected lock and type (no bytes: untyped). `updates` is a list of unsized items, each a table of four fields: the peer's transaction, the records and the
    source lock, each as bytes with their count, and the fee rate (8 bytes, as above). For update k, answers[5 * k] is 0 or the number of its refusal, and the
-   four words after it are its values, as above; words behind those of the last update keep their value.
+   four words after it are its values, as above, and 0 where it has fewer; words behind those of the last update keep their value.
    On success values[0] is how many updates there are, values[1] how many were accepted, and values[2] which transaction is then in force: 0 for the one at the
    start, k + 1 for that of update k.
    Refused, before any update is judged: 3 where `updates` is not such a list, 13 where `answers` has fewer than five words for each update. A `start`, lock or
    type that can't be read refuses each update. */
 uint32_t basinpantry_replay(const uint8_t *start, size_t start_len, const uint8_t *lock, size_t lock_len, const uint8_t *udt, size_t udt_len,
-                            const uint8_t *updates, size_t updates_len, uint64_t *answers, size_t answers_len, uint64_t *values, size_t values_len);
+                            const uint8_t *updates, size_t updates_len, uint64_t *answers, size_t answers_len, uint64_t values[4]);
 
 /* The longest verdict line, with its newline, and the longest case file that is judged. */
 #define BASINPANTRY_LINE_BYTES 105
 #define BASINPANTRY_MAX_CASE_BYTES 65536
 
-/* The answer is 0 where the call fails, which it does where `line` has fewer than BASINPANTRY_LINE_BYTES bytes, and then nothing is written. Otherwise the
-   verdict line of a case file is written to the start of `line`, and the answer is how many bytes it has. The line of bytes that are no case file, or more
-   than BASINPANTRY_MAX_CASE_BYTES, says 3. */
-size_t basinpantry_check_case(const uint8_t *file, size_t file_len, uint8_t *line, size_t line_len);
+/* Writes the verdict line of a case file to the start of `line`: BASINPANTRY_LINE_BYTES are always enough. The line of bytes that are no case file, or more
+   than BASINPANTRY_MAX_CASE_BYTES, says 3. On success values[0] is how many bytes it has. Refused: 13, where this line is longer than `line`. */
+uint32_t basinpantry_check_case(const uint8_t *file, size_t file_len, uint8_t *line, size_t line_len, uint64_t values[4]);
 
 /* ---- our own side */
 
@@ -184,8 +191,7 @@ size_t basinpantry_check_case(const uint8_t *file, size_t file_len, uint8_t *lin
 /* The funding cell beside our present transaction (no bytes: none), of this token type (no bytes: untyped).
    On success values[0] is the capacity, values[1] and values[2] are the token amount (low half, high half). Refused: 1, 3, 7. */
 uint32_t basinpantry_build_funding_cell(const uint8_t *ours, size_t ours_len, const uint8_t *udt, size_t udt_len, uint64_t local_low, uint64_t local_high,
-                                        uint64_t local_reserved, uint64_t remote_low, uint64_t remote_high, uint64_t remote_reserved, uint64_t *values,
-                                        size_t values_len);
+                                        uint64_t local_reserved, uint64_t remote_low, uint64_t remote_high, uint64_t remote_reserved, uint64_t values[4]);
 
 /* Picks token cells, a list of tables of out point and data, from the first on until their total reaches the wanted amount; without a type (no bytes: untyped)
    nothing is picked. The caller answers for the cells: that they are live, under our lock, of the type, and listed once. The change output, if there is change,
@@ -194,7 +200,7 @@ uint32_t basinpantry_build_funding_cell(const uint8_t *ours, size_t ours_len, co
    Refused: 3, 12 and 10 (cell by cell), 9, 13. */
 uint32_t basinpantry_build_udt_inputs_outputs(const uint8_t *cells, size_t cells_len, const uint8_t *udt, size_t udt_len, const uint8_t *source,
                                               size_t source_len, uint64_t wanted_low, uint64_t wanted_high, uint8_t *out, size_t out_len,
-                                              uint64_t *values, size_t values_len);
+                                              uint64_t values[4]);
 
 /* Writes the base transaction of a request, whose output 0 is the funding cell, to the start of out. It is lent, in this order and line by line below,
    - our present transaction (no bytes: none);
@@ -213,7 +219,7 @@ uint32_t basinpantry_build_base(const uint8_t *ours, size_t ours_len,
                                 const uint8_t *extra_deps, size_t extra_deps_len,
                                 uint64_t local_low, uint64_t local_high, uint64_t local_reserved,
                                 uint64_t remote_low, uint64_t remote_high, uint64_t remote_reserved,
-                                uint8_t *out, size_t out_len, uint64_t *values, size_t values_len);
+                                uint8_t *out, size_t out_len, uint64_t values[4]);
 
 /* ---- tables of cells: bytes that the caller keeps and lends to each call. All zeros are the empty table; any other content is safe.
    A table is a count (4 bytes), then its records one after the other. Bytes beyond them mean nothing, and a call leaves them as they were. A table of another

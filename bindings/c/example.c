@@ -135,10 +135,10 @@ static struct update read_case(const uint8_t *file, size_t n)
     return u;
 }
 
-static uint32_t judge(const struct update *u, uint64_t *values, size_t values_len)
+static uint32_t judge(const struct update *u, uint64_t values[BASINPANTRY_VALUES])
 {
     return basinpantry_update_for_peer(LENT(u->ours), LENT(u->peer), LENT(u->lock), LENT(u->udt), LENT(u->source), u->rate, u->records.at, u->records.len,
-                                       values, values_len);
+                                       values);
 }
 
 static uint8_t out[BASINPANTRY_MAX_TRANSACTION_BYTES];
@@ -150,29 +150,44 @@ static void look(const struct update *u)
     struct bytes peer = u->peer;
     CHECK(basinpantry_is_script(LENT(u->lock)) && basinpantry_is_records(u->records.at, u->records.len));
     CHECK(basinpantry_is_transaction(LENT(peer)));
-    printf("peer's transaction: %zu bytes, version %" PRIu32 ", inputs %" PRIu32 ", outputs %" PRIu32 "\n", peer.len, basinpantry_version(LENT(peer)),
-           basinpantry_item_count(LENT(peer), BASINPANTRY_INPUTS), basinpantry_item_count(LENT(peer), BASINPANTRY_OUTPUTS));
+    CHECK(basinpantry_version(LENT(peer), values) == 0);
+    printf("peer's transaction: %zu bytes, version %" PRIu64, peer.len, values[0]);
+    CHECK(basinpantry_item_count(LENT(peer), BASINPANTRY_INPUTS, values) == 0);
+    printf(", inputs %" PRIu64, values[0]);
+    CHECK(basinpantry_item_count(LENT(peer), BASINPANTRY_OUTPUTS, values) == 0);
+    printf(", outputs %" PRIu64 "\n", values[0]);
+    values[0] = 7;
+    CHECK(basinpantry_version(peer.at, peer.len - 1, values) == BASINPANTRY_OUR_TRANSACTION_UNREADABLE);
+    CHECK(basinpantry_item_count(peer.at, peer.len - 1, 6, values) == BASINPANTRY_OUR_TRANSACTION_UNREADABLE);
+    CHECK(basinpantry_item_count(LENT(peer), 6, values) == BASINPANTRY_LENT_BYTES_UNREADABLE && values[0] == 7);
 
     /* Its items, each in the list of one that it came from, make the same transaction again. */
     struct text inputs = {.len = 0}, outputs = {.len = 0}, data = {.len = 0}, entry = {.len = 0};
-    CHECK(basinpantry_item(LENT(peer), BASINPANTRY_INPUTS, 0, out, sizeof out, values, BASINPANTRY_VALUES) == 0 && values[0] == 44);
+    CHECK(basinpantry_item(LENT(peer), BASINPANTRY_INPUTS, 0, out, sizeof out, values) == 0 && values[0] == 44);
     put_number(&inputs, 1, 4);
     put(&inputs, (struct bytes){out, 44});
-    CHECK(basinpantry_item(LENT(peer), BASINPANTRY_OUTPUTS, 0, out, sizeof out, values, BASINPANTRY_VALUES) == 0);
-    printf("output 0: %" PRIu64 " bytes\n", values[0]);
+    CHECK(basinpantry_item(LENT(peer), BASINPANTRY_OUTPUTS, 0, out, sizeof out, values) == 0);
+    printf("output 0: %" PRIu64 " bytes", values[0]);
+    /* The same bytes where they stand in the peer's own. */
+    uint64_t places[BASINPANTRY_PLACE_WORDS] = {7, 7};
+    CHECK(basinpantry_items(LENT(peer), BASINPANTRY_OUTPUTS, places, 1, values) == BASINPANTRY_BUFFER_TOO_SHORT && places[0] == 7);
+    CHECK(basinpantry_items(LENT(peer), BASINPANTRY_OUTPUTS, places, BASINPANTRY_PLACE_WORDS, values) == 0 && values[0] == 1);
+    CHECK(memcmp(peer.at + places[0], out, (size_t)places[1]) == 0);
+    printf(", which stand at %" PRIu64 "\n", places[0]);
+    values[0] = places[1];
     put_table(&outputs, (const struct bytes[]){{out, (size_t)values[0]}}, 1);
-    CHECK(basinpantry_item(LENT(peer), BASINPANTRY_OUTPUTS_DATA, 0, out, sizeof out, values, BASINPANTRY_VALUES) == 0);
+    CHECK(basinpantry_item(LENT(peer), BASINPANTRY_OUTPUTS_DATA, 0, out, sizeof out, values) == 0);
     put_counted(&entry, (struct bytes){out, (size_t)values[0]});
     put_table(&data, (const struct bytes[]){bytes_of(&entry)}, 1);
-    uint32_t why = basinpantry_item(LENT(peer), BASINPANTRY_WITNESSES, 0, out, sizeof out, values, BASINPANTRY_VALUES);
+    uint32_t why = basinpantry_item(LENT(peer), BASINPANTRY_WITNESSES, 0, out, sizeof out, values);
     printf("witness 0: refused with %" PRIu32 "\n", why);
     CHECK(why == BASINPANTRY_LENT_BYTES_UNREADABLE);
     const uint8_t none_sized[] = {0, 0, 0, 0}, none_unsized[] = {4, 0, 0, 0};
     why = basinpantry_write_transaction(0, none_sized, 4, none_sized, 4, inputs.at, inputs.len, outputs.at, outputs.len, data.at, data.len, none_unsized, 4,
-                                        out, sizeof out, values, BASINPANTRY_VALUES);
+                                        out, sizeof out, values);
     CHECK(why == 0 && values[0] == peer.len && memcmp(out, peer.at, peer.len) == 0);
     printf("written from its lists it is the same %" PRIu64 " bytes\n", values[0]);
-    why = basinpantry_rewrite(LENT(peer), out, sizeof out, values, BASINPANTRY_VALUES);
+    why = basinpantry_rewrite(LENT(peer), out, sizeof out, values);
     CHECK(why == 0 && values[0] == peer.len && memcmp(out, peer.at, peer.len) == 0);
     printf("its fields, written again, are the same %" PRIu64 " bytes\n", values[0]);
 }
@@ -182,37 +197,31 @@ static void judge_in_many_ways(const struct update *u)
     uint64_t values[BASINPANTRY_VALUES];
 
     /* The update as it stands in the file. */
-    uint32_t why = judge(u, values, BASINPANTRY_VALUES);
+    uint32_t why = judge(u, values);
     CHECK(why == 0 && values[1] == 0 && values[2] == 0 && values[3] == 0);
     printf("at a rate of %" PRIu64 ": accepted, %" PRIu64 " shannons over\n", u->rate, values[0]);
 
     /* At a higher rate the fee is too low. */
     struct update other = *u;
     other.rate = 1005;
-    why = judge(&other, values, BASINPANTRY_VALUES);
+    why = judge(&other, values);
     CHECK(why == BASINPANTRY_PEER_FUNDING_FEE_TOO_LOW && values[2] == 1005);
     printf("at a rate of %" PRIu64 ": refused with %" PRIu32 ", %s: paid %" PRIu64 ", required %" PRIu64 ", size %" PRIu64 "\n", values[2], why,
            basinpantry_refusal_sentence(why), values[0], values[1], values[3]);
 
-    /* A byte less is no transaction; a refusal that carries nothing sets the words to 0. */
+    /* A byte less is no transaction; a refusal that carries nothing leaves the words as they were. */
     other = *u;
     other.peer.len--;
-    why = judge(&other, values, BASINPANTRY_VALUES);
-    CHECK(why == BASINPANTRY_PEER_TRANSACTION_UNREADABLE && values[0] == 0 && values[3] == 0);
+    why = judge(&other, values);
+    CHECK(why == BASINPANTRY_PEER_TRANSACTION_UNREADABLE && values[0] == 205 && values[2] == 1005);
     printf("with its last byte cut off: refused with %" PRIu32 ", %s\n", why, basinpantry_refusal_sentence(why));
 
     /* The peer spends our own cell: our source lock is the record's lock. */
     other = *u;
     other.source = u->lock;
-    why = judge(&other, values, BASINPANTRY_VALUES);
-    CHECK(why == BASINPANTRY_PEER_INPUT_USES_OUR_FUNDING_LOCK);
+    why = judge(&other, values);
+    CHECK(why == BASINPANTRY_PEER_INPUT_USES_OUR_FUNDING_LOCK && values[2] == 1005);
     printf("where our source lock is the record's: refused with %" PRIu32 ", %s: input %" PRIu64 "\n", why, basinpantry_refusal_sentence(why), values[0]);
-
-    /* With three words there is no room for an answer, and they are left alone. */
-    values[0] = 7;
-    why = judge(u, values, BASINPANTRY_VALUES - 1);
-    CHECK(why == BASINPANTRY_BUFFER_TOO_SHORT && values[0] == 7);
-    printf("with three words for the answer: refused with %" PRIu32 "\n", why);
     CHECK(basinpantry_refusal_sentence(0) == NULL && basinpantry_refusal_sentence(16) == NULL);
 }
 
@@ -228,8 +237,7 @@ static void replay(const struct update *u)
     put_table(&updates, (const struct bytes[]){bytes_of(&update), bytes_of(&update)}, 2);
 
     uint64_t answers[2 * BASINPANTRY_ANSWER_WORDS], values[BASINPANTRY_VALUES];
-    uint32_t why = basinpantry_replay(LENT(u->ours), LENT(u->lock), LENT(u->udt), updates.at, updates.len, answers, 2 * BASINPANTRY_ANSWER_WORDS, values,
-                                      BASINPANTRY_VALUES);
+    uint32_t why = basinpantry_replay(LENT(u->ours), LENT(u->lock), LENT(u->udt), updates.at, updates.len, answers, 2 * BASINPANTRY_ANSWER_WORDS, values);
     CHECK(why == 0 && values[0] == 2);
     printf("twice in a list: accepted %" PRIu64 " of %" PRIu64 "\n", values[1], values[0]);
     for (uint64_t k = 0; k < values[0]; k++) {
@@ -241,12 +249,11 @@ static void replay(const struct update *u)
     }
     CHECK(values[2] > 0);
     printf("  in force: the transaction of update %" PRIu64 "\n", values[2] - 1);
-    why = basinpantry_replay(LENT(u->ours), LENT(u->lock), LENT(u->udt), updates.at, updates.len, answers, 2 * BASINPANTRY_ANSWER_WORDS - 1, values,
-                             BASINPANTRY_VALUES);
+    why = basinpantry_replay(LENT(u->ours), LENT(u->lock), LENT(u->udt), updates.at, updates.len, answers, 2 * BASINPANTRY_ANSWER_WORDS - 1, values);
     CHECK(why == BASINPANTRY_BUFFER_TOO_SHORT);
 }
 
-static uint32_t build_base(const struct update *u, size_t room, uint64_t *values)
+static uint32_t build_base(const struct update *u, size_t room, uint64_t values[BASINPANTRY_VALUES])
 {
     const uint8_t no_cells[] = {4, 0, 0, 0}, no_deps[] = {0, 0, 0, 0};
     return basinpantry_build_base(NULL, 0,                                 /* no present transaction */
@@ -254,14 +261,14 @@ static uint32_t build_base(const struct update *u, size_t room, uint64_t *values
                                   no_cells, 4,                             /* no token cells */
                                   NULL, 0, NULL, 0, no_deps, 4,            /* the token's and the lock's deps not supplied, no others */
                                   5, 0, 7, 11, 0, 13,                      /* amount (two halves) and reserve, ours and the peer's */
-                                  out, room, values, BASINPANTRY_VALUES);
+                                  out, room, values);
 }
 
 /* Our own side: a funding cell, the token cells that pay for it, and the base transaction, which the peer's side can read. */
 static void own_side(const struct update *u)
 {
     uint64_t values[BASINPANTRY_VALUES];
-    uint32_t why = basinpantry_build_funding_cell(LENT(u->peer), LENT(u->udt), 5, 0, 7, 11, 0, 13, values, BASINPANTRY_VALUES);
+    uint32_t why = basinpantry_build_funding_cell(LENT(u->peer), LENT(u->udt), 5, 0, 7, 11, 0, 13, values);
     CHECK(why == 0 && values[0] == 36);
     printf("funding cell: %" PRIu64 " shannons\n", values[0]);
 
@@ -279,11 +286,11 @@ static void own_side(const struct update *u)
     put_table(&cells, (const struct bytes[]){bytes_of(&cell[0]), bytes_of(&cell[1]), bytes_of(&cell[2])}, 3);
     struct bytes type = u->lock;
     size_t change_len = 24 + u->source.len + type.len;
-    why = basinpantry_build_udt_inputs_outputs(cells.at, cells.len, LENT(type), LENT(u->source), 70, 0, out, change_len, values, BASINPANTRY_VALUES);
+    why = basinpantry_build_udt_inputs_outputs(cells.at, cells.len, LENT(type), LENT(u->source), 70, 0, out, change_len, values);
     CHECK(why == 0 && values[2] == 0 && u32_at(out) == change_len);
     printf("70 tokens: %" PRIu64 " cells are picked, and %" PRIu64 " tokens go back in an output of %zu bytes and %" PRIu64 " shannons\n", values[0], values[1],
            change_len, values[3]);
-    why = basinpantry_build_udt_inputs_outputs(cells.at, cells.len, LENT(type), LENT(u->source), 121, 0, out, change_len, values, BASINPANTRY_VALUES);
+    why = basinpantry_build_udt_inputs_outputs(cells.at, cells.len, LENT(type), LENT(u->source), 121, 0, out, change_len, values);
     CHECK(why == BASINPANTRY_INSUFFICIENT_CELLS);
     printf("121 tokens: refused with %" PRIu32 ", %s\n", why, basinpantry_refusal_sentence(why));
 
@@ -374,10 +381,12 @@ int main(int argc, char **argv)
 
     /* The whole file in one call. */
     uint8_t line[BASINPANTRY_LINE_BYTES];
-    CHECK(basinpantry_check_case(file, n, line, sizeof line - 1) == 0);
-    size_t len = basinpantry_check_case(file, n, line, sizeof line);
-    CHECK(len > 0);
-    printf("its verdict line: %.*s", (int)len, (const char *)line);
+    uint64_t values[BASINPANTRY_VALUES];
+    CHECK(basinpantry_check_case(file, n, line, sizeof line, values) == 0);
+    int len = (int)values[0];
+    printf("its verdict line: %.*s", len, (const char *)line);
+    CHECK(basinpantry_check_case(file, n, line, (size_t)len, values) == 0);
+    CHECK(basinpantry_check_case(file, n, line, (size_t)len - 1, values) == BASINPANTRY_BUFFER_TOO_SHORT);
 
     replay(&u);
     own_side(&u);

@@ -1,8 +1,8 @@
 /* Calls every function of the C interface with random, damaged and cut bytes, and looks for faults: see bindings/c/faults.
 
    Each lent slice, of bytes or of words, ends right before a page that may not be touched, or starts right after one, so that a read or write outside it stops
-   the program. After each call what must not have changed is compared with a copy: after a refusal all that is lent but the first four values, what is lent to
-   be read always, and of a buffer what is behind the bytes or words that were written. */
+   the program. After each call what must not have changed is compared with a copy: after a refusal all that is lent but the values that it carries, what is lent
+   to be read always, and of a buffer or of the values what is behind the bytes or words that were set. */
 #define _GNU_SOURCE
 #include <signal.h>
 #include <stdio.h>
@@ -52,7 +52,7 @@ struct slice {
     size_t len;
 };
 
-/* What is lent to be read, a buffer to write to, or the words that a refusal sets too. */
+/* What is lent to be read, a buffer to write to, or the words of the answer. */
 enum use { READ, BUFFER, VALUES };
 
 static uint8_t *slot[SLOTS];
@@ -105,11 +105,10 @@ static void give_back(void) {
     used = 0;
 }
 
-/* Nothing that is lent to be read has changed, no buffer beyond its first `written[i]` bytes, and of the values only the first four, where there are four. */
-static void see(bool refused, const size_t *written) {
+/* Nothing that is lent to be read has changed, no buffer beyond its first `written[i]` bytes, and of the values none but the first `told`. */
+static void see(bool refused, const size_t *written, size_t told) {
     for (int i = 0; i < used; i++) {
-        size_t set = lent[i].len < 8 * BASINPANTRY_VALUES ? 0 : 8 * BASINPANTRY_VALUES;
-        size_t from = uses[i] == VALUES ? set : uses[i] == READ || refused ? 0 : written[i];
+        size_t from = uses[i] == VALUES ? 8 * told : uses[i] == READ || refused ? 0 : written[i];
         if (from < lent[i].len && memcmp(lent[i].at + from, copies[i] + from, lent[i].len - from) != 0) fail("lent bytes have changed");
     }
 }
@@ -491,25 +490,21 @@ static struct slice buffer(size_t most) {
     return lend(scratch, len, true);
 }
 
+/* As many bytes as are written, or one less. */
+static struct slice near(size_t n) { return lend(scratch, n == 0 ? 0 : n - below(2), true); }
+
 /* ---- one call */
 
 static uint64_t *values;
+static size_t told;
 
-/* Lends words for the values, now and then too few, and answers how many. */
-static size_t value_room(void) {
-    size_t room = one_in(16) ? below(BASINPANTRY_VALUES) : BASINPANTRY_VALUES + below(3);
-    values = lend_words(room, VALUES);
-    return room;
-}
+/* Lends the four words of an answer. */
+static uint64_t *four(void) { return values = lend_words(BASINPANTRY_VALUES, VALUES); }
 
-/* The numbers that a call may answer, one bit each; which words are set is for `see` to look at, and here what a refusal sets them to. */
-static void answered(uint32_t r, uint32_t allowed, size_t room) {
+/* The numbers that a call may answer, one bit each, and how many values it tells where it is not refused: no other is set, for `see` to look at. */
+static void answered(uint32_t r, uint32_t allowed, size_t tells) {
     if (r > 15 || (allowed >> r & 1) == 0) fail("an answer that the header does not name");
-    if (room < BASINPANTRY_VALUES && r != 13) fail("fewer than four words, and not 13");
-    if (r == 0 || room < BASINPANTRY_VALUES) return;
-    size_t carried = r == BASINPANTRY_PEER_FUNDING_FEE_TOO_LOW ? 4 : r == BASINPANTRY_PEER_INPUT_USES_OUR_FUNDING_LOCK ? 1 : 0;
-    for (size_t i = carried; i < BASINPANTRY_VALUES; i++)
-        if (values[i] != 0) fail("a word that the refusal does not carry is not 0");
+    told = r == 0 ? tells : r == BASINPANTRY_PEER_FUNDING_FEE_TOO_LOW ? 4 : r == BASINPANTRY_PEER_INPUT_USES_OUR_FUNDING_LOCK ? 1 : 0;
 }
 
 /* How many bytes a list of out points has that was written to the start of a buffer. */
@@ -528,30 +523,29 @@ static uint32_t bits(const int *n) {
 }
 
 #define S(x) (x).at, (x).len
-#define CALLS 26
+#define CALLS 29
 
 static unsigned long long counts[CALLS], accepted[CALLS];
 
 static void call(size_t which) {
     uint32_t r = 0;
     size_t written[SLOTS] = {0};
+    told = 0;
     switch (which) {
     case 0:
     case 1:
     case 2: {
         if (one_in(4)) make_update();
         struct slice o = fitting(OURS), p = fitting(PEER), l = fitting(LOCK), u = fitting(TYPE), s = fitting(SOURCE), c = fitting(LIVE);
-        size_t room = value_room();
-        r = basinpantry_update_for_peer(S(o), S(p), S(l), S(u), S(s), below(1100), S(c), values, room);
-        answered(r, BITS(1, 2, 3, 4, 5, 6, 7, 8, 13), room);
+        r = basinpantry_update_for_peer(S(o), S(p), S(l), S(u), S(s), below(1100), S(c), four());
+        answered(r, BITS(1, 2, 3, 4, 5, 6, 7, 8), 4);
         break;
     }
     case 3: {
         struct slice o = some(TRANSACTION, false), p = some(TRANSACTION, false), l = some(SCRIPT, false), u = some(SCRIPT, false), s = some(SCRIPT, false),
                      c = some(RECORDS, false);
-        size_t room = value_room();
-        r = basinpantry_update_for_peer(S(o), S(p), S(l), S(u), S(s), below(3000), S(c), values, room);
-        answered(r, BITS(1, 2, 3, 4, 5, 6, 7, 8, 13), room);
+        r = basinpantry_update_for_peer(S(o), S(p), S(l), S(u), S(s), below(3000), S(c), four());
+        answered(r, BITS(1, 2, 3, 4, 5, 6, 7, 8), 4);
         break;
     }
     case 4: {
@@ -560,20 +554,24 @@ static void call(size_t which) {
         break;
     }
     case 5: {
-        struct slice t = some(TRANSACTION, false), out = buffer(4096);
-        size_t room = value_room();
-        uint32_t list = (uint32_t)below(8), n = basinpantry_item_count(S(t), list) + basinpantry_version(S(t));
-        r = basinpantry_item(S(t), list, one_in(8) ? (size_t)next() : below(n < 8 ? n + 2 : 8), S(out), values, room);
-        answered(r, BITS(1, 3, 13), room);
+        static uint8_t whole[ROOM];
+        struct slice t = some(TRANSACTION, false);
+        uint32_t list = (uint32_t)below(8);
+        size_t i = one_in(8) ? (size_t)next() : below(4);
+        uint64_t size[BASINPANTRY_VALUES];
+        uint32_t there = basinpantry_item(S(t), list, i, whole, sizeof whole, size);
+        struct slice out = there == 0 && one_in(2) ? near((size_t)size[0]) : buffer(4096);
+        r = basinpantry_item(S(t), list, i, S(out), four());
+        answered(r, BITS(1, 3, 13), 1);
+        if (there == 0 ? (out.len < size[0]) != (r == 13) : r != there) fail("another answer by the room");
         if (r == 0 && values[0] > out.len) fail("more bytes than the buffer has");
         if (r == 0) written[1] = (size_t)values[0];
         break;
     }
     case 6: {
-        struct slice t = some(TRANSACTION, false), out = buffer(8192);
-        size_t room = value_room();
-        r = basinpantry_rewrite(S(t), S(out), values, room);
-        answered(r, BITS(1, 13), room);
+        struct slice t = some(TRANSACTION, false), out = one_in(3) ? near(t.len) : buffer(8192);
+        r = basinpantry_rewrite(S(t), S(out), four());
+        answered(r, BITS(1, 13), 1);
         if (r == 0 && (values[0] != t.len || memcmp(out.at, t.at, t.len) != 0)) fail("what is written again differs");
         if (r == 0) written[1] = (size_t)values[0];
         break;
@@ -581,18 +579,24 @@ static void call(size_t which) {
     case 7: {
         struct slice d = some(DEPS, false), h = some(HEADERS, false), i = some(INPUTS, false), o = some(OUTPUTS, false), a = some(ENTRIES, false),
                      x = some(ENTRIES, false), out = buffer(16384);
-        size_t room = value_room();
-        r = basinpantry_write_transaction((uint32_t)next(), S(d), S(h), S(i), S(o), S(a), S(x), S(out), values, room);
-        answered(r, BITS(3, 13), room);
+        r = basinpantry_write_transaction((uint32_t)next(), S(d), S(h), S(i), S(o), S(a), S(x), S(out), four());
+        answered(r, BITS(3, 13), 1);
         if (r == 0 && !basinpantry_is_transaction(out.at, (size_t)values[0])) fail("what is written is no transaction");
         if (r == 0) written[6] = (size_t)values[0];
         break;
     }
     case 8: {
         struct slice f = one_in(4) ? some(CASE, false) : fitting(FILE_OF_CASE), line = buffer(120);
-        size_t n = basinpantry_check_case(S(f), S(line));
-        if (n > BASINPANTRY_LINE_BYTES || (line.len < BASINPANTRY_LINE_BYTES) != (n == 0)) fail("a line of another length");
-        written[1] = n;
+        /* now and then as long as its line, or a byte less */
+        uint8_t whole[BASINPANTRY_LINE_BYTES];
+        uint64_t room[BASINPANTRY_VALUES];
+        if (basinpantry_check_case(S(f), whole, sizeof whole, room) != 0 || room[0] > sizeof whole) fail("a line of another length");
+        if (one_in(2)) line = near((size_t)room[0]);
+        r = basinpantry_check_case(S(f), S(line), four());
+        answered(r, BITS(13), 1);
+        if ((line.len < room[0]) != (r == 13)) fail("a line that fits is refused, or one that does not is written");
+        if (r == 0 && (values[0] != room[0] || memcmp(line.at, whole, (size_t)room[0]) != 0)) fail("another line");
+        if (r == 0) written[used - 2] = (size_t)values[0];
         break;
     }
     case 9: {
@@ -601,9 +605,9 @@ static void call(size_t which) {
                      up = fits ? fitting(LIST) : some(UPDATES, false);
         size_t words = one_in(4) ? below(20) : BASINPANTRY_ANSWER_WORDS * 64;
         uint64_t *answers = lend_words(words, BUFFER);
-        size_t room = value_room(), taken = 0;
-        r = basinpantry_replay(S(t), S(l), S(u), S(up), answers, words, values, room);
-        answered(r, BITS(3, 13), room);
+        size_t taken = 0;
+        r = basinpantry_replay(S(t), S(l), S(u), S(up), answers, words, four());
+        answered(r, BITS(3, 13), 3);
         if (r != 0) break;
         if (values[0] > words / BASINPANTRY_ANSWER_WORDS) fail("more answers than there is room for");
         for (size_t k = 0; k < values[0]; k++) {
@@ -618,17 +622,15 @@ static void call(size_t which) {
     }
     case 10: {
         struct slice t = some(TRANSACTION, false), u = some(SCRIPT, false);
-        size_t room = value_room();
         uint64_t top = one_in(4) ? next() : 0;
-        r = basinpantry_build_funding_cell(S(t), S(u), next() >> below(64), top, next() >> below(64), next() >> below(64), top, next() >> below(64), values, room);
-        answered(r, BITS(1, 3, 7, 13), room);
+        r = basinpantry_build_funding_cell(S(t), S(u), next() >> below(64), top, next() >> below(64), next() >> below(64), top, next() >> below(64), four());
+        answered(r, BITS(1, 3, 7), 3);
         break;
     }
     case 11: {
         struct slice c = some(CELLS, false), u = some(SCRIPT, false), s = some(SCRIPT, false), out = buffer(400);
-        size_t room = value_room();
-        r = basinpantry_build_udt_inputs_outputs(S(c), S(u), S(s), next() >> below(64), one_in(4) ? next() : 0, S(out), values, room);
-        answered(r, BITS(3, 9, 10, 12, 13), room);
+        r = basinpantry_build_udt_inputs_outputs(S(c), S(u), S(s), next() >> below(64), one_in(4) ? next() : 0, S(out), four());
+        answered(r, BITS(3, 9, 10, 12, 13), 4);
         /* the change output, where there is change */
         if (r == 0 && values[3] != 0) written[3] = 24 + s.len + u.len;
         break;
@@ -637,12 +639,49 @@ static void call(size_t which) {
     case 13: {
         struct slice t = some(TRANSACTION, false), l = some(SCRIPT, false), u = some(SCRIPT, false), s = some(SCRIPT, false), c = some(CELLS, false),
                      d = some(DEPS, false), k = lend(pool[DEPS] + 4, one_in(3) ? 0 : 37, false), e = some(DEPS, false), out = buffer(16384);
-        size_t room = value_room();
         r = basinpantry_build_base(S(t), S(l), S(u), S(s), S(c), S(d), S(k), S(e), next() >> below(64), 0, next() >> 8, next() >> 8, 0, next() >> 8, S(out),
-                                   values, room);
-        answered(r, BITS(1, 3, 7, 9, 10, 11, 12, 13), room);
+                                   four());
+        answered(r, BITS(1, 3, 7, 9, 10, 11, 12, 13), 1);
         if (r == 0 && !basinpantry_is_transaction(out.at, (size_t)values[0])) fail("a base that is no transaction");
         if (r == 0) written[8] = (size_t)values[0];
+        break;
+    }
+    case 26: {
+        struct slice t = some(TRANSACTION, false);
+        r = basinpantry_version(S(t), four());
+        answered(r, BITS(1), 1);
+        if ((r == 0) != basinpantry_is_transaction(S(t))) fail("a transaction without a version, or a version without one");
+        break;
+    }
+    case 27: {
+        struct slice t = some(TRANSACTION, false);
+        uint32_t list = one_in(8) ? (uint32_t)next() : (uint32_t)below(7);
+        r = basinpantry_item_count(S(t), list, four());
+        answered(r, BITS(1, 3), 1);
+        if (r != (!basinpantry_is_transaction(S(t)) ? 1u : list > BASINPANTRY_WITNESSES ? 3u : 0u)) fail("another answer for a list");
+        break;
+    }
+    case 28: {
+        /* as many words as the items need, one less or more, or none */
+        struct slice t = some(TRANSACTION, false);
+        uint32_t list = one_in(8) ? (uint32_t)next() : (uint32_t)below(7);
+        uint64_t count[BASINPANTRY_VALUES] = {0};
+        uint32_t there = basinpantry_item_count(S(t), list, count);
+        size_t needed = BASINPANTRY_PLACE_WORDS * (size_t)count[0], words = one_in(4) ? needed + below(5) : needed - (needed != 0 && one_in(3));
+        uint64_t *places = lend_words(words, BUFFER);
+        r = basinpantry_items(S(t), list, places, words, four());
+        answered(r, BITS(1, 3, 13), 1);
+        if (r != (there != 0 ? there : words < needed ? 13u : 0u)) fail("another answer by the words");
+        if (r != 0) break;
+        if (values[0] != count[0]) fail("another number of items");
+        for (size_t i = 0; i < count[0]; i++) {
+            static uint8_t item[ROOM];
+            uint64_t start = places[2 * i], len = places[2 * i + 1], size[BASINPANTRY_VALUES];
+            if (start > t.len || len > t.len - start) fail("an item that stands outside");
+            if (basinpantry_item(S(t), list, i, item, sizeof item, size) != 0 || size[0] != len || memcmp(item, t.at + start, (size_t)len) != 0)
+                fail("another item");
+        }
+        written[1] = 8 * needed;
         break;
     }
     default: {
@@ -681,7 +720,7 @@ static void call(size_t which) {
         if (which == 19) written[6] = list_bytes(q);
     }
     }
-    see(r != 0 || which == 4, written);
+    see(r != 0 || which == 4, written, told);
     counts[which]++;
     accepted[which] += r == 0;
 }
@@ -689,7 +728,8 @@ static void call(size_t which) {
 static const char *names[CALLS] = {"update_for_peer", "update_for_peer", "update_for_peer", "update_for_peer", "is_transaction and the other tests", "item", "rewrite",
                                    "write_transaction", "check_case", "replay", "build_funding_cell", "build_udt_inputs_outputs", "build_base", "build_base", "hold_funding",
                                    "hold_for_watchtower", "release_for_watchtower", "lock_held", "unavailable", "take", "exclusions_add", "exclusions_commit",
-                                   "exclusions_remove", "exclusions_migrate_funding_tx", "exclusions_truncate", "exclusions_apply"};
+                                   "exclusions_remove", "exclusions_migrate_funding_tx", "exclusions_truncate", "exclusions_apply",
+                                   "version", "item_count", "items"};
 
 int main(int argc, char **argv) {
     unsigned long long inputs = argc > 1 ? strtoull(argv[1], NULL, 10) : 10000000;

@@ -318,6 +318,7 @@ impl CaseFile {
 /// ```
 pub fn check_case(file: &[u8]) -> String {
     let mut line = [0; LINE_BYTES];
-    let length = ffi::check_case(file, &mut line);
-    line.iter().take(length).copied().map(char::from).collect()
+    // every line fits
+    let [length, ..] = ffi::unrefused(ffi::check_case(file, &mut line));
+    line.iter().take(ffi::size(length)).copied().map(char::from).collect()
 }

@@ -2,8 +2,8 @@
 //!
 //! The proofs begin at slices; pointers and lengths are the host's word. Every call keeps it for the same five reasons:
 //! - pointer and length are of one Rust slice, so the bytes are there, initialised and lent while the call runs (where the length is 0 the pointer is not
-//!   used);
-//! - what a call writes to is a `&mut` slice, which overlaps nothing else that is lent to the call, and any bytes or words written are valid;
+//!   used); the pointer without a length, to the words of the answer, is of an array of as many;
+//! - what a call writes to is a `&mut` slice or array, which overlaps nothing else that is lent to the call, and any bytes or words written are valid;
 //! - the functions keep no pointer, have no state of their own, call nothing back and don't unwind; it is proved of them that on any content they
 //!   return, and read and write nothing outside the lent slices;
 //! - the stack is enough: half a megabyte is asked for, and a thread of the standard library has two unless another size is asked for. Of the calls that were
@@ -37,7 +37,6 @@ mod c {
             records: *const u8,
             records_len: usize,
             values: *mut u64,
-            values_len: usize,
         ) -> u32;
         pub fn basinpantry_build_funding_cell(
             ours: *const u8,
@@ -51,7 +50,6 @@ mod c {
             remote_high: u64,
             remote_reserved: u64,
             values: *mut u64,
-            values_len: usize,
         ) -> u32;
         pub fn basinpantry_build_udt_inputs_outputs(
             cells: *const u8,
@@ -65,7 +63,6 @@ mod c {
             out: *mut u8,
             out_len: usize,
             values: *mut u64,
-            values_len: usize,
         ) -> u32;
         pub fn basinpantry_build_base(
             ours: *const u8,
@@ -93,20 +90,11 @@ mod c {
             out: *mut u8,
             out_len: usize,
             values: *mut u64,
-            values_len: usize,
         ) -> u32;
-        pub fn basinpantry_version(tx: *const u8, tx_len: usize) -> u32;
-        pub fn basinpantry_item_count(tx: *const u8, tx_len: usize, list: u32) -> u32;
-        pub fn basinpantry_item(
-            tx: *const u8,
-            tx_len: usize,
-            list: u32,
-            i: usize,
-            out: *mut u8,
-            out_len: usize,
-            values: *mut u64,
-            values_len: usize,
-        ) -> u32;
+        pub fn basinpantry_version(tx: *const u8, tx_len: usize, values: *mut u64) -> u32;
+        pub fn basinpantry_item_count(tx: *const u8, tx_len: usize, list: u32, values: *mut u64) -> u32;
+        pub fn basinpantry_items(tx: *const u8, tx_len: usize, list: u32, places: *mut u64, places_len: usize, values: *mut u64) -> u32;
+        pub fn basinpantry_item(tx: *const u8, tx_len: usize, list: u32, i: usize, out: *mut u8, out_len: usize, values: *mut u64) -> u32;
         pub fn basinpantry_write_transaction(
             version: u32,
             cell_deps: *const u8,
@@ -124,9 +112,8 @@ mod c {
             out: *mut u8,
             out_len: usize,
             values: *mut u64,
-            values_len: usize,
         ) -> u32;
-        pub fn basinpantry_rewrite(tx: *const u8, tx_len: usize, out: *mut u8, out_len: usize, values: *mut u64, values_len: usize) -> u32;
+        pub fn basinpantry_rewrite(tx: *const u8, tx_len: usize, out: *mut u8, out_len: usize, values: *mut u64) -> u32;
         pub fn basinpantry_replay(
             start: *const u8,
             start_len: usize,
@@ -139,9 +126,8 @@ mod c {
             answers: *mut u64,
             answers_len: usize,
             values: *mut u64,
-            values_len: usize,
         ) -> u32;
-        pub fn basinpantry_check_case(file: *const u8, file_len: usize, line: *mut u8, line_len: usize) -> usize;
+        pub fn basinpantry_check_case(file: *const u8, file_len: usize, line: *mut u8, line_len: usize, values: *mut u64) -> u32;
         pub fn basinpantry_hold_funding(held: *mut u8, held_len: usize, holder: u64, cells: *const u8, cells_len: usize) -> u32;
         pub fn basinpantry_hold_for_watchtower(held: *mut u8, held_len: usize, cells: *const u8, cells_len: usize, time: u64) -> u32;
         pub fn basinpantry_release_for_watchtower(held: *mut u8, held_len: usize, cells: *const u8, cells_len: usize) -> u32;
@@ -197,7 +183,8 @@ mod c {
     }
 }
 
-/// Calls a function of the archive, with a variable that is a slice of bytes, or one that is a buffer to write to, as its pointer and its length. Every argument
+/// Calls a function of the archive, with a variable that is a slice of bytes, or one that is a buffer to write to, as its pointer and its length, and one that is
+/// the four words of the answer as its pointer. Every argument
 /// is evaluated outside of the `unsafe` block, which has the call alone. Each slice stays borrowed until the call has returned, so that one that is written to
 /// can't be lent twice: `call!(f(buffer x, bytes x))` doesn't compile.
 macro_rules! call {
@@ -215,12 +202,17 @@ macro_rules! call {
         let start = lent.as_mut_ptr();
         call!(@spread $name ($($done,)* start, length,) ($($lent,)* lent,) $($rest)*)
     }};
+    (@spread $name:ident ($($done:ident,)*) ($($lent:ident,)*) four $words:ident, $($rest:tt)*) => {{
+        let lent: &mut [u64; VALUES] = &mut $words;
+        let start = lent.as_mut_ptr();
+        call!(@spread $name ($($done,)* start,) ($($lent,)* lent,) $($rest)*)
+    }};
     (@spread $name:ident ($($done:ident,)*) ($($lent:ident,)*) number $number:expr, $($rest:tt)*) => {{
         let number = $number;
         call!(@spread $name ($($done,)* number,) ($($lent,)*) $($rest)*)
     }};
     (@spread $name:ident ($($done:ident,)*) ($($lent:ident,)*)) => {{
-        // SAFETY: as the head of this module says: pointers with lengths of lent slices, and only `&mut` slices are written to.
+        // SAFETY: as the head of this module says: pointers with lengths of lent slices, and only what is lent by `&mut` is written to.
         let told = unsafe { c::$name($($done),*) };
         // the borrows end here
         let _ = ($($lent,)*);
@@ -228,7 +220,7 @@ macro_rules! call {
     }};
 }
 
-/// How many words a call sets that has more to tell than a number.
+/// How many words are lent to a call that has more to tell than a number.
 const VALUES: usize = 4;
 
 // lengths and counts cross as 64 bits
@@ -298,7 +290,7 @@ pub(crate) fn update_for_peer(
 ) -> Result<[u64; VALUES], Refusal> {
     let mut values = [0; VALUES];
     let number = call!(basinpantry_update_for_peer(
-        bytes ours, bytes peer, bytes lock, bytes udt, bytes source, number rate, bytes records, buffer values
+        bytes ours, bytes peer, bytes lock, bytes udt, bytes source, number rate, bytes records, four values
     ));
     answer(number, values)
 }
@@ -308,7 +300,7 @@ pub(crate) fn build_funding_cell(ours: &[u8], udt: &[u8], figures: [u64; 6]) -> 
     let mut values = [0; VALUES];
     let number = call!(basinpantry_build_funding_cell(
         bytes ours, bytes udt, number figures[0], number figures[1], number figures[2], number figures[3], number figures[4],
-        number figures[5], buffer values
+        number figures[5], four values
     ));
     answer(number, values)
 }
@@ -322,7 +314,7 @@ pub(crate) fn build_udt_inputs_outputs(
 ) -> Result<[u64; VALUES], Refusal> {
     let mut values = [0; VALUES];
     let number = call!(basinpantry_build_udt_inputs_outputs(
-        bytes cells, bytes udt, bytes source, number wanted[0], number wanted[1], buffer out, buffer values
+        bytes cells, bytes udt, bytes source, number wanted[0], number wanted[1], buffer out, four values
     ));
     answer(number, values)
 }
@@ -334,23 +326,34 @@ pub(crate) fn build_base(lent: [&[u8]; 8], figures: [u64; 6], out: &mut [u8]) ->
     let number = call!(basinpantry_build_base(
         bytes ours, bytes lock, bytes udt, bytes source, bytes cells, bytes udt_deps, bytes lock_dep, bytes extra_deps,
         number figures[0], number figures[1], number figures[2], number figures[3], number figures[4], number figures[5],
-        buffer out, buffer values
+        buffer out, four values
     ));
     answer(number, values)
 }
 
-pub(crate) fn version(tx: &[u8]) -> u32 {
-    call!(basinpantry_version(bytes tx))
+pub(crate) fn version(tx: &[u8]) -> Result<[u64; VALUES], Refusal> {
+    let mut values = [0; VALUES];
+    let number = call!(basinpantry_version(bytes tx, four values));
+    answer(number, values)
 }
 
-pub(crate) fn item_count(tx: &[u8], list: u32) -> u32 {
-    call!(basinpantry_item_count(bytes tx, number list))
+pub(crate) fn item_count(tx: &[u8], list: u32) -> Result<[u64; VALUES], Refusal> {
+    let mut values = [0; VALUES];
+    let number = call!(basinpantry_item_count(bytes tx, number list, four values));
+    answer(number, values)
+}
+
+/// How many items a list has, of which the places, two words for each, are written to the start of `places`.
+pub(crate) fn items(tx: &[u8], list: u32, places: &mut [u64]) -> Result<[u64; VALUES], Refusal> {
+    let mut values = [0; VALUES];
+    let number = call!(basinpantry_items(bytes tx, number list, buffer places, four values));
+    answer(number, values)
 }
 
 /// How many bytes item i has, which are written to the start of `out`.
 pub(crate) fn item(tx: &[u8], list: u32, i: usize, out: &mut [u8]) -> Result<[u64; VALUES], Refusal> {
     let mut values = [0; VALUES];
-    let number = call!(basinpantry_item(bytes tx, number list, number i, buffer out, buffer values));
+    let number = call!(basinpantry_item(bytes tx, number list, number i, buffer out, four values));
     answer(number, values)
 }
 
@@ -360,25 +363,28 @@ pub(crate) fn write_transaction(version: u32, lists: [&[u8]; 6], out: &mut [u8])
     let mut values = [0; VALUES];
     let number = call!(basinpantry_write_transaction(
         number version, bytes cell_deps, bytes header_deps, bytes inputs, bytes outputs, bytes outputs_data, bytes witnesses,
-        buffer out, buffer values
+        buffer out, four values
     ));
     answer(number, values)
 }
 
 pub(crate) fn rewrite(tx: &[u8], out: &mut [u8]) -> Result<[u64; VALUES], Refusal> {
     let mut values = [0; VALUES];
-    let number = call!(basinpantry_rewrite(bytes tx, buffer out, buffer values));
+    let number = call!(basinpantry_rewrite(bytes tx, buffer out, four values));
     answer(number, values)
 }
 
 pub(crate) fn replay(start: &[u8], lock: &[u8], udt: &[u8], updates: &[u8], answers: &mut [u64]) -> Result<[u64; VALUES], Refusal> {
     let mut values = [0; VALUES];
-    let number = call!(basinpantry_replay(bytes start, bytes lock, bytes udt, bytes updates, buffer answers, buffer values));
+    let number = call!(basinpantry_replay(bytes start, bytes lock, bytes udt, bytes updates, buffer answers, four values));
     answer(number, values)
 }
 
-pub(crate) fn check_case(file: &[u8], line: &mut [u8]) -> usize {
-    call!(basinpantry_check_case(bytes file, buffer line))
+/// How many bytes the verdict line has, which is written to the start of `line`.
+pub(crate) fn check_case(file: &[u8], line: &mut [u8]) -> Result<[u64; VALUES], Refusal> {
+    let mut values = [0; VALUES];
+    let number = call!(basinpantry_check_case(bytes file, buffer line, four values));
+    answer(number, values)
 }
 
 pub(crate) fn hold_funding(held: &mut [u8], holder: u64, cells: &[u8]) -> Result<(), Refusal> {

@@ -49,7 +49,7 @@ pub use refusal::Refusal;
 pub use replay::{Replay, replay};
 pub use total::{Total, TotalTooWide};
 pub use transaction::{
-    List, MAX_TRANSACTION_BYTES, Transaction, is_out_points, is_records, is_script, is_transaction, item, item_count, rewrite, version,
-    write_transaction,
+    List, MAX_TRANSACTION_BYTES, Transaction, is_out_points, is_records, is_script, is_transaction, item, item_count, items, rewrite,
+    version, write_transaction,
 };
 pub use update::{Accepted, Negotiation, PeerUpdate, update_for_peer};

@@ -85,12 +85,6 @@ pub(crate) fn content(s: &[u8]) -> Option<&[u8]> {
     (number_at(s, 0)? == content.len()).then_some(content)
 }
 
-/// The items of a list of items of `width` bytes.
-pub(crate) fn items(s: &[u8], width: usize) -> Option<Vec<&[u8]>> {
-    let content = s.get(4..)?;
-    (number_at(s, 0)?.checked_mul(width)? == content.len()).then(|| content.chunks_exact(width).collect())
-}
-
 #[cfg(test)]
 mod tests {
     use super::*;
@@ -101,8 +95,6 @@ mod tests {
         assert_eq!(content(b"\x02\0\0\0ab"), Some(&b"ab"[..]));
         assert_eq!(content(b"\x03\0\0\0ab"), None);
         assert_eq!(fixvec([b"ab", b"cd"]), b"\x02\0\0\0abcd");
-        assert_eq!(items(b"\x02\0\0\0abcd", 2), Some(vec![&b"ab"[..], b"cd"]));
-        assert_eq!(items(b"\x02\0\0\0abc", 2), None);
         assert_eq!(table::<&[u8]>(&[]), b"\x04\0\0\0");
         assert_eq!(parts(b"\x04\0\0\0"), Some(vec![]));
         let two = table(&[&b"ab"[..], b""]);
@@ -120,7 +112,6 @@ mod tests {
                     s[7] = 0xff;
                     parts(&s[..length]);
                     content(&s[..length]);
-                    items(&s[..length], 36);
                 }
             }
         }

@@ -6,6 +6,9 @@ use crate::{ffi, molecule};
 /// The longest transaction that is judged or written.
 pub const MAX_TRANSACTION_BYTES: usize = 133_116;
 
+/// How many words tell where an item stands: its start and its length.
+const PLACE_WORDS: usize = 2;
+
 /// Whether the bytes are a transaction (RFC 0019), without extra fields.
 ///
 /// ```
@@ -115,19 +118,16 @@ impl Transaction {
     /// assert_eq!(basinpantry::Transaction::from_bytes(&[]), None);
     /// ```
     pub fn from_bytes(s: &[u8]) -> Option<Transaction> {
-        if !is_transaction(s) {
-            return None;
-        }
-        let [raw, witnesses] = molecule::parts(s)?.try_into().ok()?;
-        let [version, cell_deps, header_deps, inputs, outputs, outputs_data] = molecule::parts(raw)?.try_into().ok()?;
+        let version = version(s)?;
+        let list = |list| items(s, list);
         Some(Transaction {
-            version: u32::from_le_bytes(version.try_into().ok()?),
-            cell_deps: molecule::items(cell_deps, 37)?.into_iter().map(CellDep::from_bytes).collect::<Option<_>>()?,
-            header_deps: molecule::items(header_deps, 32)?.into_iter().map(|hash| hash.try_into().ok()).collect::<Option<_>>()?,
-            inputs: molecule::items(inputs, 44)?.into_iter().map(CellInput::from_bytes).collect::<Option<_>>()?,
-            outputs: molecule::parts(outputs)?.into_iter().map(CellOutput::from_bytes).collect::<Option<_>>()?,
-            outputs_data: contents(outputs_data)?,
-            witnesses: contents(witnesses)?,
+            version,
+            cell_deps: list(List::CellDeps)?.into_iter().map(CellDep::from_bytes).collect::<Option<_>>()?,
+            header_deps: list(List::HeaderDeps)?.into_iter().map(|hash| hash.try_into().ok()).collect::<Option<_>>()?,
+            inputs: list(List::Inputs)?.into_iter().map(CellInput::from_bytes).collect::<Option<_>>()?,
+            outputs: list(List::Outputs)?.into_iter().map(CellOutput::from_bytes).collect::<Option<_>>()?,
+            outputs_data: list(List::OutputsData)?.into_iter().map(<[u8]>::to_vec).collect(),
+            witnesses: list(List::Witnesses)?.into_iter().map(<[u8]>::to_vec).collect(),
         })
     }
 
@@ -148,10 +148,6 @@ impl Transaction {
 fn bytes_vec(entries: &[Vec<u8>]) -> Vec<u8> {
     let items: Vec<Vec<u8>> = entries.iter().map(|entry| molecule::bytes(entry)).collect();
     molecule::table(&items)
-}
-
-fn contents(list: &[u8]) -> Option<Vec<Vec<u8>>> {
-    molecule::parts(list)?.into_iter().map(|entry| molecule::content(entry).map(<[u8]>::to_vec)).collect()
 }
 
 /// A list of a transaction, by the number that the library has for it.
@@ -185,7 +181,16 @@ pub enum List {
 /// assert_eq!(version(&[]), None);
 /// ```
 pub fn version(tx: &[u8]) -> Option<u32> {
-    is_transaction(tx).then(|| ffi::version(tx))
+    let [version, ..] = found(ffi::version(tx))?;
+    Some(u32::try_from(version).expect("a version has 32 bits"))
+}
+
+/// What a transaction is asked for; none of bytes that are no transaction. Every [`List`] is one of the six, so nothing else is refused.
+fn found<T>(answer: Result<T, Refusal>) -> Option<T> {
+    match answer {
+        Err(Refusal::OurTransactionUnreadable) => None,
+        other => Some(ffi::unrefused(other)),
+    }
 }
 
 /// How many items a list of a transaction has, by the proved reader; none of bytes that are no transaction.
@@ -198,11 +203,34 @@ pub fn version(tx: &[u8]) -> Option<u32> {
 /// assert_eq!(item_count(&[], List::Inputs), None);
 /// ```
 pub fn item_count(tx: &[u8], list: List) -> Option<usize> {
-    is_transaction(tx).then(|| ffi::size(ffi::item_count(tx, list as u32).into()))
+    let [count, ..] = found(ffi::item_count(tx, list as u32))?;
+    Some(ffi::size(count))
 }
 
-/// Item `i` of a list of a transaction, by the proved reader; none where the list ends before it. Each call reads the whole transaction;
-/// [`Transaction::from_bytes`] reads it once for all items, and has no bound on an item. Refused: 1 (the bytes are no transaction), 13 (the item has more than
+/// The items of a list of a transaction, where they stand in its bytes, by the proved reader; none of bytes that are no transaction. The transaction is read twice,
+/// for their number and for their places, however many items there are.
+///
+/// ```
+/// use basinpantry::{List, Transaction, items};
+///
+/// let tx = Transaction { witnesses: vec![vec![1], vec![2, 3]], ..Transaction::default() }.to_bytes();
+/// assert_eq!(items(&tx, List::Witnesses), Some(vec![&[1][..], &[2, 3]]));
+/// assert_eq!(items(&tx, List::Inputs), Some(vec![]));
+/// assert_eq!(items(&[], List::Inputs), None);
+/// ```
+pub fn items(tx: &[u8], list: List) -> Option<Vec<&[u8]>> {
+    let mut places = vec![0; PLACE_WORDS * item_count(tx, list)?];
+    // there are as many items as were counted, so there is room for the place of each
+    found(ffi::items(tx, list as u32, &mut places))?;
+    let place = |place: &[u64]| {
+        let start = ffi::size(place[0]);
+        &tx[start..start + ffi::size(place[1])]
+    };
+    Some(places.chunks_exact(PLACE_WORDS).map(place).collect())
+}
+
+/// Item `i` of a list of a transaction, by the proved reader; none where the list ends before it. Each call reads the whole transaction; [`items`] has all items of
+/// a list, with no bound on an item. Refused: 1 (the bytes are no transaction), 13 (the item has more than
 /// 133,116 bytes).
 ///
 /// ```

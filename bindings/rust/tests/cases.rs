@@ -2,7 +2,7 @@
 mod common;
 
 use basinpantry::{
-    CaseFile, List, MAX_TRANSACTION_BYTES, Refusal, Transaction, check_case, item, item_count, rewrite, version, write_transaction,
+    CaseFile, List, MAX_TRANSACTION_BYTES, Refusal, Transaction, check_case, item, item_count, items, rewrite, version, write_transaction,
 };
 use common::{cases, run};
 
@@ -52,7 +52,12 @@ fn transactions_are_written_as_they_are_read() {
         assert_eq!(rewrite(&bytes), Ok(bytes.clone()));
         assert_eq!(version(&bytes), Some(tx.version));
         let count = |list| item_count(&bytes, list).unwrap();
-        let items = |list| (0..count(list)).map(|i| item(&bytes, list, i).unwrap().unwrap()).collect::<Vec<_>>();
+        let each = |list| (0..count(list)).map(|i| item(&bytes, list, i).unwrap().unwrap()).collect::<Vec<_>>();
+        let items = |list| {
+            let all = items(&bytes, list).unwrap();
+            assert_eq!(all, each(list));
+            all.into_iter().map(<[u8]>::to_vec).collect::<Vec<_>>()
+        };
         assert_eq!(items(List::CellDeps), tx.cell_deps.iter().map(|dep| dep.to_bytes().to_vec()).collect::<Vec<_>>());
         assert_eq!(items(List::HeaderDeps), tx.header_deps.iter().map(|hash| hash.to_vec()).collect::<Vec<_>>());
         assert_eq!(items(List::Inputs), tx.inputs.iter().map(|input| input.to_bytes().to_vec()).collect::<Vec<_>>());
@@ -62,6 +67,7 @@ fn transactions_are_written_as_they_are_read() {
         assert_eq!(item(&bytes, List::Witnesses, tx.witnesses.len()), Ok(None));
     }
     assert_eq!((item_count(&[], List::Inputs), item(&[], List::Inputs, 0)), (None, Err(Refusal::OurTransactionUnreadable)));
+    assert_eq!((version(&[]), items(&[], List::Inputs)), (None, None));
 }
 
 /// A transaction may be longer than what the library writes; an item of it that is so too is refused, and not said to be missing.
@@ -72,6 +78,7 @@ fn items_that_are_too_long() {
     assert_eq!(item_count(&long, List::Witnesses), Some(1));
     assert_eq!(item(&long, List::Witnesses, 0), Err(Refusal::BufferTooShort));
     assert_eq!(item(&long, List::Witnesses, 1), Ok(None));
+    assert_eq!(items(&long, List::Witnesses), Some(vec![&[7; 140_000][..]]));
     assert_eq!(Transaction::from_bytes(&long).unwrap().witnesses, [vec![7; 140_000]]);
     assert_eq!(item(&witness(MAX_TRANSACTION_BYTES), List::Witnesses, 0), Ok(Some(vec![7; MAX_TRANSACTION_BYTES])));
     assert_eq!(item(&witness(MAX_TRANSACTION_BYTES + 1), List::Witnesses, 0), Err(Refusal::BufferTooShort));

@@ -30,7 +30,7 @@ fn rust_type(c: &str) -> &'static str {
     match c {
         "const uint8_t *" => "*const u8",
         "uint8_t *" => "*mut u8",
-        "uint64_t *" => "*mut u64",
+        "uint64_t *" | "uint64_t [4]" => "*mut u64",
         "uint64_t" => "u64",
         "uint32_t" => "u32",
         "size_t" => "usize",
@@ -62,7 +62,11 @@ fn header() -> BTreeMap<String, Signature> {
             .map(|parameter| {
                 let parameter = parameter.split_whitespace().collect::<Vec<_>>().join(" ");
                 let at = parameter.rfind([' ', '*']).expect("a type and a name") + 1;
-                (parameter[at..].to_string(), rust_type(parameter[..at].trim_end()).to_string())
+                // an array is lent by its pointer
+                match parameter[at..].split_once('[') {
+                    Some((name, size)) => (name.to_string(), rust_type(&format!("{}[{size}", &parameter[..at])).to_string()),
+                    None => (parameter[at..].to_string(), rust_type(parameter[..at].trim_end()).to_string()),
+                }
             })
             .collect();
         signature.push(("->".to_string(), rust_type(answer).to_string()));
@@ -106,12 +110,13 @@ fn library_text() -> String {
     out
 }
 
-/// A type of the library as it crosses to C: a slice is a pointer and then a length.
+/// A type of the library as it crosses to C: a slice is a pointer and then a length, the words of an answer are a pointer.
 fn crossing(kind: &str) -> &'static [&'static str] {
     match kind.replace("&'a ", "&").as_str() {
         "&[u8]" => &["*const u8", "usize"],
         "&mut [u8]" => &["*mut u8", "usize"],
         "&mut [u64]" => &["*mut u64", "usize"],
+        "&mut [u64; WORDS]" => &["*mut u64"],
         "u64" => &["u64"],
         "u32" => &["u32"],
         "usize" => &["usize"],
@@ -141,12 +146,12 @@ fn library() -> BTreeMap<String, Vec<&'static str>> {
 #[test]
 fn the_library_has_what_the_header_declares() {
     let header = header();
-    assert!(header.len() >= 27, "{}", header.len());
+    assert!(header.len() >= 28, "{}", header.len());
     let kinds = header.iter().map(|(name, signature)| (name.clone(), signature.iter().map(|(_, kind)| kind.as_str()).collect()));
     assert_eq!(library(), kinds.collect::<BTreeMap<String, Vec<&str>>>());
-    // a length has the name of the pointer before it
+    // a length has the name of the pointer before it; the values have none
     for (name, signature) in &header {
-        for pair in signature.windows(2).filter(|pair| pair[0].1.starts_with('*')) {
+        for pair in signature.windows(2).filter(|pair| pair[0].1.starts_with('*') && pair[0].0 != "values") {
             assert_eq!(pair[1].0, format!("{}_len", pair[0].0), "{name}");
         }
     }
@@ -155,7 +160,7 @@ fn the_library_has_what_the_header_declares() {
 #[test]
 fn declarations() {
     let (header, declared) = (header(), declared());
-    assert!(header.len() >= 27, "{}", header.len());
+    assert!(header.len() >= 28, "{}", header.len());
     assert_eq!(declared, header);
 }
 
@@ -190,7 +195,7 @@ fn declared_by_kinds(path: &str) -> BTreeMap<String, Signature> {
                 _ => None,
             };
             signature.push((name.to_string(), pointer.unwrap_or(kind).to_string()));
-            if pointer.is_some() {
+            if pointer.is_some() && kind != "values" {
                 signature.push((format!("{name}_len"), "usize".to_string()));
             }
         }
@@ -245,6 +250,7 @@ fn numbers() {
     for (name, file, kept) in [
         ("LINE_BYTES", "src/case_file.rs", "const LINE_BYTES: usize = "),
         ("ANSWER_WORDS", "src/replay.rs", "const ANSWER_WORDS: usize = "),
+        ("PLACE_WORDS", "src/transaction.rs", "const PLACE_WORDS: usize = "),
         ("VALUES", "src/ffi.rs", "const VALUES: usize = "),
     ] {
         let text = self::text(file);

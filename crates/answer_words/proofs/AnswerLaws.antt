@@ -9,6 +9,8 @@ use Rattle.arithmetic.specs.Amount.{halves, amountOf}
 use Rattle.units.specs.Units.{inShannons, shannonCount, tokenCount}
 use Rattle.words.specs.Words.{setWords, numberOf, valuesOf, inWords}
 use Rattle.words.proofs.WordLaws.{refused-as, low-is, high-is}
+use Rattle.transaction_lists.specs.declared.Found.{Found}
+use Rattle.transaction_lists.specs.Found as lists
 use Rattle.transaction_writer.specs.declared.Written.{Written}
 use Rattle.funding_cell.specs.declared.FundingCell.{FundingCell}
 use Rattle.funding_cell.specs.FundingCell as cell
@@ -17,7 +19,7 @@ use Rattle.udt_cells.specs.Change.{answered}
 use Rattle.base_writer.specs.Answer as writer
 use Rattle.answer_words.specs.Answers.{countWords, cellWords, pickWords, request}
 
-pub bytes-written : (w : Written) (words : List ℕ) {n : ℕ} {r : ℕ × List ℕ} → w ≡ Written.Wrote n → r ≡ setWords 0 (n ∷ 0 ∷ 0 ∷ 0 ∷ []) words → r ≡ inWords countWords (writer.told w) words
+pub bytes-written : (w : Written) (words : List ℕ) {n : ℕ} {r : ℕ × List ℕ} → w ≡ Written.Wrote n → r ≡ setWords 0 (n ∷ []) words → r ≡ inWords countWords (writer.told w) words
 unfolding setWords inWords numberOf valuesOf countWords
 bytes-written w words e k = k ∙ rw e
 
@@ -25,8 +27,16 @@ pub writing-refused : (w : Written) (words : List ℕ) (why : Refusal) {r : ℕ 
     → r ≡ setWords (number why) (values why) words → r ≡ inWords countWords (writer.told w) words
 writing-refused w words why e k = refused-as countWords words why (rw e) k
 
+pub number-found : (x : Found) (words : List ℕ) {n : ℕ} {r : ℕ × List ℕ} → x ≡ Found.Number n → r ≡ setWords 0 (n ∷ []) words → r ≡ inWords countWords (lists.told x) words
+unfolding setWords inWords numberOf valuesOf countWords
+number-found x words e k = k ∙ rw e
+
+pub finding-refused : (x : Found) (words : List ℕ) (why : Refusal) {r : ℕ × List ℕ} → x ≡ Found.Refused why
+    → r ≡ setWords (number why) (values why) words → r ≡ inWords countWords (lists.told x) words
+finding-refused x words why e k = refused-as countWords words why (rw e) k
+
 pub cell-made : (c : FundingCell) (words : List ℕ) {capacity : Shannons} {token : Tokens} {r : ℕ × List ℕ} → c ≡ FundingCell.Cell capacity token → capacity .0 .low < 2 ^ 64 → token .0 .low < 2 ^ 64
-    → r ≡ setWords 0 ((capacity .0 .low) ∷ (token .0 .low) ∷ (token .0 .high) ∷ 0 ∷ []) words → r ≡ inWords cellWords (cell.told c) words
+    → r ≡ setWords 0 ((capacity .0 .low) ∷ (token .0 .low) ∷ (token .0 .high) ∷ []) words → r ≡ inWords cellWords (cell.told c) words
 unfolding setWords inWords numberOf valuesOf cellWords shannonCount tokenCount
 cell-made c words {capacity} {token} e hc ht k =
     k ∙ rw (e, low-is (capacity .0 .low) (capacity .0 .high) hc, low-is (token .0 .low) (token .0 .high) ht, high-is (token .0 .low) (token .0 .high) ht)

@@ -11,7 +11,7 @@ use Rattle.words.proofs.WordLaws.{refused-as}
 use Rattle.answer_words.specs.Answers.{replayWords}
 
 module _ (x : Replayed) (words : List ℕ) {r : ℕ × List ℕ} where
-  pub replay-done : {updates accepted at : ℕ} → x ≡ Replayed.Done updates accepted at → r ≡ setWords 0 (updates ∷ accepted ∷ at ∷ 0 ∷ []) words
+  pub replay-done : {updates accepted at : ℕ} → x ≡ Replayed.Done updates accepted at → r ≡ setWords 0 (updates ∷ accepted ∷ at ∷ []) words
       → r ≡ inWords replayWords (answered x) words
   unfolding setWords inWords numberOf valuesOf replayWords
   replay-done e k = k ∙ rw e

@@ -9,7 +9,7 @@ use Rattle.funding_cell.specs.declared.FundingRequest.{FundingRequest}
 use Rattle.udt_cells.specs.Change.{Built}
 use Rattle.negotiation.specs.Replay.{Summary}
 
--- how many bytes were written
+-- how many bytes were written, or a number that a transaction was asked for
 unfoldable pub countWords : ℕ → List ℕ
 countWords n = n ∷ []
 

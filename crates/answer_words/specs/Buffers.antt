@@ -1,9 +1,9 @@
 -- What is written at the start of a lent buffer.
 use Prim.Native.Nat.{ℕ}
-use mathlib.Core.Bool.{Bool, cond}
-use mathlib.Core.List.{List, _++_}
-use lib.ListN.{length, drop}
-use lib.Dec.{leb, ltb}
+use mathlib.Core.Bool.{Bool}
+use mathlib.Core.List.{List}
+use lib.ListN.{length}
+use lib.Dec.{ltb}
 use Rattle.molecule.specs.Molecule.{readable}
 use Rattle.transaction.specs.Ckb.{Transaction}
 use Rattle.transaction_lists.specs.Lists.{listIn, itemIn}
@@ -23,7 +23,3 @@ itemFound tx list i = do
   -- no such list, or no item at this place
   check 3 (ltb i (length (listIn tx list)))
   fine (itemIn tx list i)
-
--- a line at the start of a buffer that has room for every line, and its length; without that room 0
-unfoldable pub lineFirst : List ℕ → List ℕ → ℕ × List ℕ
-lineFirst line out = cond (leb 105 (length out)) (length line, line ++ drop (length line) out) (0, out)

@@ -1,4 +1,4 @@
-// The answers of the library's calls as a number and four words, the figures that come as words, and what is put at the start of a lent buffer.
+// The answers of the library's calls as a number and the words that each has to tell, the figures that come as words, and what is put at the start of a lent buffer.
 // The update's own answer is in crate words, which the run over a list of updates needs too.
 pub mod buffers;
 
@@ -6,41 +6,54 @@ use arithmetic::Amount;
 use funding_cell::FundingCell;
 use funding_cell::FundingRequest;
 use negotiation::Replayed;
+use transaction_lists::Found;
 use transaction_writer::Written;
 use udt_cells::UdtInputsOutputs;
 use units::Shannons;
+use words::WORDS;
 ghost use mathlib.Core.Path.{_≡_};
 ghost use Rattle.words.specs.Words.{inWords};
 ghost use Rattle.funding_cell.specs.FundingCell as funding;
 ghost use Rattle.udt_cells.specs.Change.{answered};
 ghost use Rattle.base_writer.specs.Answer as writer;
 ghost use Rattle.negotiation.specs.Replay as replay;
+ghost use Rattle.transaction_lists.specs.Found as lists;
 ghost use Rattle.answer_words.specs.Answers.{countWords, cellWords, pickWords, replayWords, request};
 
 // The answer of a call that writes: how many bytes it wrote.
-pub fn tell_written(written: Written, words: &mut [u64]) -> u32
+pub fn tell_written(written: Written, words: &mut [u64; WORDS]) -> u32
     ensures { λ r. ⌜ (r, now (words .exit)) ≡ inWords countWords (writer.told written) (now (words .entry)) ⌝ }
 {
     match written {
-        Written::Wrote(n) => words::set_four(words, 0, n as u64, 0, 0, 0),
+        Written::Wrote(n) => words::set_one(words, 0, n as u64),
         Written::Refused(why) => words::tell_refusal(why, words),
     }
 }
 
+// A number that a transaction was asked for.
+pub fn tell_found(found: Found, words: &mut [u64; WORDS]) -> u32
+    ensures { λ r. ⌜ (r, now (words .exit)) ≡ inWords countWords (lists.told found) (now (words .entry)) ⌝ }
+{
+    match found {
+        Found::Number(n) => words::set_one(words, 0, n as u64),
+        Found::Refused(why) => words::tell_refusal(why, words),
+    }
+}
+
 // The funding cell: its capacity and its token amount.
-pub fn tell_cell(cell: FundingCell, words: &mut [u64]) -> u32
+pub fn tell_cell(cell: FundingCell, words: &mut [u64; WORDS]) -> u32
     ensures { λ r. ⌜ (r, now (words .exit)) ≡ inWords cellWords (funding.told cell) (now (words .entry)) ⌝ }
 {
     match cell {
         FundingCell::Cell { capacity, token } => {
-            words::set_four(words, 0, capacity.0.low, token.0.low, token.0.high, 0)
+            words::set_three(words, 0, capacity.0.low, token.0.low, token.0.high)
         }
         FundingCell::Refused(why) => words::tell_refusal(why, words),
     }
 }
 
 // The pick: how many cells, the change, and the capacity of its output.
-pub fn tell_pick(pick: UdtInputsOutputs, words: &mut [u64]) -> u32
+pub fn tell_pick(pick: UdtInputsOutputs, words: &mut [u64; WORDS]) -> u32
     ensures { λ r. ⌜ (r, now (words .exit)) ≡ inWords pickWords (answered pick) (now (words .entry)) ⌝ }
 {
     match pick {
@@ -61,7 +74,7 @@ pub fn tell_pick(pick: UdtInputsOutputs, words: &mut [u64]) -> u32
 }
 
 // What a list of updates came to: how many they were, how many were accepted, and which transaction is then in force.
-pub fn tell_replayed(replayed: Replayed, words: &mut [u64]) -> u32
+pub fn tell_replayed(replayed: Replayed, words: &mut [u64; WORDS]) -> u32
     ensures { λ r. ⌜ (r, now (words .exit)) ≡ inWords replayWords (replay.answered replayed) (now (words .entry)) ⌝ }
 {
     match replayed {
@@ -69,7 +82,7 @@ pub fn tell_replayed(replayed: Replayed, words: &mut [u64]) -> u32
             updates,
             accepted,
             at,
-        } => words::set_four(words, 0, updates as u64, accepted as u64, at as u64, 0),
+        } => words::set_three(words, 0, updates as u64, accepted as u64, at as u64),
         Replayed::Refused(why) => words::tell_refusal(why, words),
     }
 }

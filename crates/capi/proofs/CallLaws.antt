@@ -1,8 +1,7 @@
 -- The calls of our own side: one law for each way out of the functions that C calls.
 use mathlib.Core.Path.{_≡_, _∙_}
-use Prim.Native.Nat.{ℕ, _≤_}
+use Prim.Native.Nat.{ℕ}
 use mathlib.Core.List.{List}
-use lib.ListN.{length}
 use Rattle.arithmetic.specs.Amount.{value, halves}
 use Rattle.units.specs.Units.{tokenCount, inTokens}
 use Rattle.rules.specs.Outcome.{Outcome}
@@ -19,12 +18,12 @@ pub cell-told : (ours udt : List ℕ) (request : FundingRequest) (words : List �
     → r ≡ inWords cellWords o words → r ≡ inWords cellWords (buildFundingCell ours udt request) words
 cell-told ours udt request words e k l = l ∙ rw (k, e)
 
-pub pick-written : (cells udt source : List ℕ) (low high : ℕ) (out words : List ℕ) {o : Outcome Built} {after : List ℕ} {r : ℕ × List ℕ} → 4 ≤ length words
+pub pick-written : (cells udt source : List ℕ) (low high : ℕ) (out words : List ℕ) {o : Outcome Built} {after : List ℕ} {r : ℕ × List ℕ}
     → (o, after) ≡ udtInputsOutputs cells udt source (tokenCount (inTokens (halves low high))) out → r ≡ inWords pickWords o words
-    → (r, after) ≡ writing pickWords (udtInputsOutputs cells udt source (value (halves low high)) out) out words
+    → (r, after) ≡ writing pickWords (udtInputsOutputs cells udt source (value (halves low high)) out) words
 unfolding tokenCount
-pick-written cells udt source low high out words h e k = wrote pickWords _ out words h e k
+pick-written cells udt source low high out words e k = wrote pickWords _ words e k
 
-pub base-written : (l : Lent) (request : FundingRequest) (out words : List ℕ) {q : FundingRequest} {o : Outcome ℕ} {after : List ℕ} {r : ℕ × List ℕ} → 4 ≤ length words → q ≡ request
-    → (o, after) ≡ written (buildBase l q) out → r ≡ inWords countWords o words → (r, after) ≡ writing countWords (written (buildBase l request) out) out words
-base-written l request out words h g e k = wrote countWords _ out words h (e ∙ rw g) k
+pub base-written : (l : Lent) (request : FundingRequest) (out words : List ℕ) {q : FundingRequest} {o : Outcome ℕ} {after : List ℕ} {r : ℕ × List ℕ} → q ≡ request
+    → (o, after) ≡ written (buildBase l q) out → r ≡ inWords countWords o words → (r, after) ≡ writing countWords (written (buildBase l request) out) words
+base-written l request out words g e k = wrote countWords _ words (e ∙ rw g) k

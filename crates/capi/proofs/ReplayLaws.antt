@@ -1,15 +1,11 @@
 -- Demand 3 of a list of updates that is judged from C: where the answer is 0, what the lent words tell is lawful.
 use mathlib.Core.Path.{_≡_, refl, sym, ap, _∙_}
-use Prim.Native.Nat.{ℕ, _+_, _≤_, _<_}
-use mathlib.Core.Bool.{Bool, true, false, cond}
-use mathlib.Core.List.{List, [], _∷_, _++_}
-use native.Mathlib.Omega.{arith}
-use borrow.Author.Tests.{le-leb}
-use lib.Dec.{leb}
+use Prim.Native.Nat.{ℕ}
+use mathlib.Core.List.{List, _∷_}
 use lib.ListN.{length, drop, getD}
 use Rattle.rules.specs.Outcome.{Outcome, fine, refused}
 use Rattle.rules.specs.Judge.{Figures}
-use Rattle.words.specs.Words.{fourOf, setWords, numberOf, valuesOf, inWords, writing}
+use Rattle.words.specs.Words.{setWords, numberOf, valuesOf, inWords, writing}
 use Rattle.words.proofs.WordLaws.{wrote}
 use Rattle.negotiation.specs.Replay.{Summary, summaryOf, replayOf, leaves}
 use Rattle.negotiation.specs.Law.{Lawful}
@@ -18,28 +14,19 @@ use Rattle.negotiation.proofs.Demand3.{demand-3}
 use Rattle.answer_words.specs.Answers.{replayWords}
 
 module _ (lock udt start updates before words : List ℕ) {r : ℕ} {words' after : List ℕ} where
-  by : (b : Bool) → leb 4 (length words) ≡ b → (x : Outcome (List (Outcome Figures))) → replayOf lock udt start updates (length before) ≡ x
-      → ((r, words'), after) ≡ writing replayWords (leaves x before) before words → r ≡ 0
+  by : (x : Outcome (List (Outcome Figures))) → replayOf lock udt start updates (length before) ≡ x
+      → ((r, words'), after) ≡ writing replayWords (leaves x before) words → r ≡ 0
       → Lawful lock udt start updates before (getD words' 0 0) (getD words' 1 0) (getD words' 2 0) after
   unfolding writing inWords setWords numberOf valuesOf leaves replayWords
-  by false eb x ex e z = absurd (let k : r ≡ 13 = ap (λ (p : (ℕ × List ℕ) × List ℕ). p .0 .0) e ∙ rw eb in omega arith)
-  by true eb (refused m l) ex e z =
-      let k : r ≡ m = ap (λ (p : (ℕ × List ℕ) × List ℕ). p .0 .0) e ∙ rw eb in
+  by (refused m l) ex e z =
+      let k : r ≡ m = ap (λ (p : (ℕ × List ℕ) × List ℕ). p .0 .0) e in
       absurd (refused-numbered lock udt start updates (length before) ex (sym k ∙ z))
-  by true eb (fine vs) ex e z =
+  by (fine vs) ex e z =
       let s = summaryOf vs in
-      let w : words' ≡ s .updates ∷ s .accepted ∷ s .at ∷ 0 ∷ drop 4 words = ap (λ (p : (ℕ × List ℕ) × List ℕ). p .0 .1) e ∙ rw eb in
-      let a : after ≡ leaves (fine vs) before .1 = ap (λ (p : (ℕ × List ℕ) × List ℕ). p .1) e ∙ rw eb in
+      let w : words' ≡ s .updates ∷ s .accepted ∷ s .at ∷ drop 3 words = ap (λ (p : (ℕ × List ℕ) × List ℕ). p .0 .1) e in
+      let a : after ≡ leaves (fine vs) before .1 = ap (λ (p : (ℕ × List ℕ) × List ℕ). p .1) e in
       rw w (demand-3 lock udt start updates before (s .updates) (s .accepted) (s .at) after (rw ex (ap (λ (y : List ℕ). (fine s, y)) a)))
 
-  lawful : ((r, words'), after) ≡ writing replayWords (leaves (replayOf lock udt start updates (length before)) before) before words → r ≡ 0
-      → Lawful lock udt start updates before (getD words' 0 0) (getD words' 1 0) (getD words' 2 0) after
-  lawful e = by (leb 4 (length words)) refl (replayOf lock udt start updates (length before)) refl e
-
-  pub lawful-done : {o : Outcome Summary} → 4 ≤ length words → (o, after) ≡ leaves (replayOf lock udt start updates (length before)) before → (r, words') ≡ inWords replayWords o words
+  pub lawful-done : {o : Outcome Summary} → (o, after) ≡ leaves (replayOf lock udt start updates (length before)) before → (r, words') ≡ inWords replayWords o words
       → r ≡ 0 → Lawful lock udt start updates before (getD words' 0 0) (getD words' 1 0) (getD words' 2 0) after
-  lawful-done h e k = lawful (wrote replayWords _ before words h e k)
-
--- with fewer words than four the answer is 13
-pub lawful-few : (lock udt start updates before words : List ℕ) → _≡_ {A = ℕ} 13 0 → Lawful lock udt start updates before (getD words 0 0) (getD words 1 0) (getD words 2 0) before
-lawful-few lock udt start updates before words z = absurd (omega arith)
+  lawful-done e k = by (replayOf lock udt start updates (length before)) refl (wrote replayWords _ words e k)

@@ -1,16 +1,19 @@
-// What a host in Rust or C links: the library's functions under plain names. A slice crosses as a pointer and then a length.
+// What a host in Rust or C links: the library's functions under plain names. A slice crosses as a pointer and then a length, the four words of
+// an answer as a pointer alone.
 mod replay;
 mod tables;
 
 use answer_words::buffers;
 use arithmetic::Amount;
 use units::Tokens;
+use words::WORDS;
 ghost use mathlib.Core.Path.{_≡_};
 ghost use lib.ListN.{length};
 ghost use Rattle.arithmetic.specs.Amount.{value, halves};
 ghost use Rattle.molecule.specs.Molecule.{readable};
 ghost use Rattle.transaction.specs.Ckb.{OutPoints, Script, Transaction, Records};
 ghost use Rattle.rules.specs.Judge.{judge};
+ghost use Rattle.rules.specs.Outcome.{fine};
 ghost use Rattle.transaction_writer.specs.Written.{inForm, txBytes};
 ghost use Rattle.case_file.specs.CaseFile.{caseLine};
 ghost use Rattle.funding_cell.specs.FundingCell.{buildFundingCell};
@@ -18,9 +21,10 @@ ghost use Rattle.udt_cells.specs.Change.{udtInputsOutputs};
 ghost use Rattle.base_writer.specs.Answer.{written};
 ghost use Rattle.funding_builder.specs.Base.{lentOf, buildBase};
 ghost use Rattle.words.specs.Words.{inWords, writing, surplusWords};
-ghost use Rattle.transaction_lists.specs.Lists.{versionOf, listIn};
+ghost use Rattle.transaction_lists.specs.Found.{versionFound, countFound};
+ghost use Rattle.item_places.specs.Places.{placesFound, listed};
 ghost use Rattle.answer_words.specs.Answers.{countWords, cellWords, pickWords, request};
-ghost use Rattle.answer_words.specs.Buffers.{bytesIf, itemFound, lineFirst};
+ghost use Rattle.answer_words.specs.Buffers.{bytesIf, itemFound};
 
 // Whether s is a transaction.
 #[no_mangle]
@@ -56,18 +60,34 @@ pub extern "C" fn basinpantry_is_out_points(s: &[u8]) -> bool
 
 // The version of a transaction.
 #[no_mangle]
-pub extern "C" fn basinpantry_version(tx: &[u8]) -> u32
-    ensures { λ r. ⌜ r ≡ versionOf (now (tx .entry)) ⌝ }
+pub extern "C" fn basinpantry_version(tx: &[u8], values: &mut [u64; WORDS]) -> u32
+    ensures { λ r. ⌜ (r, now (values .exit)) ≡ inWords countWords (versionFound (now (tx .entry))) (now (values .entry)) ⌝ }
 {
-    transaction_lists::version(tx)
+    let found = transaction_lists::version(tx);
+    answer_words::tell_found(found, values)
 }
 
 // How many items a list of a transaction has.
 #[no_mangle]
-pub extern "C" fn basinpantry_item_count(tx: &[u8], list: u32) -> u32
-    ensures { λ r. ⌜ r ≡ length (listIn (now (tx .entry)) list) ⌝ }
+pub extern "C" fn basinpantry_item_count(tx: &[u8], list: u32, values: &mut [u64; WORDS]) -> u32
+    ensures { λ r. ⌜ (r, now (values .exit)) ≡ inWords countWords (countFound (now (tx .entry)) list) (now (values .entry)) ⌝ }
 {
-    transaction_lists::item_count(tx, list)
+    let found = transaction_lists::item_count(tx, list);
+    answer_words::tell_found(found, values)
+}
+
+// Where the items of a list of a transaction stand.
+#[no_mangle]
+pub extern "C" fn basinpantry_items(
+    tx: &[u8],
+    list: u32,
+    places: &mut [u64],
+    values: &mut [u64; WORDS],
+) -> u32
+    ensures { λ r. ⌜ ((r, now (values .exit)), now (places .exit)) ≡ writing countWords (listed (placesFound (now (tx .entry)) list (length (now (places .entry)))) (now (places .entry))) (now (values .entry)) ⌝ }
+{
+    let found = item_places::items(tx, list, places);
+    answer_words::tell_found(found, values)
 }
 
 // Writes an item of a list of a transaction.
@@ -77,13 +97,10 @@ pub extern "C" fn basinpantry_item(
     list: u32,
     i: usize,
     out: &mut [u8],
-    values: &mut [u64],
+    values: &mut [u64; WORDS],
 ) -> u32
-    ensures { λ r. ⌜ ((r, now (values .exit)), now (out .exit)) ≡ writing countWords (written (itemFound (now (tx .entry)) list i) (now (out .entry))) (now (out .entry)) (now (values .entry)) ⌝ }
+    ensures { λ r. ⌜ ((r, now (values .exit)), now (out .exit)) ≡ writing countWords (written (itemFound (now (tx .entry)) list i) (now (out .entry))) (now (values .entry)) ⌝ }
 {
-    if values.len() < words::WORDS {
-        return words::TOO_FEW;
-    }
     let written = buffers::put_item(tx, list, i, out);
     answer_words::tell_written(written, values)
 }
@@ -99,13 +116,10 @@ pub extern "C" fn basinpantry_write_transaction(
     outputs_data: &[u8],
     witnesses: &[u8],
     out: &mut [u8],
-    values: &mut [u64],
+    values: &mut [u64; WORDS],
 ) -> u32
-    ensures { λ r. ⌜ ((r, now (values .exit)), now (out .exit)) ≡ writing countWords (written (bytesIf 3 (inForm (now («cell_deps» .entry)) (now («header_deps» .entry)) (now (inputs .entry)) (now (outputs .entry)) (now («outputs_data» .entry)) (now (witnesses .entry))) (txBytes version (now («cell_deps» .entry)) (now («header_deps» .entry)) (now (inputs .entry)) (now (outputs .entry)) (now («outputs_data» .entry)) (now (witnesses .entry)))) (now (out .entry))) (now (out .entry)) (now (values .entry)) ⌝ }
+    ensures { λ r. ⌜ ((r, now (values .exit)), now (out .exit)) ≡ writing countWords (written (bytesIf 3 (inForm (now («cell_deps» .entry)) (now («header_deps» .entry)) (now (inputs .entry)) (now (outputs .entry)) (now («outputs_data» .entry)) (now (witnesses .entry))) (txBytes version (now («cell_deps» .entry)) (now («header_deps» .entry)) (now (inputs .entry)) (now (outputs .entry)) (now («outputs_data» .entry)) (now (witnesses .entry)))) (now (out .entry))) (now (values .entry)) ⌝ }
 {
-    if values.len() < words::WORDS {
-        return words::TOO_FEW;
-    }
     let written = transaction_writer::write_transaction(
         version,
         cell_deps,
@@ -121,12 +135,9 @@ pub extern "C" fn basinpantry_write_transaction(
 
 // Reads the fields of a transaction and writes them again.
 #[no_mangle]
-pub extern "C" fn basinpantry_rewrite(tx: &[u8], out: &mut [u8], values: &mut [u64]) -> u32
-    ensures { λ r. ⌜ ((r, now (values .exit)), now (out .exit)) ≡ writing countWords (written (bytesIf 1 (readable Transaction (now (tx .entry))) (now (tx .entry))) (now (out .entry))) (now (out .entry)) (now (values .entry)) ⌝ }
+pub extern "C" fn basinpantry_rewrite(tx: &[u8], out: &mut [u8], values: &mut [u64; WORDS]) -> u32
+    ensures { λ r. ⌜ ((r, now (values .exit)), now (out .exit)) ≡ writing countWords (written (bytesIf 1 (readable Transaction (now (tx .entry))) (now (tx .entry))) (now (out .entry))) (now (values .entry)) ⌝ }
 {
-    if values.len() < words::WORDS {
-        return words::TOO_FEW;
-    }
     let written = transaction_writer::rewrite(tx, out);
     answer_words::tell_written(written, values)
 }
@@ -141,7 +152,7 @@ pub extern "C" fn basinpantry_update_for_peer(
     source: &[u8],
     rate: u64,
     records: &[u8],
-    values: &mut [u64],
+    values: &mut [u64; WORDS],
 ) -> u32
     ensures { λ r. ⌜ (r, now (values .exit)) ≡ inWords surplusWords (judge (now (lock .entry)) (now (udt .entry)) (now (ours .entry)) (record { peer = now (peer .entry); records = now (records .entry); source = now (source .entry); rate = rate })) (now (values .entry)) ⌝ }
 {
@@ -149,14 +160,19 @@ pub extern "C" fn basinpantry_update_for_peer(
     words::tell_update(update, values)
 }
 
-// Writes the verdict line of a case file, and answers its length; where `line` has no room for every line, writes nothing and answers 0.
+// Writes the verdict line of a case file.
 #[no_mangle]
-pub extern "C" fn basinpantry_check_case(file: &[u8], line: &mut [u8]) -> usize
-    ensures { λ r. ⌜ (r, now (line .exit)) ≡ lineFirst (caseLine (now (file .entry))) (now (line .entry)) ⌝ }
+pub extern "C" fn basinpantry_check_case(
+    file: &[u8],
+    line: &mut [u8],
+    values: &mut [u64; WORDS],
+) -> u32
+    ensures { λ r. ⌜ ((r, now (values .exit)), now (line .exit)) ≡ writing countWords (written (fine (caseLine (now (file .entry)))) (now (line .entry))) (now (values .entry)) ⌝ }
 {
     let mut verdict = [0u8; verdict_line::LINE_BYTES];
     let n = case_file::check_case(file, &mut verdict);
-    buffers::put_line(&verdict, n, line)
+    let written = buffers::put_line(&verdict, n, line);
+    answer_words::tell_written(written, values)
 }
 
 // The funding cell of a request.
@@ -170,7 +186,7 @@ pub extern "C" fn basinpantry_build_funding_cell(
     remote_low: u64,
     remote_high: u64,
     remote_reserved: u64,
-    values: &mut [u64],
+    values: &mut [u64; WORDS],
 ) -> u32
     ensures { λ r. ⌜ (r, now (values .exit)) ≡ inWords cellWords (buildFundingCell (now (ours .entry)) (now (udt .entry)) (request «local_low» «local_high» «local_reserved» «remote_low» «remote_high» «remote_reserved»)) (now (values .entry)) ⌝ }
 {
@@ -195,13 +211,10 @@ pub extern "C" fn basinpantry_build_udt_inputs_outputs(
     wanted_low: u64,
     wanted_high: u64,
     out: &mut [u8],
-    values: &mut [u64],
+    values: &mut [u64; WORDS],
 ) -> u32
-    ensures { λ r. ⌜ ((r, now (values .exit)), now (out .exit)) ≡ writing pickWords (udtInputsOutputs (now (cells .entry)) (now (udt .entry)) (now (source .entry)) (value (halves «wanted_low» «wanted_high»)) (now (out .entry))) (now (out .entry)) (now (values .entry)) ⌝ }
+    ensures { λ r. ⌜ ((r, now (values .exit)), now (out .exit)) ≡ writing pickWords (udtInputsOutputs (now (cells .entry)) (now (udt .entry)) (now (source .entry)) (value (halves «wanted_low» «wanted_high»)) (now (out .entry))) (now (values .entry)) ⌝ }
 {
-    if values.len() < words::WORDS {
-        return words::TOO_FEW;
-    }
     let wanted = Tokens(Amount {
         low: wanted_low,
         high: wanted_high,
@@ -228,13 +241,10 @@ pub extern "C" fn basinpantry_build_base<'a>(
     remote_high: u64,
     remote_reserved: u64,
     out: &mut [u8],
-    values: &mut [u64],
+    values: &mut [u64; WORDS],
 ) -> u32
-    ensures { λ r. ⌜ ((r, now (values .exit)), now (out .exit)) ≡ writing countWords (written (buildBase (lentOf (now (ours .entry)) (now (lock .entry)) (now (udt .entry)) (now (source .entry)) (now (cells .entry)) (now («udt_deps» .entry)) (now («lock_dep» .entry)) (now («extra_deps» .entry))) (request «local_low» «local_high» «local_reserved» «remote_low» «remote_high» «remote_reserved»)) (now (out .entry))) (now (out .entry)) (now (values .entry)) ⌝ }
+    ensures { λ r. ⌜ ((r, now (values .exit)), now (out .exit)) ≡ writing countWords (written (buildBase (lentOf (now (ours .entry)) (now (lock .entry)) (now (udt .entry)) (now (source .entry)) (now (cells .entry)) (now («udt_deps» .entry)) (now («lock_dep» .entry)) (now («extra_deps» .entry))) (request «local_low» «local_high» «local_reserved» «remote_low» «remote_high» «remote_reserved»)) (now (out .entry))) (now (values .entry)) ⌝ }
 {
-    if values.len() < words::WORDS {
-        return words::TOO_FEW;
-    }
     let request = answer_words::request(
         local_low,
         local_high,

@@ -1,4 +1,5 @@
 pub mod Computing
+pub mod KnownFound
 pub mod KnownLines
 pub mod KnownPrinted
 pub mod LinesLaw

@@ -5,7 +5,10 @@ use mathlib.Core.List.{List, [], _∷_, _++_}
 use lib.ListN.{length, take, replicate}
 use Rattle.arithmetic.specs.LittleEndian.{toLe}
 use Rattle.case_file.specs.CaseFile.{caseLine}
-use Rattle.answer_words.specs.Buffers.{lineFirst}
+use Rattle.rules.specs.Outcome.{fine}
+use Rattle.base_writer.specs.Answer.{written}
+use Rattle.words.specs.Words.{writing}
+use Rattle.answer_words.specs.Answers.{countWords}
 use Rattle.known_cases.specs.Rows.{Row, _gives_}
 use Rattle.known_cases.specs.Cases.{plain, room, bare, usual, cell, notLive}
 use Rattle.known_outcomes.specs.CaseFiles.{ascii, file}
@@ -43,9 +46,10 @@ printed =
     ∷ (caseLine (file (replicate 65400 0) [] [] []) gives ascii "3\n")
     ∷ []
 
--- its length, and the buffer: 105 bytes are asked for, however short the line is
-abbrev pub inBuffer : List (Row (ℕ × List ℕ))
+-- the number, the four words and the buffer: a byte too few, just enough, and two that keep their value
+abbrev pub inBuffer : List (Row ((ℕ × List ℕ) × List ℕ))
 inBuffer =
-    (lineFirst (caseLine []) (room 104) gives (0, room 104))
-    ∷ (lineFirst (caseLine []) (room 105) gives (2, ascii "3\n" ++ room 103))
+    (writing countWords (written (fine (caseLine [])) (room 1)) (room 4) gives ((13, room 4), room 1))
+    ∷ (writing countWords (written (fine (caseLine [])) (room 2)) (room 4) gives ((0, 2 ∷ room 3), ascii "3\n"))
+    ∷ (writing countWords (written (fine (caseLine [])) (room 4)) (room 4) gives ((0, 2 ∷ room 3), ascii "3\n" ++ room 2))
     ∷ []

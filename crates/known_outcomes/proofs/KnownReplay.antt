@@ -36,8 +36,8 @@ pub replay-refusals : (leaves (replayOf expectedLock tokenType [] (lent ++ (0 �
 unfolding computing replayOf leaves
 replay-refusals = (refl, refl, refl)
 
--- the first update's answer by itself: four of the lent words are set, and three are too few
-pub answered-in-words : (inWords surplusWords (judge expectedLock tokenType [] opening) (replicate 5 7) ≡ (0, 860 ∷ 0 ∷ 1 ∷ 0 ∷ 7 ∷ []))
-    × (inWords surplusWords (judge expectedLock tokenType [] opening) (replicate 3 7) ≡ (13, replicate 3 7))
+-- the first update's answer by itself sets four words; a refusal that carries no value, of a transaction that can't be read, none
+pub answered-in-words : (inWords surplusWords (judge expectedLock tokenType [] opening) (replicate 4 7) ≡ (0, 860 ∷ 0 ∷ 1 ∷ 0 ∷ []))
+    × (inWords surplusWords (judge expectedLock tokenType (0 ∷ []) opening) (replicate 4 7) ≡ (1, replicate 4 7))
 unfolding computing numberOf valuesOf surplusWords setWords inWords
 answered-in-words = (refl, refl)

@@ -1,16 +1,23 @@
 -- Where an item stands: one law for each way out of `item`.
 use mathlib.Core.Path.{_≡_, refl, ap, _∙_}
 use Prim.Native.Nat.{ℕ, _+_, _≤_, _<_}
+use mathlib.Core.Bool.{Bool, true, not}
 use mathlib.Core.List.{List}
 use native.Mathlib.Omega.{arith}
-use borrow.Author.Tests.{lt-ltb, le-ltb}
+use borrow.Author.Tests.{lt-ltb, le-ltb, not-true}
 use lib.ListN.{length}
 use Rattle.molecule.specs.Layout.{inside, partStart, fieldStart, fixStart, itemStart, entryStart}
+use Rattle.molecule.specs.Molecule.{readable}
+use Rattle.transaction.specs.Ckb.{Transaction}
 use Rattle.transaction.specs.Tx.{rawField, rawStart, witnessesOf}
 use Rattle.transaction_lists.specs.Lists.{listIn, startOf, placeIn}
 use Rattle.reader.specs.Places.{tableAt, tableStart, fixvecAt, fixvecStart, rawAt, witnessesAt}
 use Rattle.reader.proofs.TransactionLaws.{reads-cell-deps, reads-header-deps, reads-inputs, reads-outputs, reads-outputs-data, reads-witnesses}
 use Rattle.transaction_lists.proofs.ListLaws.{reads-it, left-is-witnesses}
+
+pub place-unread : (tx : List ℕ) (list i : ℕ) (p : ℕ × ℕ) {r : Bool} {q : ℕ × ℕ} → r ≡ readable Transaction tx → not r ≡ true → q ≡ inside p (partStart tx 0 0) → q ≡ inside p (placeIn tx list i)
+unfolding placeIn partStart listIn
+place-unread tx list i p {r} e h k = k ∙ ap (inside p) (rw (← e, not-true r h, le-ltb i 0 (omega arith)) (omega arith))
 
 module _ (tx : List ℕ) (list i : ℕ) (p : ℕ × ℕ) {n : ℕ} {q : ℕ × ℕ} (e : n ≡ length (listIn tx list)) where
   pub place-none : n ≤ i → q ≡ inside p (partStart tx 0 0) → q ≡ inside p (placeIn tx list i)

@@ -9,9 +9,6 @@ use Rattle.molecule.specs.Molecule.{readable}
 use Rattle.transaction.specs.Ckb.{Transaction}
 use Rattle.transaction.specs.Tx.{Tx, txAt, rawField, rawStart, witnessesOf}
 
-unfoldable pub versionOf : List ℕ → ℕ
-versionOf s = cond (readable Transaction s) (txAt s .version) 0
-
 unfoldable pub listOf : Tx → ℕ → List (List ℕ)
 listOf tx list = getD (tx .cellDeps ∷ tx .headerDeps ∷ tx .inputs ∷ tx .outputs ∷ tx .outputsData ∷ tx .witnesses ∷ []) list []
 

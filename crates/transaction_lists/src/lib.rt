@@ -1,9 +1,20 @@
-// What stands in a transaction, with its lists by number, for a caller that has no part of the bytes in hand. Each call reads whether the bytes are a transaction.
-use reader::lists;
+// What stands in a transaction, with its lists by number, for a caller that has no part of the bytes in hand. Each call reads once whether the bytes are a transaction.
+use error::Refusal;
+use reader::lists as reading;
 ghost use mathlib.Core.Path.{_≡_};
+ghost use mathlib.Core.Bool.{true};
 ghost use lib.ListN.{length};
 ghost use Rattle.molecule.specs.Layout.{inside};
-ghost use Rattle.transaction_lists.specs.Lists.{versionOf, listIn, itemIn, placeIn};
+ghost use Rattle.molecule.specs.Molecule.{readable};
+ghost use Rattle.transaction.specs.Ckb.{Transaction};
+ghost use Rattle.transaction_lists.specs.Lists.{listIn, itemIn, placeIn};
+ghost use Rattle.transaction_lists.specs.Found.{told, versionFound, countFound};
+
+// A number that a transaction was asked for.
+pub enum Found {
+    Number(u32),
+    Refused(Refusal),
+}
 
 const CELL_DEPS: u32 = 0;
 
@@ -17,42 +28,56 @@ const OUTPUTS_DATA: u32 = 4;
 
 const WITNESSES: u32 = 5;
 
-// The version, and 0 where there is no transaction.
-pub fn version(tx: &[u8]) -> u32
-    ensures { λ r. ⌜ r ≡ versionOf (now (tx .entry)) ⌝ }
+// How many lists there are.
+const LISTS: u32 = 6;
+
+// The version. Refused: bytes that are no transaction (1).
+pub fn version(tx: &[u8]) -> Found
+    ensures { λ r. ⌜ told r ≡ versionFound (now (tx .entry)) ⌝ }
 {
     if !transaction::is_transaction(tx) {
-        return 0;
+        return Found::Refused(Refusal::OurTransactionUnreadable);
     }
-    lists::version(tx)
+    Found::Number(reading::version(tx))
 }
 
-// How many items a list has.
-pub fn item_count(tx: &[u8], list: u32) -> u32
+// How many items a list of a transaction has.
+fn count(tx: &[u8], list: u32) -> u32
+    requires { ⌜ readable Transaction (now tx) ≡ true ⌝ }
     ensures { λ r. ⌜ r ≡ length (listIn (now (tx .entry)) list) ⌝ }
 {
-    if !transaction::is_transaction(tx) {
-        return 0;
-    }
     if list == CELL_DEPS {
-        return lists::cell_dep_count(tx);
+        return reading::cell_dep_count(tx);
     }
     if list == HEADER_DEPS {
-        return lists::header_dep_count(tx);
+        return reading::header_dep_count(tx);
     }
     if list == INPUTS {
-        return lists::input_count(tx);
+        return reading::input_count(tx);
     }
     if list == OUTPUTS {
-        return lists::output_count(tx);
+        return reading::output_count(tx);
     }
     if list == OUTPUTS_DATA {
-        return lists::output_data_count(tx);
+        return reading::output_data_count(tx);
     }
     if list == WITNESSES {
-        return lists::witness_count(tx);
+        return reading::witness_count(tx);
     }
     0
+}
+
+// How many items a list has. Refused: bytes that are no transaction (1), a list that there is not (3).
+pub fn item_count(tx: &[u8], list: u32) -> Found
+    ensures { λ r. ⌜ told r ≡ countFound (now (tx .entry)) list ⌝ }
+{
+    if !transaction::is_transaction(tx) {
+        return Found::Refused(Refusal::OurTransactionUnreadable);
+    }
+    if LISTS <= list {
+        return Found::Refused(Refusal::LentBytesUnreadable);
+    }
+    Found::Number(count(tx, list))
 }
 
 // The item at a place, and no bytes past the last, as its stretch of the lent bytes.
@@ -60,25 +85,28 @@ pub fn item(tx: &[u8], list: u32, i: usize) -> &[u8]
     ensures { λ r. ⌜ now r ≡ itemIn (now (tx .entry)) list i ⌝ }
     ensures { λ r. ⌜ r .ptr ≡ inside (tx .entry .ptr) (placeIn (now (tx .entry)) list i) ⌝ }
 {
-    let n = item_count(tx, list) as usize;
+    if !transaction::is_transaction(tx) {
+        return molecule::part(tx, 0, 0);
+    }
+    let n = count(tx, list) as usize;
     if n <= i {
         return molecule::part(tx, 0, 0);
     }
     if list == CELL_DEPS {
-        return lists::cell_dep(tx, i);
+        return reading::cell_dep(tx, i);
     }
     if list == HEADER_DEPS {
-        return lists::header_dep(tx, i);
+        return reading::header_dep(tx, i);
     }
     if list == INPUTS {
-        return lists::input(tx, i);
+        return reading::input(tx, i);
     }
     if list == OUTPUTS {
-        return lists::output(tx, i);
+        return reading::output(tx, i);
     }
     if list == OUTPUTS_DATA {
-        return lists::output_data(tx, i);
+        return reading::output_data(tx, i);
     }
     // the last of the lists, since an item is there
-    lists::witness(tx, i)
+    reading::witness(tx, i)
 }

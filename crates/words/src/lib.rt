@@ -1,4 +1,4 @@
-// How an answer crosses to C: a number, and four words at the start of a lent array.
+// How an answer crosses to C: a number, and the words that it has to tell at the start of four that are lent. All other words keep their value.
 use error::Refusal;
 use rules::Update;
 ghost use mathlib.Core.Path.{_≡_};
@@ -7,31 +7,53 @@ ghost use Rattle.error.specs.Refusal.{number, values};
 ghost use Rattle.rules.specs.Told.{told};
 ghost use Rattle.words.specs.Words.{setWords, inWords, surplusWords};
 
-// How many words an answer has.
+// How many words are lent: no answer has more to tell.
 pub const WORDS: usize = 4;
 
-// The answer where fewer are lent: the number of Refusal::BufferTooShort.
-pub const TOO_FEW: u32 = 13;
-
-// Sets the first four words, and answers the number; where there are fewer, sets none and answers 13.
-pub fn set_four(words: &mut [u64], number: u32, a: u64, b: u64, c: u64, d: u64) -> u32
-    ensures { λ r. ⌜ (r, now (words .exit)) ≡ setWords number (a ∷ b ∷ c ∷ d ∷ []) (now (words .entry)) ⌝ }
+// Sets the first word, and answers the number.
+pub fn set_one(words: &mut [u64; WORDS], number: u32, a: u64) -> u32
+    ensures { λ r. ⌜ (r, now (words .exit)) ≡ setWords number (a ∷ []) (now (words .entry)) ⌝ }
 {
-    if words.len() < WORDS {
-        return TOO_FEW;
-    }
-    words[0] = a;
-    words[1] = b;
-    words[2] = c;
-    words[3] = d;
+    let all = &mut words[..];
+    all[0] = a;
     number
 }
 
-// A refusal: its number, and the values that it carries.
-pub fn tell_refusal(why: Refusal, words: &mut [u64]) -> u32
+// Sets the first three words, and answers the number.
+pub fn set_three(words: &mut [u64; WORDS], number: u32, a: u64, b: u64, c: u64) -> u32
+    ensures { λ r. ⌜ (r, now (words .exit)) ≡ setWords number (a ∷ b ∷ c ∷ []) (now (words .entry)) ⌝ }
+{
+    let all = &mut words[..];
+    all[0] = a;
+    all[1] = b;
+    all[2] = c;
+    number
+}
+
+// Sets all four words, and answers the number.
+pub fn set_four(words: &mut [u64; WORDS], number: u32, a: u64, b: u64, c: u64, d: u64) -> u32
+    ensures { λ r. ⌜ (r, now (words .exit)) ≡ setWords number (a ∷ b ∷ c ∷ d ∷ []) (now (words .entry)) ⌝ }
+{
+    let all = &mut words[..];
+    all[0] = a;
+    all[1] = b;
+    all[2] = c;
+    all[3] = d;
+    number
+}
+
+// A refusal: its number, and the values that it carries, which are none, one or four.
+pub fn tell_refusal(why: Refusal, words: &mut [u64; WORDS]) -> u32
     ensures { λ r. ⌜ (r, now (words .exit)) ≡ setWords (number why) (values why) (now (words .entry)) ⌝ }
 {
     let number = why.number() as u32;
+    let count = why.value_count();
+    if count == 0 {
+        return number;
+    }
+    if count == 1 {
+        return set_one(words, number, why.value(0));
+    }
     set_four(
         words,
         number,
@@ -43,7 +65,7 @@ pub fn tell_refusal(why: Refusal, words: &mut [u64]) -> u32
 }
 
 // The answer of an update: an acceptance has the surplus of capacity and that of the token, the low half of each first.
-pub fn tell_update(update: Update, words: &mut [u64]) -> u32
+pub fn tell_update(update: Update, words: &mut [u64; WORDS]) -> u32
     ensures { λ r. ⌜ (r, now (words .exit)) ≡ inWords surplusWords (told update) (now (words .entry)) ⌝ }
 {
     match update {

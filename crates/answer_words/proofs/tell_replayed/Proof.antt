@@ -7,10 +7,8 @@ tell-replayed-spec =
     tie.close
     (tie.spec
     (λ c. search ways)  -- enum-known-replayed
-    (λ c κs. search ways)  -- set-four-requires
+    (λ c κs. search ways)  -- set-three-requires
     (λ c. search ways)  -- enum-known-replayed-2
     (λ c κs. search ways)  -- tell-refusal-requires
-    (λ c. search ways)  -- same-length
     (λ c. search ways)  -- returns
-    (λ c. search ways)  -- same-length-2
     (λ c. search ways))  -- returns-2

@@ -6,10 +6,8 @@ pub basinpantry-build-base-spec : {M : Type 1} → statement M
 basinpantry-build-base-spec =
     tie.close
     (tie.spec
-    (λ c. search ways)  -- returns
     (λ c κs. search ways)  -- request-requires
     (λ c κs. search ways)  -- build-base-requires
     (λ c κs. search ways)  -- tell-written-requires
     (λ c. search ways)  -- same-length
-    (λ c. search ways)  -- same-length-2
-    (λ c. search ways))  -- returns-2
+    (λ c. search ways))  -- returns

@@ -9,5 +9,4 @@ basinpantry-build-funding-cell-spec =
     (λ c κs. search ways)  -- request-requires
     (λ c κs. search ways)  -- build-funding-cell-requires
     (λ c κs. search ways)  -- tell-cell-requires
-    (λ c. search ways)  -- same-length
     (λ c. search ways))  -- returns

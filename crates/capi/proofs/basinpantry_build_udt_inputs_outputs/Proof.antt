@@ -6,9 +6,7 @@ pub basinpantry-build-udt-inputs-outputs-spec : {M : Type 1} → statement M
 basinpantry-build-udt-inputs-outputs-spec =
     tie.close
     (tie.spec
-    (λ c. search ways)  -- returns
     (λ c κs. search ways)  -- build-udt-inputs-outputs-requires
     (λ c κs. search ways)  -- tell-pick-requires
     (λ c. search ways)  -- same-length
-    (λ c. search ways)  -- same-length-2
-    (λ c. search ways))  -- returns-2
+    (λ c. search ways))  -- returns

@@ -8,5 +8,6 @@ basinpantry-check-case-spec =
     (tie.spec
     (λ c κs. search ways)  -- check-case-requires
     (λ c κs. search ways)  -- put-line-requires
+    (λ c κs. search ways)  -- tell-written-requires
     (λ c. search ways)  -- same-length
     (λ c. search ways))  -- returns

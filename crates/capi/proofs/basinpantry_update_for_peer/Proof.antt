@@ -8,5 +8,4 @@ basinpantry-update-for-peer-spec =
     (tie.spec
     (λ c κs. search ways)  -- update-for-peer-requires
     (λ c κs. search ways)  -- tell-update-requires
-    (λ c. search ways)  -- same-length
     (λ c. search ways))  -- returns

@@ -6,13 +6,12 @@ pub put-words-spec : {M : Type 1} → statement M
 put-words-spec =
     tie.close
     (tie.spec
-    (λ c. search ways)  -- slice-aggregate-tell-update
     (λ c κs. search ways)  -- tell-update-requires
     (λ c. search ways)  -- cast-number
-    (λ c. search ways)  -- array-read-t12
-    (λ c. search ways)  -- array-read-t15
-    (λ c. search ways)  -- array-read-t18
-    (λ c. search ways)  -- array-read-t21
+    (λ c. search ways)  -- array-read-t11
+    (λ c. search ways)  -- array-read-t14
+    (λ c. search ways)  -- array-read-t17
+    (λ c. search ways)  -- array-read-t20
     (λ c. search ways)  -- slice-aggregate-copy
     (λ c κs. search ways)  -- copy-requires
     (λ c. search ways)  -- same-length

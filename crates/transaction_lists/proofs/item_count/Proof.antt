@@ -8,16 +8,6 @@ item-count-spec =
     (tie.spec
     (λ c κs. search ways)  -- is-transaction-requires
     (λ c. search ways)  -- returns
-    (λ c κs. search ways)  -- cell-dep-count-requires
     (λ c. search ways)  -- returns-2
-    (λ c κs. search ways)  -- header-dep-count-requires
-    (λ c. search ways)  -- returns-3
-    (λ c κs. search ways)  -- input-count-requires
-    (λ c. search ways)  -- returns-4
-    (λ c κs. search ways)  -- output-count-requires
-    (λ c. search ways)  -- returns-5
-    (λ c κs. search ways)  -- output-data-count-requires
-    (λ c. search ways)  -- returns-6
-    (λ c κs. search ways)  -- witness-count-requires
-    (λ c. search ways)  -- returns-7
-    (λ c. search ways))  -- returns-8
+    (λ c κs. search ways)  -- count-requires
+    (λ c. search ways))  -- returns-3

@@ -8,10 +8,14 @@ tell-refusal-spec =
     (tie.spec
     (λ c κs. search ways)  -- number-requires
     (λ c. search ways)  -- cast-number
+    (λ c κs. search ways)  -- value-count-requires
+    (λ c. search ways)  -- returns
     (λ c κs. search ways)  -- value-requires
+    (λ c κs. search ways)  -- set-one-requires
+    (λ c. search ways)  -- returns-2
     (λ c κs. search ways)  -- value-requires-2
     (λ c κs. search ways)  -- value-requires-3
     (λ c κs. search ways)  -- value-requires-4
+    (λ c κs. search ways)  -- value-requires-5
     (λ c κs. search ways)  -- set-four-requires
-    (λ c. search ways)  -- same-length
-    (λ c. search ways))  -- returns
+    (λ c. search ways))  -- returns-3

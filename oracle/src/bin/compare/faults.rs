@@ -31,7 +31,7 @@ pub fn of(function: &str) -> Vec<Fault> {
     let mut places = vec![Answer];
     for (name, kind) in args.iter() {
         match *kind {
-            "words" => places.extend((0..4).map(|i| Word(name, i))),
+            "words" | "values" => places.extend((0..4).map(|i| Word(name, i))),
             "buffer" => places.extend([First(name), Last(name), Between(name)]),
             _ => {}
         }
@@ -54,11 +54,6 @@ pub trait Changed {
 }
 impl Changed for u32 {
     fn changed(self) -> u32 {
-        self ^ 1
-    }
-}
-impl Changed for usize {
-    fn changed(self) -> usize {
         self ^ 1
     }
 }

@@ -2,9 +2,8 @@
 //! with the header.
 #![allow(clippy::too_many_arguments)]
 use crate::faults;
-use crate::report::{Outcome, Source};
 
-/// Declares each function as C has it, a slice as a pointer and a length, and beside it the same with slices.
+/// Declares each function as C has it, a slice as a pointer and a length and the values as a pointer, and beside it the same with slices.
 macro_rules! interface {
     ($(fn $name:ident = $symbol:ident($($arg:ident: $kind:tt),*) -> $out:ty;)*) => {
         /// Each function with its arguments and their kinds.
@@ -19,10 +18,12 @@ macro_rules! interface {
     };
     (@fault $s:ident $a:ident buffer) => { faults::buffer(stringify!($s), stringify!($a), $a) };
     (@fault $s:ident $a:ident words) => { faults::words(stringify!($s), stringify!($a), $a) };
+    (@fault $s:ident $a:ident values) => { faults::words(stringify!($s), stringify!($a), $a) };
     (@fault $s:ident $a:ident $k:ident) => {};
     (@slice bytes) => { &[u8] };
     (@slice buffer) => { &mut [u8] };
     (@slice words) => { &mut [u64] };
+    (@slice values) => { &mut [u64; 4] };
     (@slice $t:ident) => { $t };
     (@declare $s:ident [$($done:tt)*] [$a:ident: bytes, $($rest:tt)*] $out:ty) => {
         interface!(@declare $s [$($done)* _: *const u8, _: usize,] [$($rest)*] $out)
@@ -32,6 +33,9 @@ macro_rules! interface {
     };
     (@declare $s:ident [$($done:tt)*] [$a:ident: words, $($rest:tt)*] $out:ty) => {
         interface!(@declare $s [$($done)* _: *mut u64, _: usize,] [$($rest)*] $out)
+    };
+    (@declare $s:ident [$($done:tt)*] [$a:ident: values, $($rest:tt)*] $out:ty) => {
+        interface!(@declare $s [$($done)* _: *mut u64,] [$($rest)*] $out)
     };
     (@declare $s:ident [$($done:tt)*] [$a:ident: $t:ident, $($rest:tt)*] $out:ty) => {
         interface!(@declare $s [$($done)* _: $t,] [$($rest)*] $out)
@@ -48,6 +52,9 @@ macro_rules! interface {
     (@call $s:ident [$($done:tt)*] [$a:ident: words, $($rest:tt)*]) => {
         interface!(@call $s [$($done)* $a.as_mut_ptr(), $a.len(),] [$($rest)*])
     };
+    (@call $s:ident [$($done:tt)*] [$a:ident: values, $($rest:tt)*]) => {
+        interface!(@call $s [$($done)* $a.as_mut_ptr(),] [$($rest)*])
+    };
     (@call $s:ident [$($done:tt)*] [$a:ident: $t:ident, $($rest:tt)*]) => {
         interface!(@call $s [$($done)* $a,] [$($rest)*])
     };
@@ -59,25 +66,26 @@ interface! {
     fn is_script = basinpantry_is_script(s: bytes) -> bool;
     fn is_records = basinpantry_is_records(s: bytes) -> bool;
     fn is_out_points = basinpantry_is_out_points(s: bytes) -> bool;
-    fn version = basinpantry_version(tx: bytes) -> u32;
-    fn item_count = basinpantry_item_count(tx: bytes, list: u32) -> u32;
-    fn item = basinpantry_item(tx: bytes, list: u32, i: usize, out: buffer, values: words) -> u32;
+    fn version = basinpantry_version(tx: bytes, values: values) -> u32;
+    fn item_count = basinpantry_item_count(tx: bytes, list: u32, values: values) -> u32;
+    fn items = basinpantry_items(tx: bytes, list: u32, places: words, values: values) -> u32;
+    fn item = basinpantry_item(tx: bytes, list: u32, i: usize, out: buffer, values: values) -> u32;
     fn write_transaction = basinpantry_write_transaction(version: u32, cell_deps: bytes, header_deps: bytes, inputs: bytes, outputs: bytes,
-        outputs_data: bytes, witnesses: bytes, out: buffer, values: words) -> u32;
-    fn rewrite = basinpantry_rewrite(tx: bytes, out: buffer, values: words) -> u32;
+        outputs_data: bytes, witnesses: bytes, out: buffer, values: values) -> u32;
+    fn rewrite = basinpantry_rewrite(tx: bytes, out: buffer, values: values) -> u32;
 
     fn update_for_peer = basinpantry_update_for_peer(ours: bytes, peer: bytes, lock: bytes, udt: bytes, source: bytes, rate: u64, records: bytes,
-        values: words) -> u32;
-    fn replay = basinpantry_replay(start: bytes, lock: bytes, udt: bytes, updates: bytes, answers: words, values: words) -> u32;
-    fn check_case = basinpantry_check_case(file: bytes, line: buffer) -> usize;
+        values: values) -> u32;
+    fn replay = basinpantry_replay(start: bytes, lock: bytes, udt: bytes, updates: bytes, answers: words, values: values) -> u32;
+    fn check_case = basinpantry_check_case(file: bytes, line: buffer, values: values) -> u32;
 
     fn build_funding_cell = basinpantry_build_funding_cell(ours: bytes, udt: bytes, local_low: u64, local_high: u64, local_reserved: u64,
-        remote_low: u64, remote_high: u64, remote_reserved: u64, values: words) -> u32;
+        remote_low: u64, remote_high: u64, remote_reserved: u64, values: values) -> u32;
     fn build_udt_inputs_outputs = basinpantry_build_udt_inputs_outputs(cells: bytes, udt: bytes, source: bytes, wanted_low: u64, wanted_high: u64,
-        out: buffer, values: words) -> u32;
+        out: buffer, values: values) -> u32;
     fn build_base = basinpantry_build_base(ours: bytes, lock: bytes, udt: bytes, source: bytes, cells: bytes, udt_deps: bytes, lock_dep: bytes,
         extra_deps: bytes, local_low: u64, local_high: u64, local_reserved: u64, remote_low: u64, remote_high: u64, remote_reserved: u64,
-        out: buffer, values: words) -> u32;
+        out: buffer, values: values) -> u32;
 
     fn hold_funding = basinpantry_hold_funding(held: buffer, holder: u64, cells: bytes) -> u32;
     fn hold_for_watchtower = basinpantry_hold_for_watchtower(held: buffer, cells: bytes, time: u64) -> u32;
@@ -96,22 +104,19 @@ interface! {
 }
 
 /// What stands in lent words and buffers before a call.
-const WORD: u64 = 0x5555_5555_5555_5555;
+pub const WORD: u64 = 0x5555_5555_5555_5555;
 pub const BYTE: u8 = 0xa5;
 
-/// Lends four words and one behind them to a call, which is to set the four and leave the fifth.
-pub fn with_words(call: impl FnOnce(&mut [u64]) -> u32) -> (u32, [u64; 4]) {
-    let mut words = [WORD; 5];
-    let number = call(&mut words);
-    assert!(words[4] == WORD, "a word behind the four was set");
-    (number, words[..4].try_into().unwrap())
+/// Lends the four words of an answer to a call.
+pub fn with_values(call: impl FnOnce(&mut [u64; 4]) -> u32) -> (u32, [u64; 4]) {
+    let mut values = [WORD; 4];
+    let number = call(&mut values);
+    (number, values)
 }
 
-/// The same with three words, which are too few: 13, and they stay as they are.
-pub fn with_too_few_words(call: impl FnOnce(&mut [u64]) -> u32) -> Outcome {
-    let mut words = [WORD; 3];
-    let number = call(&mut words);
-    let right = number == 13 && words == [WORD; 3];
-    let wrong = (!right).then(|| format!("with three words for values: the library says {number}, and leaves {words:?}"));
-    Outcome { number, source: Source::Intended("13 where the original has no such bound: words for values"), wrong }
+/// The four words after a call that tells these: the others are as they were.
+pub fn values(told: &[u64]) -> [u64; 4] {
+    let mut values = [WORD; 4];
+    values[..told.len()].copy_from_slice(told);
+    values
 }

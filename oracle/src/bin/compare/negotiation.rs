@@ -100,23 +100,24 @@ impl Input {
         let count = updates.as_ref().map_or(0, Vec::len);
         let room = (5 * count + 1).saturating_sub(self.short);
         let mut words = vec![u64::MAX; room];
-        let (number, values) = library::with_words(|v| library::replay(&self.start, &self.lock, &self.udt, &lent, &mut words, v));
+        let (number, values) = library::with_values(|v| library::replay(&self.start, &self.lock, &self.udt, &lent, &mut words, v));
         let mut left = vec![u64::MAX; room];
         let (wanted, source) = match updates {
-            None => ((3, [0; 4]), Source::Reader),
-            Some(_) if room < 5 * count => ((13, [0; 4]), Source::Intended("13 where the original has no such bound: the answers of replay")),
+            None => ((3, vec![]), Source::Reader),
+            Some(_) if room < 5 * count => ((13, vec![]), Source::Intended("13 where the original has no such bound: the answers of replay")),
             Some(updates) => {
                 let (verdicts, at) = self.judged(&updates);
                 for (k, v) in verdicts.iter().enumerate() {
                     let (n, values, _) = expected(v);
                     left[5 * k] = n as u64;
-                    left[5 * k + 1..5 * k + 5].copy_from_slice(&values);
+                    left[5 * k + 1..5 * k + 5].fill(0);
+                    left[5 * k + 1..][..values.len()].copy_from_slice(&values);
                 }
                 let accepted = verdicts.iter().filter(|v| matches!(v, Verdict::Accept(..))).count();
-                ((0, [count as u64, accepted as u64, at as u64, 0]), Source::Original)
+                ((0, vec![count as u64, accepted as u64, at as u64]), Source::Original)
             }
         };
-        let differs = (number, values) != wanted || words != left;
+        let differs = (number, values) != (wanted.0, library::values(&wanted.1)) || words != left;
         let wrong = || format!("replay: expected {wanted:?} {left:?}, the library says {number} {values:?} {words:?}");
         Outcome { number, source, wrong: differs.then(wrong) }
     }
@@ -127,11 +128,11 @@ impl Input {
         for (k, u) in self.updates.iter().enumerate() {
             let call = Update { ours: here.clone(), lock: self.lock.clone(), udt: self.udt.clone(), ..u.clone() };
             let verdict = original.as_mut().map_or(Verdict::Unreadable(1), |o| o.update(call.lent()));
-            let (number, words, source) = expected(&verdict);
-            let (said, values) = library::with_words(|words| call.call(words));
+            let (number, told, source) = expected(&verdict);
+            let (said, values) = library::with_values(|values| call.call(values));
             let mut wrong = None;
-            if (said, values) != (number, words) {
-                wrong = Some(format!("update {k}: expected {number} {words:?} ({source:?}), the library says {said} {values:?}"));
+            if (said, values) != (number, library::values(&told)) {
+                wrong = Some(format!("update {k}: expected {number} {told:?} ({source:?}), the library says {said} {values:?}"));
             }
             if let Verdict::Accept(c, t) = verdict {
                 accepted.push((u, (c, t)));

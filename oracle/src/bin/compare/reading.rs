@@ -1,6 +1,6 @@
 //! Which strings can be read, what stands in them, and what is written: the library beside the stand-ins' reader and writer, since the original has none.
 use crate::kind::Kind;
-use crate::library::{self, BYTE};
+use crate::library::{self, BYTE, WORD};
 use crate::parts::{damaged, smaller_bytes, Tx};
 use crate::random::Rng;
 use crate::report::{Outcome, Source};
@@ -51,14 +51,17 @@ impl Reading {
     fn fields(input: &Input) -> Vec<Outcome> {
         let s = &input.bytes;
         let read = Transaction::read(s);
-        let version = library::version(s);
-        let mut out = vec![outcome(0, "version", version == read.as_ref().map_or(0, |t| t.raw().version()))];
+        let unread = if read.is_some() { 0 } else { 1 };
+        let version: Vec<u64> = read.iter().map(|t| t.raw().version().into()).collect();
+        let mut out = vec![told("version", unread, &version, |values| library::version(s, values))];
         let lists = read.as_ref().map(Self::lists).unwrap_or_default();
         let (no_items, none) = (vec![], vec![]);
         for k in 0..7 {
-            let items = lists.get(k).unwrap_or(&no_items);
-            let count = library::item_count(s, k as u32);
-            out.push(outcome(0, "item_count", count as usize == items.len()));
+            let items = lists.get(k).filter(|_| read.is_some()).unwrap_or(&no_items);
+            let no_list = if unread == 0 && k == 6 { 3 } else { unread };
+            let count = if no_list == 0 { vec![items.len() as u64] } else { vec![] };
+            out.push(told("item_count", no_list, &count, |values| library::item_count(s, k as u32, values)));
+            out.push(places(s, k as u32, items, no_list, input.room));
             // each of a few, and one beyond
             for i in (0..items.len().min(3)).chain([items.len(), usize::MAX]) {
                 let (item, answer) = match items.get(i) {
@@ -66,7 +69,7 @@ impl Reading {
                     Some(item) if item.len() > input.room => (&none, (13, 0)),
                     Some(item) => (item, (0, item.len() as u64)),
                 };
-                let call = |buffer: &mut [u8], words: &mut [u64]| library::item(s, k as u32, i, buffer, words);
+                let call = |buffer: &mut [u8], values: &mut [u64; 4]| library::item(s, k as u32, i, buffer, values);
                 out.push(written("item", input.room, item, answer, call));
             }
         }
@@ -80,7 +83,7 @@ impl Reading {
             true => 0,
         };
         let (written_bytes, count): (&[u8], _) = if number == 0 { (s, s.len() as u64) } else { (&[], 0) };
-        written("rewrite", input.room, written_bytes, (number, count), |buffer, words| library::rewrite(s, buffer, words))
+        written("rewrite", input.room, written_bytes, (number, count), |buffer, values| library::rewrite(s, buffer, values))
     }
     /// The transaction's six lists, written from where they stand in it.
     fn write(input: &Input) -> Option<Outcome> {
@@ -95,17 +98,38 @@ impl Reading {
         let w = field(s, 1);
         let fits = s.len() <= input.room.min(133_116);
         let (expected, answer): (&[u8], _) = if fits { (s, (0, s.len() as u64)) } else { (&[], (13, 0)) };
-        let call =
-            |buffer: &mut [u8], words: &mut [u64]| library::write_transaction(raw.version(), &f[0], &f[1], &f[2], &f[3], &f[4], &w, buffer, words);
+        let call = |buffer: &mut [u8], values: &mut [u64; 4]| {
+            library::write_transaction(raw.version(), &f[0], &f[1], &f[2], &f[3], &f[4], &w, buffer, values)
+        };
         Some(written("write_transaction", input.room, expected, answer, call))
     }
 }
+/// A call that tells values alone.
+fn told(what: &str, expected: u32, values: &[u64], call: impl FnOnce(&mut [u64; 4]) -> u32) -> Outcome {
+    let (number, said) = library::with_values(call);
+    outcome(number, what, (number, said) == (expected, library::values(values)))
+}
+/// Where the items stand: each is read there, the words behind them are as they were, and with one word too few all of them are.
+fn places(s: &[u8], list: u32, items: &[Vec<u8>], no_list: u32, room: usize) -> Outcome {
+    let short = no_list == 0 && !items.is_empty() && room % 5 == 4;
+    let mut words = vec![WORD; if short { 2 * items.len() - 1 } else { 2 * items.len() + 1 }];
+    let (number, values) = library::with_values(|values| library::items(s, list, &mut words, values));
+    if no_list != 0 || short {
+        let kept = words.iter().all(|w| *w == WORD) && values == library::values(&[]);
+        let source = if short { Source::Intended("13 where the original has no such bound: words for places") } else { Source::Reader };
+        return Outcome { source, ..outcome(number, "items", number == if short { 13 } else { no_list } && kept) };
+    }
+    let stands = |place: &[u64], item: &Vec<u8>| place[1] == item.len() as u64 && s.get(place[0] as usize..).is_some_and(|s| s.starts_with(item));
+    let right = words.chunks_exact(2).zip(items).all(|(place, item)| stands(place, item)) && words.last() == Some(&WORD);
+    outcome(number, "items", right && (number, values) == (0, library::values(&[items.len() as u64])))
+}
 /// A call that writes to the start of a buffer: its answer with one value, what is written, and the rest of the buffer as it was.
-fn written(what: &str, room: usize, expected: &[u8], answer: (u32, u64), call: impl FnOnce(&mut [u8], &mut [u64]) -> u32) -> Outcome {
+fn written(what: &str, room: usize, expected: &[u8], answer: (u32, u64), call: impl FnOnce(&mut [u8], &mut [u64; 4]) -> u32) -> Outcome {
     let mut buffer = vec![BYTE; room];
-    let (number, values) = library::with_words(|words| call(&mut buffer, words));
+    let (number, values) = library::with_values(|values| call(&mut buffer, values));
     let (front, rest) = buffer.split_at(expected.len().min(room));
-    let right = (number, values) == (answer.0, [answer.1, 0, 0, 0]) && front == expected && rest.iter().all(|b| *b == BYTE);
+    let told: &[u64] = if answer.0 == 0 { &[answer.1] } else { &[] };
+    let right = (number, values) == (answer.0, library::values(told)) && front == expected && rest.iter().all(|b| *b == BYTE);
     let source = if answer.0 == 13 { Source::Intended("13 where the original has no such bound: a buffer") } else { Source::Reader };
     Outcome { source, ..outcome(number, what, right) }
 }
@@ -120,6 +144,7 @@ impl Kind for Reading {
         "basinpantry_is_out_points",
         "basinpantry_version",
         "basinpantry_item_count",
+        "basinpantry_items",
         "basinpantry_item",
         "basinpantry_rewrite",
         "basinpantry_write_transaction",
@@ -153,7 +178,7 @@ impl Kind for Reading {
     }
 }
 
-const NO_ROOM: &str = "no line where the original has no such bound: room for under 105 bytes";
+const NO_ROOM: &str = "13 where the original has no such bound: room for a line";
 
 /// Case files and their lines.
 pub struct CaseFile;
@@ -178,25 +203,29 @@ impl Kind for CaseFile {
     fn compare(file: &Vec<u8>) -> Vec<Outcome> {
         use oracle::original::update::Verdict;
         let verdict = case::run(file);
-        let mut line = [BYTE; 120];
-        let n = library::check_case(file, &mut line);
         // the line ends in a line feed
         let expected = format!("{verdict}\n");
-        let right = n == expected.len() && &line[..n] == expected.as_bytes() && line[n..].iter().all(|b| *b == BYTE);
+        let long = expected.len();
+        let mut line = [BYTE; 120];
+        // as much room as it needs, now and then
+        let room = if file.len() % 3 == 0 { long } else { 120 };
+        let (answer, values) = library::with_values(|values| library::check_case(file, &mut line[..room], values));
+        let right = (answer, values) == (0, library::values(&[long as u64]));
+        let right = right && &line[..long] == expected.as_bytes() && line[long..].iter().all(|b| *b == BYTE);
         let source = match verdict {
             Verdict::Panic => Source::Intended(crate::update::PANICS),
             Verdict::Unreadable(_) => Source::Reader,
             _ => Source::Original,
         };
-        let number = line[..n.min(120)].iter().take_while(|b| b.is_ascii_digit()).fold(0, |k, d| 10 * k + (d - b'0') as u32);
-        let said = String::from_utf8_lossy(&line[..n.min(120)]).to_string();
-        let mut out = vec![Outcome { number, source, wrong: (!right).then(|| format!("expected {expected:?}, the library says {said:?}")) }];
+        let number = line.iter().take_while(|b| b.is_ascii_digit()).fold(0, |k, d| 10 * k + (d - b'0') as u32);
+        let said = String::from_utf8_lossy(&line[..long]).to_string();
+        let mut out = vec![Outcome { number, source, wrong: (!right).then(|| format!("expected {expected:?}, the library says {answer} {said:?}")) }];
         if file.len().is_multiple_of(64) {
-            let mut short = [BYTE; 104];
-            let none = library::check_case(file, &mut short);
-            let kept = none == 0 && short.iter().all(|b| *b == BYTE);
-            let wrong = (!kept).then(|| format!("room for 104 bytes: the library says {none}"));
-            out.push(Outcome { number: 0, source: Source::Intended(NO_ROOM), wrong });
+            let mut short = vec![BYTE; long - 1];
+            let (none, values) = library::with_values(|values| library::check_case(file, &mut short, values));
+            let kept = (none, values) == (13, library::values(&[])) && short.iter().all(|b| *b == BYTE);
+            let wrong = (!kept).then(|| format!("room for one byte less: the library says {none}"));
+            out.push(Outcome { number: none, source: Source::Intended(NO_ROOM), wrong });
         }
         out
     }

@@ -36,13 +36,13 @@ pub struct Input {
 /// What an answer is to be: its number, the values, and what is written.
 struct Expected {
     number: u32,
-    values: [u64; 4],
+    values: Vec<u64>,
     written: Vec<u8>,
     source: Source,
 }
 impl Expected {
     fn refused(number: u32, source: Source) -> Self {
-        Expected { number, values: [0; 4], written: vec![], source }
+        Expected { number, values: vec![], written: vec![], source }
     }
     fn unreadable(number: u32) -> Self {
         Self::refused(number, Source::Reader)
@@ -58,9 +58,9 @@ impl Expected {
     fn outcome(&self, number: u32, values: [u64; 4], buffer: &[u8]) -> Outcome {
         let Expected { written, source, .. } = self;
         let (front, rest) = buffer.split_at(written.len().min(buffer.len()));
-        let right = (number, values) == (self.number, self.values) && front == written && rest.iter().all(|b| *b == BYTE);
+        let right = (number, values) == (self.number, library::values(&self.values)) && front == written && rest.iter().all(|b| *b == BYTE);
         let wrong = || {
-            let (n, v) = (self.number, self.values);
+            let (n, v) = (self.number, &self.values);
             format!("expected {n} {v:?} {} ({source:?}), the library says {number} {values:?} {}", hex(written), hex(front))
         };
         Outcome { number, source: *source, wrong: (!right).then(wrong) }
@@ -115,15 +115,15 @@ impl Input {
                     use oracle::standins::view::prelude::Unpack;
                     assert!(data.len() == if self.udt.is_empty() { 0 } else { 16 });
                     let [low, high] = halves(read_amount(&data).unwrap_or(0));
-                    let values = [output.capacity().unpack(), low, high, 0];
+                    let values = vec![output.capacity().unpack(), low, high];
                     Expected { number: 0, values, written: vec![], source: Source::Original }
                 }
                 Err(e) => Expected::refused(e.0 as u32, Source::Original),
             }
         };
         let ([ll, lh], [rl, rh]) = (halves(self.local), halves(self.remote));
-        let (number, values) = library::with_words(|words| {
-            library::build_funding_cell(&self.ours, &self.udt, ll, lh, self.local_reserved, rl, rh, self.remote_reserved, words)
+        let (number, values) = library::with_values(|values| {
+            library::build_funding_cell(&self.ours, &self.udt, ll, lh, self.local_reserved, rl, rh, self.remote_reserved, values)
         });
         expected.outcome(number, values, &[])
     }
@@ -139,11 +139,11 @@ impl Input {
                     let picked = inputs.iter().map(|i| i.as_slice()[8..].to_vec());
                     assert!(picked.eq(request.cells.iter().take(inputs.len()).map(|c| c.0.as_slice().to_vec())));
                     assert!(inputs.iter().all(|i| i.as_slice()[..8] == [0; 8]));
-                    let mut values = [inputs.len() as u64, 0, 0, 0];
+                    let mut values = vec![inputs.len() as u64, 0, 0, 0];
                     let mut written = vec![];
                     if let Some((output, data)) = change {
                         assert!(data.len() == 16);
-                        [values[1], values[2]] = halves(read_amount(&data).unwrap());
+                        values[1..3].copy_from_slice(&halves(read_amount(&data).unwrap()));
                         values[3] = output.capacity().unpack();
                         written = output.as_slice().to_vec();
                     }
@@ -156,7 +156,7 @@ impl Input {
         let mut buffer = vec![BYTE; self.room];
         let [low, high] = halves(self.local);
         let (number, values) =
-            library::with_words(|words| library::build_udt_inputs_outputs(&self.cells, &self.udt, &self.source, low, high, &mut buffer, words));
+            library::with_values(|values| library::build_udt_inputs_outputs(&self.cells, &self.udt, &self.source, low, high, &mut buffer, values));
         expected.outcome(number, values, &buffer)
     }
     pub fn lent_readable(&self) -> bool {
@@ -170,7 +170,7 @@ impl Input {
         let mut buffer = vec![BYTE; self.room];
         let ([ll, lh], [rl, rh]) = (halves(self.local), halves(self.remote));
         let Input { ours, lock, udt, source, cells, udt_deps, lock_dep, extra_deps, local_reserved, remote_reserved, .. } = self;
-        let (number, values) = library::with_words(|words| {
+        let (number, values) = library::with_values(|values| {
             library::build_base(
                 ours,
                 lock,
@@ -187,7 +187,7 @@ impl Input {
                 rh,
                 *remote_reserved,
                 &mut buffer,
-                words,
+                values,
             )
         });
         let mut expected = if !self.ours_readable() {
@@ -199,7 +199,7 @@ impl Input {
             match request.base() {
                 Answer::Done(t) => {
                     let written = t.as_slice().to_vec();
-                    let values = [written.len() as u64, 0, 0, 0];
+                    let values = vec![written.len() as u64];
                     Expected { number: 0, values, written, source: Source::Original }.within(self.room)
                 }
                 Answer::Refused(e) => Expected::refused(e.0 as u32, Source::Original),

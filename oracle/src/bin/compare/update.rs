@@ -10,18 +10,14 @@ use oracle::original::update::{judge, read_records, Lent, Verdict};
 
 pub const PANICS: &str = "5 where the original panics: typed, and our output 0 has no data";
 
-/// The number and the four words that a verdict is to be.
-pub fn expected(v: &Verdict) -> (u32, [u64; 4], Source) {
+/// The number and the values that a verdict is to be told with.
+pub fn expected(v: &Verdict) -> (u32, Vec<u64>, Source) {
     let halves = |n: u128| [n as u64, (n >> 64) as u64];
     match v {
-        Verdict::Accept(c, t) => (0, [halves(*c), halves(*t)].concat().try_into().unwrap(), Source::Original),
-        Verdict::Refuse(r) => {
-            let mut words = [0; 4];
-            words[..r.1.len()].copy_from_slice(&r.1);
-            (r.0 as u32, words, Source::Original)
-        }
-        Verdict::Unreadable(n) => (*n as u32, [0; 4], Source::Reader),
-        Verdict::Panic => (5, [0; 4], Source::Intended(PANICS)),
+        Verdict::Accept(c, t) => (0, [halves(*c), halves(*t)].concat(), Source::Original),
+        Verdict::Refuse(r) => (r.0 as u32, r.1.to_vec(), Source::Original),
+        Verdict::Unreadable(n) => (*n as u32, vec![], Source::Reader),
+        Verdict::Panic => (5, vec![], Source::Intended(PANICS)),
     }
 }
 impl Update {
@@ -30,17 +26,17 @@ impl Update {
         Lent { peer, lock, udt, source, rate: *rate, records: read_records(records) }
     }
     /// The library's answer.
-    pub fn call(&self, words: &mut [u64]) -> u32 {
-        library::update_for_peer(&self.ours, &self.peer, &self.lock, &self.udt, &self.source, self.rate, &self.records, words)
+    pub fn call(&self, values: &mut [u64; 4]) -> u32 {
+        library::update_for_peer(&self.ours, &self.peer, &self.lock, &self.udt, &self.source, self.rate, &self.records, values)
     }
     pub fn compare(&self) -> Outcome {
-        let (number, words, source) = expected(&judge(&self.ours, self.lent()));
-        let (said, values) = library::with_words(|words| self.call(words));
-        let differs = (said, values) != (number, words);
+        let (number, told, source) = expected(&judge(&self.ours, self.lent()));
+        let (said, values) = library::with_values(|values| self.call(values));
+        let differs = (said, values) != (number, library::values(&told));
         Outcome {
             number: said,
             source,
-            wrong: differs.then(|| format!("expected {number} {words:?} ({source:?}), the library says {said} {values:?}")),
+            wrong: differs.then(|| format!("expected {number} {told:?} ({source:?}), the library says {said} {values:?}")),
         }
     }
     pub fn smaller(&self) -> Vec<Update> {
@@ -127,15 +123,9 @@ macro_rules! updates {
 pub struct Any;
 updates!(Any, "update", 220, |rng: &mut Rng| any_update(rng).write(), |u: &Update| vec![u.compare()]);
 
-/// Updates with damaged bytes; at times with too few words for the values.
+/// Updates with damaged bytes.
 pub struct Damaged;
-updates!(Damaged, "update_damaged", 120, damaged_update, |u: &Update| {
-    let mut out = vec![u.compare()];
-    if u.peer.len().is_multiple_of(64) {
-        out.push(library::with_too_few_words(|words| u.call(words)));
-    }
-    out
-});
+updates!(Damaged, "update_damaged", 120, damaged_update, |u: &Update| vec![u.compare()]);
 
 fn damaged_update(rng: &mut Rng) -> Update {
     let mut u = any_update(rng).write();

@@ -6,13 +6,7 @@ pub put-line-spec : {M : Type 1} → statement M
 put-line-spec =
     tie.close
     (tie.spec
-    (λ c. search ways)  -- returns
-    (λ c. search ways)  -- sub-put
-    (λ c. search ways)  -- part-put-start
-    (λ c. search ways)  -- part-put-end
-    (λ c κs. search ways)  -- put-requires
+    (λ c κs. search ways)  -- part-requires
+    (λ c κs. search ways)  -- put-first-requires
     (λ c. search ways)  -- same-length
-    (λ c. search ways)  -- returns-2
-    (λ c κs. search ways)  -- put-requires-2
-    (λ c. search ways)  -- same-length-2
-    (λ c. search ways))  -- returns-3
+    (λ c. search ways))  -- returns

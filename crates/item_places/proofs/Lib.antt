@@ -1,0 +1,3 @@
+pub mod AtLaws
+pub mod PlacingLaws
+pub mod Ways
