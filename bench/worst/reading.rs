@@ -23,6 +23,7 @@ const READ_TRANSACTIONS: &[(&str, Call)] = &[
     ("is_transaction", |tx, _| library::is_transaction(tx).into()),
     ("version", VERSION),
     ("item_count", COUNT_WITNESSES),
+    ("items", places_of_witnesses),
     ("item", |tx, out| library::item(tx, 5, 0, out, &mut [0; 4])),
     ("rewrite", |tx, out| library::rewrite(tx, out, &mut [0; 4])),
     ("write_transaction", write_again),
@@ -35,6 +36,10 @@ const READ_LISTS: &[(&str, Call, &[(&str, Bytes)], Bytes)] = &[
     ("build_udt_inputs_outputs", pick, CELLS, |n| write_table(&vec![cell(5); n / 72])),
 ];
 
+/// The places of all witnesses, of which each has four bytes at least in the header.
+fn places_of_witnesses(tx: &[u8], _: &mut [u8]) -> u32 {
+    library::items(tx, 5, &mut vec![0; tx.len() / 2], &mut [0; 4])
+}
 /// Behind the bytes of a transaction with an item in no list but its outputs, data and witnesses: writes it again from these lists.
 fn write_again(tx: &[u8], out: &mut [u8]) -> u32 {
     let word = |at: usize| u32::from_le_bytes(tx[at..at + 4].try_into().expect("4 bytes")) as usize;
