@@ -7,7 +7,7 @@ use native.Mathlib.Omega.{arith}
 use borrow.Author.Tests.{lt-ltb, le-ltb}
 use lib.Dec.{ltb}
 use lib.ListN.{length, drop, length-take, length-drop}
-use Rattle.molecule.specs.Layout.{span, part, partStart, start, fieldOf, fieldStart, fixCount, fixItem, fixStart, itemCount, itemOf, itemStart, content, contentStart, entryOf, entryStart}
+use Rattle.molecule.specs.Layout.{span, part, partStart, start, word, fieldOf, fieldStart, fixItem, fixStart, itemCount, itemOf, itemStart, content, contentStart, entryOf, entryStart}
 use Rattle.transaction.specs.Tx.{txAt, rawField, rawStart, witnessesOf}
 use Rattle.transaction_lists.specs.Lists.{listOf, listIn, itemIn, startOf, placeIn}
 use Rattle.transaction_lists.proofs.ListLaws.{item-as, left-is-witnesses}
@@ -39,14 +39,14 @@ pub field-at : (s : List ℕ) (n i : ℕ) {a b : ℕ} {p : Place} → a ≡ star
 unfolding fieldOf fieldStart
 field-at s n i ea eb h = rw (← ea, ← eb) h
 
-module _ (s : List ℕ) (k i : ℕ) {n : ℕ} (e : n ≡ fixCount s) where
+module _ (s : List ℕ) (k i : ℕ) {n : ℕ} (e : n ≡ word s 0) where
   pub fix-none-at : n ≤ i → At s (fixItem s k i) (fixStart s k i) (record { start = 0; len = 0 })
   unfolding fixItem fixStart
-  fix-none-at h = rw (le-ltb i (fixCount s) (omega arith)) (record { starts = refl; long = refl; within = omega arith })
+  fix-none-at h = rw (le-ltb i (word s 0) (omega arith)) (record { starts = refl; long = refl; within = omega arith })
 
   pub fix-at : {p : Place} → i < n → At s (part s (4 + k * i) (4 + k * i + k)) (partStart s (4 + k * i) (4 + k * i + k)) p → At s (fixItem s k i) (fixStart s k i) p
   unfolding fixItem fixStart
-  fix-at h at = rw (lt-ltb i (fixCount s) (omega arith)) at
+  fix-at h at = rw (lt-ltb i (word s 0) (omega arith)) at
 
 pub item-at : (s : List ℕ) (i : ℕ) {n : ℕ} {p : Place} → n ≡ itemCount s → At s (fieldOf s n i) (fieldStart s n i) p → At s (itemOf s i) (itemStart s i) p
 unfolding itemOf itemStart

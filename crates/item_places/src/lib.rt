@@ -74,7 +74,7 @@ fn field_place(s: &[u8], n: usize, i: u32) -> Place
 fn fix_place(s: &[u8], k: u32, i: u32) -> Place
     ensures { λ r. ⌜ FixAt (now (s .entry)) k i r ⌝ }
 {
-    let n = molecule::fix_count(s);
+    let n = molecule::word(s, 0);
     if n <= i {
         return Place { start: 0, len: 0 };
     }

@@ -6,7 +6,7 @@ pub fix-place-spec : {M : Type 1} → statement M
 fix-place-spec =
     tie.close
     (tie.spec
-    (λ c κs. search ways)  -- fix-count-requires
+    (λ c κs. search ways)  -- word-requires
     (λ c. search ways)  -- returns
     (λ c. search ways)  -- mul-a
     (λ c. search ways)  -- add-a
