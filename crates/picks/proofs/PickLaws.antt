@@ -133,13 +133,13 @@ module _ (cells picked spent out : List ℕ) {n : ℕ} (en : n ≡ length (selec
   counted : n ≡ length named
   counted = en ∙ ap length named-is
 
-  pub named-short : length out < 4 + 36 * n → false ≡ hasRoom (firsts (isAmong (points cells) (points spent)) [] (points picked)) out
+  pub named-short : min (length out) 133116 < 4 + 36 * n → false ≡ hasRoom (firsts (isAmong (points cells) (points spent)) [] (points picked)) out
   named-short s = room-no named out counted s
 
-  pub named-kept : length out < 4 + 36 * n → out ≡ putIf (firsts (isAmong (points cells) (points spent)) [] (points picked)) out
+  pub named-kept : min (length out) 133116 < 4 + 36 * n → out ≡ putIf (firsts (isAmong (points cells) (points spent)) [] (points picked)) out
   named-kept s = put-no named out (named-short s)
 
-  module _ (room : 4 + 36 * n ≤ length out) where
+  module _ (room : 4 + 36 * n ≤ min (length out) 133116) where
     pub named-fit : true ≡ hasRoom (firsts (isAmong (points cells) (points spent)) [] (points picked)) out
     named-fit = room-yes named out counted room
 
@@ -148,7 +148,7 @@ module _ (cells picked spent out : List ℕ) {n : ℕ} (en : n ≡ length (selec
         → o₂ ≡ putIf (firsts (isAmong (points cells) (points spent)) [] (points picked)) out
     named-written {o₁} {o₂} {at} {c} e f p =
         let q : Put o₁ at (bytesOf named) o₂ c = rw named-is at p in
-        list-put named out counted room e f q ∙ sym (put-yes named out named-fit)
+        list-put named out counted (omega arith) e f q ∙ sym (put-yes named out named-fit)
 
 -- ---- put_unavailable
 

@@ -8,9 +8,10 @@ use hold_records::Owner;
 use molecule::write;
 use out_points::OutPoint;
 ghost use mathlib.Core.Path.{_≡_};
-ghost use mathlib.Core.Bool.{true, false};
+ghost use mathlib.Core.Bool.{true, false, _&&_};
 ghost use mathlib.Core.List.{[]};
-ghost use Prim.Native.Nat.{_+_, _*_, _%_, _≤_, _<_};
+ghost use Prim.Native.Nat.{_+_, _*_, _%_, _≤_, _<_, min};
+ghost use lib.Dec.{leb};
 ghost use lib.ListN.{length, drop, set};
 ghost use Rattle.error.specs.declared.{Answer.Answer};
 ghost use Rattle.molecule.specs.Layout.{fixCount};
@@ -152,7 +153,7 @@ fn put_busy_list(cells: &[u8], picked: &[u8], spent: &[u8], marks: &[u8], out: &
     ensures { λ _. ⌜ now (out .exit) ≡ putIf (firsts (isAmong (points (now (cells .entry))) (points (now (spent .entry)))) [] (points (now (picked .entry)))) (now (out .entry)) ⌝ }
 {
     let n = count_busy(cells, picked, spent, marks);
-    if out.len() < out_points::list_size(n) {
+    if !out_points::fits(n, out.len()) {
         return false;
     }
     let at = write::put_u32(out, 0, n);
@@ -258,6 +259,16 @@ fn put_taken_and_refused(
     put_refused_list(g, from, picked, n, refused);
 }
 
+// Whether lists of so many out points may be written to buffers of so many bytes.
+fn both_fit(count: u32, taken: usize, rest: u32, refused: usize) -> bool
+    ensures { λ r. ⌜ r ≡ leb (4 + 36 * count) (min taken 133116) && leb (4 + 36 * rest) (min refused 133116) ⌝ }
+{
+    if !out_points::fits(count, taken) {
+        return false;
+    }
+    out_points::fits(rest, refused)
+}
+
 // Takes the picks that are not among the cells of `live`; a refusal hands back `held`.
 fn take_free(
     held: Held,
@@ -278,10 +289,7 @@ fn take_free(
     let count = t.count;
     let n = molecule::fix_count(picked);
     let rest = n - count;
-    if taken.len() < out_points::list_size(count) {
-        return hold_records::refuse(held, Refusal::BufferTooShort);
-    }
-    if refused.len() < out_points::list_size(rest) {
+    if !both_fit(count, taken.len(), rest, refused.len()) {
         return hold_records::refuse(held, Refusal::BufferTooShort);
     }
     let from = hold_records::used(live.count);

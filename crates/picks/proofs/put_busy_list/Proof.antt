@@ -7,7 +7,7 @@ put-busy-list-spec =
     tie.close
     (tie.spec
     (λ c κs. search ways)  -- count-busy-requires
-    (λ c κs. search ways)  -- list-size-requires
+    (λ c κs. search ways)  -- fits-requires
     (λ c. search ways)  -- returns
     (λ c κs. search ways)  -- put-u32-requires
     (λ c κs. search ways)  -- put-busy-requires

@@ -1,7 +1,6 @@
 use borrow.Author.Needs.{needs}
-use Rattle.out_points.proofs.ListLaws.{size-fits}
-use Rattle.hold_records.proofs.CountLaws.{done-count}
-use Rattle.picks.proofs.TakenLaws.{left-is, take-count}
+use Rattle.hold_records.proofs.CountLaws.{done-count, refused-count}
+use Rattle.picks.proofs.TakenLaws.{both-room, take-short, take-full, take-done, left-is, take-count}
 use Rattle.picks.proofs.Ways.{ways}
 use Rattle.picks.proofs.take_free.Statement.{statement}
 use Rattle.picks.proofs.take_free.Tie as tie
@@ -13,19 +12,16 @@ take-free-spec =
     (λ c κs. search ways)  -- tally-requires
     (λ c κs. search ways)  -- fix-count-requires
     (λ c. search ways)  -- sub-rest
-    (λ c κs. search ways)  -- list-size-requires
+    (λ c κs. search ways)  -- both-fit-requires
     (λ c κs. search ways)  -- refuse-requires
-    (λ c. search ways)  -- returns
-    (λ c κs. search ways)  -- list-size-requires-2
-    (λ c κs. search ways)  -- refuse-requires-2
-    (λ c. search ways)  -- returns-2
+    (λ c. (search (needs, take-short), search (needs, refused-count)))  -- returns
     (λ c κs. search ways)  -- used-requires
-    (λ c. search ways)  -- sub-if3
-    (λ c. search ways)  -- cast-if3
-    (λ c κs. search ways)  -- refuse-requires-3
-    (λ c. search ways)  -- returns-3
-    (λ c κs. (search needs, search (needs, left-is), search (needs, size-fits)))  -- put-taken-and-refused-requires
+    (λ c. search ways)  -- sub-if2
+    (λ c. search ways)  -- cast-if2
+    (λ c κs. search ways)  -- refuse-requires-2
+    (λ c. (search (needs, take-full), search (needs, refused-count)))  -- returns-2
+    (λ c κs. (search needs, search (needs, left-is), search (needs, both-room)))  -- put-taken-and-refused-requires
     (λ c κs. search ways)  -- done-requires
     (λ c. search ways)  -- same-length
     (λ c. search ways)  -- same-length-2
-    (λ c. (search ways, search (needs, done-count, take-count))))  -- returns-4
+    (λ c. (search (needs, take-done), search (needs, done-count, take-count))))  -- returns-3
