@@ -17,7 +17,8 @@ use Rattle.out_points.proofs.EqualLaws.{and-both}
 use Rattle.out_points.specs.Tables.{Outcome, done, refused, told, hasRoom, written}
 use Rattle.hold_records.specs.declared.{Owner.Owner, Hold.Hold, Held.Held}
 use Rattle.hold_records.specs.Holds.{recordsOf, cellsOf, firsts, others, heldBy}
-use Rattle.picks.specs.Places.{isAmong, asked, select, Tallied, unmatched, takeFrom}
+use Rattle.pick_kinds.specs.Kinds.{isAmong}
+use Rattle.picks.specs.Places.{asked, select, Tallied, unmatched, takeFrom}
 use Rattle.hold_records.specs.Rules.{putIf}
 use Rattle.hold_records.proofs.LoopLaws.{stands}
 use Rattle.hold_records.proofs.WriteLaws.{room-yes, put-yes}
@@ -180,6 +181,32 @@ module _ (h k : Held) (cells picked spent : List ℕ) (owner : Owner) (out₁ ou
             let v₁ : b₁ ≡ written T out₁ = e₁ ∙ ap (λ (q : List OutPoint). putIf q out₁) y ∙ put-yes T out₁ (room-yes T out₁ (sym T-long) room₁) in
             let v₂ : b₂ ≡ written U out₂ = e₂ ∙ ap (λ (q : List OutPoint). written q out₂) z in
             rw (v, v₁, v₂) (rw (le-leb (length (recordsOf k) + length T) 256 (omega (arith, all-long))) at fits)
+
+-- more picks than two lists hold
+neither : {X : Type 0} (a b : Bool) (x y : X) → (a ≡ true → b ≡ true → ⊥) → y ≡ cond a (cond b x y) y
+neither true true x y h = absurd (h refl refl)
+neither true false x y h = refl
+neither false b x y h = refl
+
+over : (l m : List OutPoint) (out₁ out₂ : List ℕ) → 7394 < length l + length m → hasRoom l out₁ ≡ true → hasRoom m out₂ ≡ true → ⊥
+unfolding hasRoom
+over l m out₁ out₂ h a b =
+    let x : length (pointList l) ≤ min (length out₁) 133116 = leb-true (length (pointList l)) (min (length out₁) 133116) a in
+    let y : length (pointList m) ≤ min (length out₂) 133116 = leb-true (length (pointList m)) (min (length out₂) 133116) b in
+    omega (arith, length-list l, length-list m)
+
+pub take-many : (h k : Held) (cells picked spent : List ℕ) (owner : Owner) (out₁ out₂ : List ℕ) {n : ℕ} {o : Outcome Held (List Hold)} → n ≡ fixCount picked → 7394 < n
+    → o ≡ told recordsOf (Answer.Refused Refusal.BufferTooShort) h → (o, out₁, out₂) ≡ takeFrom h (recordsOf k) (points cells) (points picked) (points spent) owner out₁ out₂
+unfolding takeFrom told number
+take-many h k cells picked spent owner out₁ out₂ {n} en m e =
+    let l : List OutPoint = firsts (λ p. not (isAmong (points cells) (points spent) p)) [] (points picked) in
+    let r : List OutPoint = others (λ p. not (isAmong (points cells) (points spent) p)) [] (points picked) in
+    let z : length l + length r ≡ fixCount picked = both-length (λ p. not (isAmong (points cells) (points spent) p)) [] (points picked) ∙ length-points picked in
+    rw e
+    (neither (hasRoom l out₁) (hasRoom r out₂)
+    (cond (leb (length (recordsOf k) + length l) 256) (done (recordsOf k ++ map (heldBy owner) l), written l out₁, written r out₂) (refused 14 h, out₁, out₂))
+    (refused 13 h, out₁, out₂)
+    (over l r out₁ out₂ (omega arith)))
 
 -- what is taken by a list of cells is taken by the records that they are of
 pub take-among : (h k : Held) (cells picked spent : List ℕ) (owner : Owner) (out₁ out₂ : List ℕ) {z : ℕ} {x : Outcome Held (List Hold) × List ℕ × List ℕ} → (9220 ≤ z → points cells ≡ cellsOf (recordsOf k)) → 9220 ≤ z
