@@ -70,13 +70,14 @@ module _ (n : ℕ) (h : 4 + 36 * n < 2 ^ 32) (out₁ out₂ : List ℕ) where
   unfolding takeCells keep recordsOf
   spent-picks =
       let l : length (replicate n A) ≡ n = length-replicate n A in
-      rw
-      (is-readable (replicate n A) (omega arith) (all-fit n),
-      is-readable (A ∷ []) (omega arith) (fit, tt),
-      is-read (replicate n A) (omega arith) (all-fit n),
-      is-read (A ∷ []) (omega arith) (fit, tt),
-      none-taken (λ p. not (isBusy [] (A ∷ []) p)) A is-spent n,
-      all-refused (λ p. not (isBusy [] (A ∷ []) p)) A is-spent n)
+      rw (
+        is-readable (replicate n A) (omega arith) (all-fit n),
+        is-readable (A ∷ []) (omega arith) (fit, tt),
+        is-read (replicate n A) (omega arith) (all-fit n),
+        is-read (A ∷ []) (omega arith) (fit, tt),
+        none-taken (λ p. not (isBusy [] (A ∷ []) p)) A is-spent n,
+        all-refused (λ p. not (isBusy [] (A ∷ []) p)) A is-spent n,
+      )
 
 none-room : hasRoom [] (room 4) ≡ true
 unfolding computing

@@ -21,7 +21,9 @@ const SOME_PICKS: usize = 1024;
 
 // What stands for a pick: an earlier one is the same; it is the first on its cell and free; it is the first and busy.
 const AGAIN: u8 = 0;
+
 const FREE: u8 = 1;
+
 const BUSY: u8 = 2;
 
 // That each byte is below 256 is known where one is read.

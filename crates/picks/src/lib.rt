@@ -446,11 +446,29 @@ fn take_free(
     }
     if n <= FEW_PICKS {
         return take_known(
-            held, live, cells, picked, spent, marks, marks, 0, owner, taken, refused,
+            held,
+            live,
+            cells,
+            picked,
+            spent,
+            marks,
+            marks,
+            0,
+            owner,
+            taken,
+            refused,
         );
     }
     take_indexed(
-        held, live, cells, picked, spent, marks, owner, taken, refused,
+        held,
+        live,
+        cells,
+        picked,
+        spent,
+        marks,
+        owner,
+        taken,
+        refused,
     )
 }
 
