@@ -5,8 +5,7 @@ use mathlib.Core.Bool.{Bool, true, false, not, cond}
 use mathlib.Core.List.{List, [], _∷_, _++_, append-nil}
 use native.Mathlib.Omega.{arith}
 use borrow.Author.Tests.{le-leb, lt-leb, lt-ltb, eq-eqb}
-use lib.ListN.{length, drop, replicate, length-replicate}
-use lib.Seq.{drop-of-length-le}
+use lib.ListN.{length, drop, replicate, length-replicate, drop-of-length-le}
 use Rattle.molecule.specs.Partial.{All}
 use Rattle.molecule.specs.Layout.{fixCount}
 use Rattle.molecule.specs.Molecule.{size, readable}
@@ -100,8 +99,9 @@ module _ (n k : ℕ) (e : k ≡ 4 + 36 * n) where
       let a = long in
       let b = room-long in
       let r : hasRoom (replicate n A) (room k) ≡ true = le-leb (length (pointList (replicate n A))) (min (length (room k)) 133116) (omega arith) in
+      let d : length (room k) ≤ length (pointList (replicate n A)) = omega arith in
       let w : written (replicate n A) (room k) ≡ pointList (replicate n A) =
-      ap (λ (x : List ℕ). pointList (replicate n A) ++ x) (drop-of-length-le (room k) (omega arith)) ∙ append-nil (pointList (replicate n A)) in
+      ap (λ (x : List ℕ). pointList (replicate n A) ++ x) (drop-of-length-le (room k) d) ∙ append-nil (pointList (replicate n A)) in
       spent-picks n (omega arith) (room 4) (room k) ∙ rw (none-room, r, none-written, w)
 
   pub spent-over : 133116 < k → 4 + 36 * n < 2 ^ 32 → takeCells (holdsOf []) (pointList (replicate n A)) (of1 A) (Taker.Funding 1) (ms 1000) (room 4) (room k) ≡ (refused 13 (holdsOf []), room 4, room k)
