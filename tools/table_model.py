@@ -44,9 +44,9 @@ def write_points(points):
 
 
 def written(points, room):
-    """The list's bytes, which have to fit the lent buffer."""
+    """The list's bytes, which have to fit the lent buffer and 133,116 bytes."""
     s = write_points(points)
-    require(13, len(s) <= room)
+    require(13, len(s) <= min(room, 133_116))
     return s
 
 

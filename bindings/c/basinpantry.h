@@ -249,15 +249,16 @@ uint32_t basinpantry_release_for_watchtower(uint8_t *held, size_t held_len, cons
    that have ended are dropped. Refused: 3, 13. */
 uint32_t basinpantry_lock_held(uint8_t *held, size_t held_len, uint64_t time, uint8_t *out, size_t out_len);
 
-/* Writes the out points of `picked` that are held at `time` or in `spent`, each once and in the order of the picks: picked_len bytes are always enough. This
-   call and the next look at as many out points as picks times (records, spent and picks). Refused: 3, 13. */
+/* Writes the out points of `picked` that are held at `time` or in `spent`, each once and in the order of the picks: picked_len bytes are always enough, and
+   over 133,116 (3,697 out points) are 13. This call and the next make about (picks + spent + records) log picks comparisons; here picks beyond the first
+   7,394 are looked up one by one, among all before them. Refused: 3, 13. */
 uint32_t basinpantry_unavailable(const uint8_t *held, size_t held_len, const uint8_t *picked, size_t picked_len, const uint8_t *spent, size_t spent_len,
                                  uint64_t time, uint8_t *out, size_t out_len);
 
 /* Takes the cells `picked` for the watchtower, which holds them for 60,000 ms, or for the funding of `holder`, which is not looked at for the watchtower: a
    cell that is held, spent, or taken earlier in the call is refused.
-   The lists of those taken and of those refused go into the two buffers; picked_len bytes are always enough for each. Watchtower records that have ended are
-   dropped. Refused: 3, 13, 14. */
+   The lists of those taken and of those refused go into the two buffers; picked_len bytes are always enough for each, and over
+   133,116 for either (3,697 out points) are 13, and so are more than 7,394 picks. Watchtower records that have ended are dropped. Refused: 3, 13, 14. */
 uint32_t basinpantry_take(uint8_t *held, size_t held_len, const uint8_t *picked, size_t picked_len, const uint8_t *spent, size_t spent_len, bool watchtower,
                           uint64_t holder, uint64_t time, uint8_t *taken, size_t taken_len, uint8_t *refused, size_t refused_len);
 

@@ -249,7 +249,8 @@ impl HeldCells {
         read_out_points(&out)
     }
 
-    /// The picks that are held at this time or spent, once each and in pick order. Nothing changes. Refused: 3 (too long a list), and nothing else.
+    /// The picks that are held at this time or spent, once each and in pick order. Nothing changes. Refused: 3 (too long a list), 13 (they are over
+    /// 3,697, so that their list is over 133,116 bytes).
     ///
     /// ```
     /// use basinpantry::{HeldCells, OutPoint};
@@ -264,7 +265,7 @@ impl HeldCells {
     }
 
     /// Takes the picks that are free: not held by anybody at this time, not spent, and not taken earlier in the call. Ended watchtower records are dropped
-    /// first. Refused: 3 (too long a list), 14 (over 256 records).
+    /// first. Refused: 3 (too long a list), 13 (over 3,697 are taken, or are refused: a list over 133,116 bytes), 14 (over 256 records).
     ///
     /// ```
     /// use basinpantry::{HeldCells, OutPoint, Taker};

@@ -1,6 +1,6 @@
 -- What `commit` and `apply` come to.
 use mathlib.Core.Path.{_≡_, refl, sym, ap, ap₂, _∙_}
-use Prim.Native.Nat.{ℕ, _+_, _*_, _≤_, _<_}
+use Prim.Native.Nat.{ℕ, _+_, _*_, _≤_, _<_, min}
 use mathlib.Core.Bool.{Bool, true, false, not}
 use mathlib.Core.List.{List, _++_, map}
 use native.Mathlib.Omega.{arith}
@@ -67,17 +67,17 @@ module _ (s out : List ℕ) {v : Survey} (ev : v ≡ surveyOf Rule.All s) where
     list-length : length (pointList (excluded (excludedAt s))) ≡ 4 + 36 * v .points
     list-length = length-list (excluded (excludedAt s)) ∙ ap (λ (k : ℕ). 4 + 36 * k) (sym counted)
 
-    pub apply-short : {k : ℕ} → k ≡ 4 + 36 * v .points → length out < k → (answered (Answer.Refused Refusal.BufferTooShort), out) ≡ lentList s out (applyOn (excludedAt s) out)
+    pub apply-short : min (length out) 133116 < 4 + 36 * v .points → (answered (Answer.Refused Refusal.BufferTooShort), out) ≡ lentList s out (applyOn (excludedAt s) out)
     unfolding lentList applyOn answered number hasRoom
-    apply-short e h = rw (is, lt-leb (length (pointList (excluded (excludedAt s)))) (length out) (omega (arith, list-length)))
+    apply-short h = rw (is, lt-leb (length (pointList (excluded (excludedAt s)))) (min (length out) 133116) (omega (arith, list-length)))
 
-    pub apply-room : {k : ℕ} → k ≡ 4 + 36 * v .points → k ≤ length out → 4 + 36 * length (excluded (excludedAt s)) ≤ length out
-    apply-room e h = omega (arith, counted)
+    pub apply-room : 4 + 36 * v .points ≤ min (length out) 133116 → 4 + 36 * length (excluded (excludedAt s)) ≤ length out
+    apply-room h = omega (arith, counted)
 
-    pub apply-done : {k : ℕ} {o₁ o₂ : List ℕ} → k ≡ 4 + 36 * v .points → k ≤ length out → o₁ ≡ splice out 4 (bytesOf (excluded (excludedAt s))) → o₂ ≡ putAt o₁ 0 (toLe 4 (v .points))
+    pub apply-done : {o₁ o₂ : List ℕ} → 4 + 36 * v .points ≤ min (length out) 133116 → o₁ ≡ splice out 4 (bytesOf (excluded (excludedAt s))) → o₂ ≡ putAt o₁ 0 (toLe 4 (v .points))
         → (answered Answer.Done, o₂) ≡ lentList s out (applyOn (excludedAt s) out)
     unfolding lentList applyOn answered hasRoom written pointList
-    apply-done {k} {o₁} {o₂} e h e₁ e₂ =
+    apply-done {o₁} {o₂} h e₁ e₂ =
         let ps = excluded (excludedAt s) in
         let C = toLe 4 (v .points) in
         let lC : length C ≡ 4 = length-toLe 4 (v .points) in
@@ -87,5 +87,5 @@ module _ (s out : List ℕ) {v : Survey} (ev : v ≡ surveyOf Rule.All s) where
         let l : length o₁ ≡ length out = ap length e₁ ∙ splice-length out 4 (bytesOf ps) (omega arith) in
         let same : o₂ ≡ splice out 0 (C ++ bytesOf ps) =
         e₂ ∙ put-yes o₁ 0 C (omega arith) ∙ ap (λ (x : List ℕ). splice x 0 C) (e₁ ∙ ap (λ (j : ℕ). splice out j (bytesOf ps)) (sym z)) ∙ splice-under out 0 C (bytesOf ps) (omega arith) in
-        rw (is, le-leb (length (pointList ps)) (length out) (omega (arith, list-length)))
+        rw (is, le-leb (length (pointList ps)) (min (length out) 133116) (omega (arith, list-length)))
         (ap (λ (x : List ℕ). (0, x)) (same ∙ ap (λ (j : ℕ). splice out 0 (toLe 4 j ++ bytesOf ps)) c ∙ splice-zero out (pointList ps)))

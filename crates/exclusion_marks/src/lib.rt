@@ -105,7 +105,7 @@ pub fn apply(map: &[u8], out: &mut [u8]) -> Answer
         return Answer::Refused(Refusal::LentBytesUnreadable);
     }
     let n = v.points as u32;
-    if out.len() < out_points::list_size(n) {
+    if !out_points::fits(n, out.len()) {
         return Answer::Refused(Refusal::BufferTooShort);
     }
     are_bytes(map);

@@ -19,7 +19,8 @@ use Rattle.hold_records.specs.declared.{Owner.Owner, Held.Held, Rule.Rule, Take
 use Rattle.hold_records.specs.Holds.{recordsOf, heldBy, cellsOf, atMost256, holdFunding, lockHeld, isBusy, firsts, unavailable, ownerFor, takeCells}
 use Rattle.hold_records.specs.Rules.{isKept, putIf}
 use Rattle.hold_records.proofs.LoopLaws.{recorded}
-use Rattle.picks.specs.Places.{isAmong, takeFrom}
+use Rattle.pick_kinds.specs.Kinds.{isAmong}
+use Rattle.picks.specs.Places.{takeFrom}
 use Rattle.hold_records.proofs.LimitLaws.{After, over, under}
 
 -- ---- hold_funding

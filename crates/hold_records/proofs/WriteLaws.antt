@@ -84,13 +84,13 @@ behind-length l out {o₁} {n} en room e f = rw (← en) (behind-count out n (36
 
 -- ---- put where there is room
 
-pub room-no : (l : List OutPoint) (out : List ℕ) {n : ℕ} → n ≡ length l → length out < 4 + 36 * n → false ≡ hasRoom l out
+pub room-no : (l : List OutPoint) (out : List ℕ) {n : ℕ} → n ≡ length l → min (length out) 133116 < 4 + 36 * n → false ≡ hasRoom l out
 unfolding hasRoom
-room-no l out e h = sym (lt-leb (length (pointList l)) (length out) (omega (arith, length-list l)))
+room-no l out e h = sym (lt-leb (length (pointList l)) (min (length out) 133116) (omega (arith, length-list l)))
 
-pub room-yes : (l : List OutPoint) (out : List ℕ) {n : ℕ} → n ≡ length l → 4 + 36 * n ≤ length out → true ≡ hasRoom l out
+pub room-yes : (l : List OutPoint) (out : List ℕ) {n : ℕ} → n ≡ length l → 4 + 36 * n ≤ min (length out) 133116 → true ≡ hasRoom l out
 unfolding hasRoom
-room-yes l out e h = sym (le-leb (length (pointList l)) (length out) (omega (arith, length-list l)))
+room-yes l out e h = sym (le-leb (length (pointList l)) (min (length out) 133116) (omega (arith, length-list l)))
 
 pub put-no : (l : List OutPoint) (out : List ℕ) → false ≡ hasRoom l out → out ≡ putIf l out
 unfolding putIf
@@ -150,23 +150,23 @@ module _ (h : Held) (from : ℕ) (out : List ℕ) {u n : ℕ} (eu : u ≡ min (h
   counted-cells : n ≡ length (cellsOf (drop from (recordsOf h)))
   counted-cells = omega (arith, length-cells h from w)
 
-  pub cells-short : length out < 4 + 36 * n → false ≡ hasRoom (cellsOf (drop from (recordsOf h))) out
+  pub cells-short : min (length out) 133116 < 4 + 36 * n → false ≡ hasRoom (cellsOf (drop from (recordsOf h))) out
   cells-short s = room-no (cellsOf (drop from (recordsOf h))) out counted-cells s
 
-  pub cells-kept : length out < 4 + 36 * n → out ≡ putIf (cellsOf (drop from (recordsOf h))) out
+  pub cells-kept : min (length out) 133116 < 4 + 36 * n → out ≡ putIf (cellsOf (drop from (recordsOf h))) out
   cells-kept s = put-no (cellsOf (drop from (recordsOf h))) out (cells-short s)
 
-  module _ (room : 4 + 36 * n ≤ length out) where
+  module _ (room : 4 + 36 * n ≤ min (length out) 133116) where
     pub cells-fit : true ≡ hasRoom (cellsOf (drop from (recordsOf h))) out
     cells-fit = room-yes (cellsOf (drop from (recordsOf h))) out counted-cells room
 
     module _ {o : List ℕ} {at : ℕ} (e : o ≡ putAt out 0 (toLe 4 n)) (f : at ≡ putEnd out 0 (toLe 4 n)) where
       pub cells-room : at + 36 * (min (h .count) 256 - from) ≤ length o
-      cells-room = let b = behind-count out n (36 * n) room e f in omega arith
+      cells-room = let b = behind-count out n (36 * n) (omega arith) e f in omega arith
 
       pub cells-written : {o₂ : List ℕ} {a : ℕ} → Put o at (bytesOf (cellsOf (drop from (recordsOf h)))) o₂ a → o₂ ≡ putIf (cellsOf (drop from (recordsOf h))) out
       cells-written p =
-          list-put (cellsOf (drop from (recordsOf h))) out counted-cells room e f p ∙ sym (put-yes (cellsOf (drop from (recordsOf h))) out cells-fit)
+          list-put (cellsOf (drop from (recordsOf h))) out counted-cells (omega arith) e f p ∙ sym (put-yes (cellsOf (drop from (recordsOf h))) out cells-fit)
 
 -- ---- list_cells
 
@@ -177,19 +177,19 @@ module _ (h : Held) (out : List ℕ) {n : ℕ} (en : n ≡ min (h .count) 256) (
   counted-all : n ≡ length (cellsOf (recordsOf h))
   counted-all = omega (arith, length-cells h 0 w)
 
-  pub all-kept : length out < 4 + 36 * n → out ≡ putIf (cellsOf (recordsOf h)) out
+  pub all-kept : min (length out) 133116 < 4 + 36 * n → out ≡ putIf (cellsOf (recordsOf h)) out
   all-kept s = put-no (cellsOf (recordsOf h)) out (room-no (cellsOf (recordsOf h)) out counted-all s)
 
-  pub all-short : length out < 4 + 36 * n → (9220 ≤ length out → points out ≡ cellsOf (recordsOf h))
+  pub all-short : min (length out) 133116 < 4 + 36 * n → (9220 ≤ length out → points out ≡ cellsOf (recordsOf h))
   all-short s l = absurd (let m : min (h .count) 256 ≤ 256 = omega arith in omega arith)
 
-  module _ (room : 4 + 36 * n ≤ length out) {o : List ℕ} {at : ℕ} (e : o ≡ putAt out 0 (toLe 4 n)) (f : at ≡ putEnd out 0 (toLe 4 n)) where
+  module _ (room : 4 + 36 * n ≤ min (length out) 133116) {o : List ℕ} {at : ℕ} (e : o ≡ putAt out 0 (toLe 4 n)) (f : at ≡ putEnd out 0 (toLe 4 n)) where
     pub all-room : at + 36 * (min (h .count) 256 - 0) ≤ length o
-    all-room = let b = behind-count out n (36 * n) room e f in omega arith
+    all-room = let b = behind-count out n (36 * n) (omega arith) e f in omega arith
 
     module _ {o₂ : List ℕ} {a : ℕ} (p : Put o at (bytesOf (cellsOf (drop 0 (recordsOf h)))) o₂ a) where
       listed : o₂ ≡ written (cellsOf (recordsOf h)) out
-      listed = list-put (cellsOf (recordsOf h)) out counted-all room e f p
+      listed = list-put (cellsOf (recordsOf h)) out counted-all (omega arith) e f p
 
       pub all-put : o₂ ≡ putIf (cellsOf (recordsOf h)) out
       all-put = listed ∙ sym (put-yes (cellsOf (recordsOf h)) out (room-yes (cellsOf (recordsOf h)) out counted-all room))

@@ -174,7 +174,7 @@ pub fn put_cells(h: Held, from: usize, out: &mut [u8]) -> bool
     ensures { λ _. ⌜ now (out .exit) ≡ putIf (cellsOf (drop from (recordsOf h))) (now (out .entry)) ⌝ }
 {
     let n = sizes::saturating_sub(used(h.count), from) as u32;
-    if out.len() < out_points::list_size(n) {
+    if !out_points::fits(n, out.len()) {
         return false;
     }
     let at = write::put_u32(out, 0, n);
@@ -188,7 +188,7 @@ pub fn list_cells(h: Held, out: &mut [u8])
     ensures { λ _. ⌜ (9220 ≤ length (now (out .entry)) → points (now (out .exit)) ≡ cellsOf (recordsOf h)) ⌝ }
 {
     let n = used(h.count) as u32;
-    if out.len() < out_points::list_size(n) {
+    if !out_points::fits(n, out.len()) {
         return;
     }
     let at = write::put_u32(out, 0, n);

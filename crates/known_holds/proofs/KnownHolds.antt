@@ -20,8 +20,9 @@ use Rattle.hold_records.specs.Holds.{holdFunding}
 use Rattle.known_cases.specs.Rows.{AllRight}
 use Rattle.known_cases.specs.Cases.{holdsOf}
 use Rattle.known_cases.proofs.Rows.{_and_, done}
-use Rattle.known_holds.specs.Holds.{returning, long, locking, taking, naming}
+use Rattle.known_holds.specs.Holds.{returning, long, locking, taking, longest, naming}
 use Rattle.known_holds.proofs.Computing.{computing}
+use Rattle.known_holds.proofs.LongLaws.{spent-fit, spent-over}
 
 pub known-returning : AllRight returning
 unfolding computing
@@ -51,6 +52,9 @@ unfolding computing
 known-taking =
     refl and refl and refl and refl and refl and refl and refl and refl and refl and refl and refl and refl and refl
     and refl and refl and refl and refl and refl and refl and refl and refl and done
+
+pub known-longest : AllRight longest
+known-longest = spent-fit 3697 133096 (omega arith) (omega arith) and spent-over 3698 133132 (omega arith) (omega arith) (omega arith) and done
 
 pub known-naming : AllRight naming
 unfolding computing

@@ -1,4 +1,5 @@
 pub mod Computing
 pub mod KnownHolds
 pub mod KnownLentHolds
+pub mod LongLaws
 pub mod ZerosLaws

@@ -148,6 +148,16 @@ taking =
     ∷ (takeCells twoHeld (of1 A) noList (Taker.Funding 1) (ms 1000) (room 3) (room 3) gives (refused 3 twoHeld, room 3, room 3))
     ∷ []
 
+-- "over the lent buffer or 133,116 bytes: 13": 3,697 picks of a cell that is spent make a list of 133,096 bytes, and 3,698 one of 133,132
+abbrev spentPicks : ℕ → ℕ → Outcome Held (List Hold) × List ℕ × List ℕ
+spentPicks n k = takeCells (holdsOf []) (pointList (replicate n A)) (of1 A) (Taker.Funding 1) (ms 1000) (room 4) (room k)
+
+abbrev pub longest : List (Row (Outcome Held (List Hold) × List ℕ × List ℕ))
+longest =
+    (spentPicks 3697 133096 gives (done [], none, pointList (replicate 3697 A)))
+    ∷ (spentPicks 3698 133132 gives (refused 13 (holdsOf []), room 4, room 133132))
+    ∷ []
+
 -- ---- `unavailable`, with the buffer
 
 abbrev pub naming : List (Row (ℕ × List ℕ))

@@ -1,6 +1,6 @@
 -- When two out points are the same: one law for each way out of the tests, and that the tests say equality.
 use mathlib.Core.Path.{_≡_, refl, sym, ap, _∙_, subst}
-use Prim.Native.Nat.{ℕ, _+_, _-_, _*_, _≤_, _<_, min}
+use Prim.Native.Nat.{ℕ, zero, suc, _+_, _-_, _*_, _≤_, _<_, min}
 use mathlib.Core.List.{List, [], _∷_}
 use mathlib.Core.Bool.{Bool, true, false, not, _&&_, cond, and-true, and-false}
 use native.Mathlib.Omega.{arith}
@@ -124,6 +124,21 @@ point-same p q e =
 pub point-refl : (p : OutPoint) → eqPoint p p ≡ true
 unfolding eqPoint
 point-refl p = rw (eq-eqb (p .index) (p .index) refl, hash-refl (p .hash))
+
+-- one more at the end of what stands before
+pub has-last : (q : OutPoint) (g : ℕ → OutPoint) (j i : ℕ) → has q (span g j (suc i)) ≡ cond (has q (span g j i)) true (eqPoint q (g (j + i)))
+unfolding has span
+has-last q g j zero = let e : j + 0 ≡ j = omega arith in rw e (by (eqPoint q (g j)))
+  where
+    by : (b : Bool) → cond b true false ≡ b
+    by true = refl
+    by false = refl
+has-last q g j (suc i) = let e : suc j + i ≡ j + suc i = omega arith in by (eqPoint q (g j)) (has-last q g (suc j) i ∙ rw e)
+  where
+    by : (b : Bool) → has q (span g (suc j) (suc i)) ≡ cond (has q (span g (suc j) i)) true (eqPoint q (g (j + suc i)))
+        → cond b true (has q (span g (suc j) (suc i))) ≡ cond (cond b true (has q (span g (suc j) i))) true (eqPoint q (g (j + suc i)))
+    by true h = refl
+    by false h = h
 
 -- ---- a search in a list: what is left decides
 

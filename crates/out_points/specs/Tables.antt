@@ -1,5 +1,5 @@
 -- What the tables of cells share (docs/RULES.md, "Holds and exclusions"): holds (crate hold_records) and excluded transactions (crate exclusion_entries).
-use Prim.Native.Nat.{ℕ}
+use Prim.Native.Nat.{ℕ, min}
 use mathlib.Core.Bool.{Bool, cond}
 use mathlib.Core.List.{List, [], _∷_, _++_}
 use lib.{Dec.leb, ListN.length, ListN.drop}
@@ -30,9 +30,9 @@ told means (Answer.Refused why) t = refused (number why) t
 abbrev pub check : {A : Type 0} → Bool → A → A → A
 check b refusal answer = cond b answer refusal
 
--- a list goes to the start of a lent buffer, and bytes beyond it keep their value; 13 where there is no room for all of it
+-- a list goes to the start of a lent buffer, and bytes beyond it keep their value; "writing: over the lent buffer or 133,116 bytes: 13"
 unfoldable pub hasRoom : List OutPoint → List ℕ → Bool
-hasRoom l out = leb (length (pointList l)) (length out)
+hasRoom l out = leb (length (pointList l)) (min (length out) 133116)
 
 unfoldable pub written : List OutPoint → List ℕ → List ℕ
 written l out = pointList l ++ drop (length (pointList l)) out

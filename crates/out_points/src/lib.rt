@@ -5,6 +5,7 @@ use molecule::write;
 ghost use mathlib.Core.Path.{_≡_};
 ghost use Prim.Native.Nat.{_+_, _*_, _≤_, _<_, min};
 ghost use mathlib.Core.List.{_++_};
+ghost use lib.Dec.{leb};
 ghost use lib.ListN.{length};
 ghost use Rattle.arithmetic.specs.LittleEndian.{toLe};
 ghost use Rattle.molecule.specs.Layout.{span, fixCount};
@@ -86,11 +87,25 @@ pub fn out_point_at(s: &[u8], at: usize) -> OutPoint
     OutPoint { hash, index }
 }
 
+// The most bytes that a call writes, as of a transaction.
+const MAX_BYTES: usize = 133_116;
+
 // How many bytes a list of n out points has.
-pub fn list_size(n: u32) -> usize
+fn list_size(n: u32) -> usize
     ensures { λ r. ⌜ r ≡ 4 + 36 * n ⌝ }
 {
     4 + 36 * n as usize
+}
+
+// Whether a list of n out points may be written to a buffer of so many bytes.
+pub fn fits(n: u32, room: usize) -> bool
+    ensures { λ r. ⌜ r ≡ leb (4 + 36 * n) (min room 133116) ⌝ }
+{
+    let size = list_size(n);
+    if MAX_BYTES < size {
+        return false;
+    }
+    size <= room
 }
 
 // Item i of a lent list.

@@ -9,24 +9,9 @@ use lib.ListN.{length}
 use Rattle.molecule.specs.Layout.{span}
 use Rattle.out_points.specs.declared.{OutPoint.OutPoint}
 use Rattle.out_points.specs.OutPoints.{eqPoint, has}
-use Rattle.out_points.proofs.EqualLaws.{point-same, point-refl}
+use Rattle.out_points.proofs.EqualLaws.{point-same, point-refl, has-last}
 use Rattle.hold_records.specs.Holds.{isNew, firsts, others}
 use Rattle.picks.specs.Places.{isFirst, select, headIs, unmatched}
-
--- one more at the end of what stands before
-has-last : (q : OutPoint) (g : ℕ → OutPoint) (j i : ℕ) → has q (span g j (suc i)) ≡ cond (has q (span g j i)) true (eqPoint q (g (j + i)))
-unfolding has span
-has-last q g j zero = let e : j + 0 ≡ j = omega arith in rw e (by (eqPoint q (g j)))
-  where
-    by : (b : Bool) → cond b true false ≡ b
-    by true = refl
-    by false = refl
-has-last q g j (suc i) = let e : suc j + i ≡ j + suc i = omega arith in by (eqPoint q (g j)) (has-last q g (suc j) i ∙ rw e)
-  where
-    by : (b : Bool) → has q (span g (suc j) (suc i)) ≡ cond (has q (span g (suc j) i)) true (eqPoint q (g (j + suc i)))
-        → cond b true (has q (span g (suc j) (suc i))) ≡ cond (cond b true (has q (span g (suc j) i))) true (eqPoint q (g (j + suc i)))
-    by true h = refl
-    by false h = h
 
 module _ (f : OutPoint → Bool) (g : ℕ → OutPoint) where
   -- of what passes the test, the same stands in both

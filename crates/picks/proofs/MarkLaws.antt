@@ -13,7 +13,8 @@ use Rattle.lists.proofs.SpanLaws.{span-on, span-end, span-whole}
 use Rattle.out_points.specs.declared.{OutPoint.OutPoint}
 use Rattle.out_points.specs.OutPoints.{eqPoint, has, pointOf, points}
 use Rattle.out_points.proofs.EqualLaws.{point-same}
-use Rattle.picks.specs.Places.{isAmong, marked, Marks}
+use Rattle.pick_kinds.specs.Kinds.{isAmong}
+use Rattle.picks.specs.Places.{marked, Marks}
 
 -- ---- set
 

@@ -1,12 +1,13 @@
 -- Picks: the code tests each by its index, the definitions by what came before.
-use mathlib.Core.Path.{_≡_, sym, ap, _∙_}
+use mathlib.Core.Path.{_≡_, refl, sym, ap, _∙_}
 use Prim.Native.Nat.{ℕ, suc, _+_, _-_, _*_, _≤_, _<_, min}
 use native.Mathlib.Nat.{zero-add}
 use native.Mathlib.Omega.{arith}
 use borrow.Author.Tests.{not-true, not-false}
-use mathlib.Core.Bool.{Bool, true, false, not}
+use mathlib.Core.Bool.{Bool, true, false, not, cond}
 use mathlib.Core.List.{List, [], _∷_}
-use lib.ListN.{length}
+use lib.Dec.{eqb}
+use lib.ListN.{length, getD}
 use Rattle.arithmetic.specs.LittleEndian.{toLe}
 use Rattle.molecule.specs.Layout.{span, fixCount}
 use Rattle.molecule.specs.Write.{putAt, putEnd, Put}
@@ -14,7 +15,9 @@ use Rattle.out_points.specs.declared.{OutPoint.OutPoint}
 use Rattle.out_points.specs.OutPoints.{has, pointOf, points, pointBytes, bytesOf}
 use Rattle.hold_records.specs.declared.{Held.Held}
 use Rattle.hold_records.specs.Holds.{recordsOf, cellsOf, isBusy, firsts}
-use Rattle.picks.specs.Places.{isAmong, asked, isFirst, select}
+use Rattle.pick_kinds.specs.Kinds.{isAmong, kindOf, Kinds}
+use Rattle.pick_kinds.proofs.KindLaws.{kinds-none}
+use Rattle.picks.specs.Places.{Marks, wanted, Looked, asked, isFirst, select}
 use Rattle.out_points.specs.Tables.{hasRoom}
 use Rattle.hold_records.specs.Rules.{putIf}
 use Rattle.hold_records.proofs.WriteLaws.{Listing, list-start, list-more, list-end, list-long, room-no, room-yes, put-no, put-yes, list-put}
@@ -45,6 +48,49 @@ module _ (f : OutPoint → Bool) (g : ℕ → OutPoint) (i : ℕ) {p : OutPoint}
   pub first-yes : {b : Bool} {m : ℕ} → i < m → not a ≡ false → b ≡ has p (span g 0 (min i m)) → not b ≡ isFirst f g i
   unfolding isFirst
   first-yes {b} {m} l t e = let k : min i m ≡ i = omega arith in rw (← ep, ← ea, not-false a t, e, k)
+
+-- ---- what was sorted out
+
+module _ {cells picked spent marks kinds : List ℕ} {known : ℕ} (k : Looked cells picked spent marks kinds known) where
+  pub looked-marks : Marks (points cells) (points spent) marks
+  looked-marks = k .marks-are
+
+  pub looked-in : {i : ℕ} → i < known → i < length kinds
+  looked-in l = let r = k .kinds-are .room in omega arith
+
+  pub looked-is : (want : Bool) (i : ℕ) (f : OutPoint → Bool) {r : Bool} → i < known → r ≡ eqb (getD kinds i 0) (wanted want)
+      → ((p : OutPoint) → f p ≡ asked want (isAmong (points cells) (points spent) p)) → r ≡ isFirst f (pointOf picked) i
+  unfolding isFirst kindOf asked wanted
+  looked-is want i f l e on =
+      e ∙ ap (λ (v : ℕ). eqb v (wanted want)) (k .kinds-are .each i l)
+      ∙ by want (has (pointOf picked i) (span (pointOf picked) 0 i)) (isAmong (points cells) (points spent) (pointOf picked i))
+      ∙ ap (λ (b : Bool). cond b (not (has (pointOf picked i) (span (pointOf picked) 0 i))) false) (sym (on (pointOf picked i)))
+    where
+      by : (w b c : Bool) → eqb (cond b 0 (cond c 2 1)) (wanted w) ≡ cond (asked w c) (not b) false
+      by true true true = refl
+      by true true false = refl
+      by true false true = refl
+      by true false false = refl
+      by false true true = refl
+      by false true false = refl
+      by false false true = refl
+      by false false false = refl
+
+pub looked-so : {cells picked spent marks kinds : List ℕ} {known : ℕ} → Marks (points cells) (points spent) marks
+    → Kinds (isAmong (points cells) (points spent)) (pointOf picked) known kinds → Looked cells picked spent marks kinds known
+looked-so m k = record { marks-are = m; kinds-are = k }
+
+-- nothing was sorted out
+pub looked-none : {cells picked spent marks : List ℕ} → Marks (points cells) (points spent) marks → Looked cells picked spent marks marks 0
+looked-none {cells} {picked} {spent} {marks} m = record { marks-are = m; kinds-are = kinds-none (isAmong (points cells) (points spent)) (pointOf picked) marks }
+
+pub kind-busy : (m : List ℕ) (i : ℕ) {want : Bool} → want ≡ true → eqb (getD m i 0) 2 ≡ eqb (getD m i 0) (wanted want)
+unfolding wanted
+kind-busy m i e = rw e
+
+pub kind-free : (m : List ℕ) (i : ℕ) {want : Bool} → want ≡ false → eqb (getD m i 0) 1 ≡ eqb (getD m i 0) (wanted want)
+unfolding wanted
+kind-free m i e = rw e
 
 pub pick-below : {n m i : ℕ} → n ≡ m → i < n → i < m
 pick-below e l = omega arith
@@ -133,13 +179,13 @@ module _ (cells picked spent out : List ℕ) {n : ℕ} (en : n ≡ length (selec
   counted : n ≡ length named
   counted = en ∙ ap length named-is
 
-  pub named-short : length out < 4 + 36 * n → false ≡ hasRoom (firsts (isAmong (points cells) (points spent)) [] (points picked)) out
+  pub named-short : min (length out) 133116 < 4 + 36 * n → false ≡ hasRoom (firsts (isAmong (points cells) (points spent)) [] (points picked)) out
   named-short s = room-no named out counted s
 
-  pub named-kept : length out < 4 + 36 * n → out ≡ putIf (firsts (isAmong (points cells) (points spent)) [] (points picked)) out
+  pub named-kept : min (length out) 133116 < 4 + 36 * n → out ≡ putIf (firsts (isAmong (points cells) (points spent)) [] (points picked)) out
   named-kept s = put-no named out (named-short s)
 
-  module _ (room : 4 + 36 * n ≤ length out) where
+  module _ (room : 4 + 36 * n ≤ min (length out) 133116) where
     pub named-fit : true ≡ hasRoom (firsts (isAmong (points cells) (points spent)) [] (points picked)) out
     named-fit = room-yes named out counted room
 
@@ -148,7 +194,7 @@ module _ (cells picked spent out : List ℕ) {n : ℕ} (en : n ≡ length (selec
         → o₂ ≡ putIf (firsts (isAmong (points cells) (points spent)) [] (points picked)) out
     named-written {o₁} {o₂} {at} {c} e f p =
         let q : Put o₁ at (bytesOf named) o₂ c = rw named-is at p in
-        list-put named out counted room e f q ∙ sym (put-yes named out named-fit)
+        list-put named out counted (omega arith) e f q ∙ sym (put-yes named out named-fit)
 
 -- ---- put_unavailable
 

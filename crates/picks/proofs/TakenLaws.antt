@@ -1,9 +1,9 @@
 -- `take`: one law for each way out, and what its calls ask for.
-use mathlib.Core.Path.{_≡_, refl, sym, ap, _∙_}
+use mathlib.Core.Path.{_≡_, refl, sym, ap, ap₂, _∙_}
 use Prim.Native.Nat.{ℕ, _+_, _-_, _*_, _≤_, _<_, min}
 use native.Mathlib.Omega.{arith}
-use borrow.Author.Tests.{le-leb, lt-leb}
-use mathlib.Core.Bool.{Bool, false, not, cond}
+use borrow.Author.Tests.{leb-true, le-leb, lt-leb, not-true, not-false}
+use mathlib.Core.Bool.{Bool, true, false, not, _&&_, cond, false≢true}
 use mathlib.Core.List.{List, [], _∷_, _++_, map}
 use lib.Dec.{leb}
 use lib.ListN.{length, drop}
@@ -13,10 +13,12 @@ use Rattle.molecule.specs.Layout.{fixCount}
 use Rattle.out_points.specs.declared.{OutPoint.OutPoint}
 use Rattle.out_points.specs.OutPoints.{pointOf, points, pointList}
 use Rattle.out_points.proofs.ListLaws.{length-points, length-list}
+use Rattle.out_points.proofs.EqualLaws.{and-both}
 use Rattle.out_points.specs.Tables.{Outcome, done, refused, told, hasRoom, written}
 use Rattle.hold_records.specs.declared.{Owner.Owner, Hold.Hold, Held.Held}
 use Rattle.hold_records.specs.Holds.{recordsOf, cellsOf, firsts, others, heldBy}
-use Rattle.picks.specs.Places.{isAmong, asked, select, Tallied, unmatched, takeFrom}
+use Rattle.pick_kinds.specs.Kinds.{isAmong}
+use Rattle.picks.specs.Places.{asked, select, Tallied, unmatched, takeFrom}
 use Rattle.hold_records.specs.Rules.{putIf}
 use Rattle.hold_records.proofs.LoopLaws.{stands}
 use Rattle.hold_records.proofs.WriteLaws.{room-yes, put-yes}
@@ -81,6 +83,24 @@ module _ (cells picked spent : List ℕ) where
   unfolding asked
   rests-are = refl
 
+-- ---- whether both lists may be written
+
+module _ {r : Bool} (x y z w : ℕ) (e : r ≡ leb x y && leb z w) (t : not r ≡ false) where
+  both-first : x ≤ y
+  both-first = leb-true x y (and-both (leb x y) (leb z w) (sym e ∙ not-false r t) .0)
+
+  both-second : z ≤ w
+  both-second = leb-true z w (and-both (leb x y) (leb z w) (sym e ∙ not-false r t) .1)
+
+pub both-room : {r : Bool} (x y n m : ℕ) → r ≡ leb x y && leb (4 + 36 * n) (min m 133116) → not r ≡ false → 4 + 36 * n ≤ m
+both-room x y n m e t = let l : 4 + 36 * n ≤ min m 133116 = both-second x y (4 + 36 * n) (min m 133116) e t in omega arith
+
+pub both-no : {a c : Bool} (d : Bool) → a ≡ c → not a ≡ true → false ≡ c && d
+both-no {a} d e t = rw (← e, not-true a t)
+
+pub both-yes : {a b c d : Bool} → a ≡ c → not a ≡ false → b ≡ d → b ≡ c && d
+both-yes {a} e t f = rw (← e, not-false a t) f
+
 -- ---- the calls
 
 module _ (h k : Held) (cells picked spent : List ℕ) (owner : Owner) (out₁ out₂ : List ℕ) (g : Held) {c : ℕ} (t : Tallied owner (S cells picked spent) k g c) {n : ℕ} (en : n ≡ fixCount picked) where
@@ -118,19 +138,29 @@ module _ (h k : Held) (cells picked spent : List ℕ) (owner : Owner) (out₁ ou
   U-list : length (pointList U) ≡ 4 + 36 * (n - c)
   U-list = length-list U ∙ ap (λ (x : ℕ). 4 + 36 * x) U-long
 
-  pub take-short : {o : Outcome Held (List Hold)} → length out₁ < 4 + 36 * c → o ≡ told recordsOf (Answer.Refused Refusal.BufferTooShort) h → (o, out₁, out₂) ≡ takeFrom h (recordsOf k) (points cells) (points picked) (points spent) owner out₁ out₂
-  unfolding end hasRoom told number
-  take-short s e = rw e (rw (lt-leb (length (pointList T)) (length out₁) (omega (arith, T-list))) at end-is)
-
-  module _ (room₁ : 4 + 36 * c ≤ length out₁) where
-    pub take-short-rest : {o : Outcome Held (List Hold)} → length out₂ < 4 + 36 * (n - c) → o ≡ told recordsOf (Answer.Refused Refusal.BufferTooShort) h → (o, out₁, out₂) ≡ takeFrom h (recordsOf k) (points cells) (points picked) (points spent) owner out₁ out₂
+  module _ {r : Bool} (er : r ≡ leb (4 + 36 * c) (min (length out₁) 133116) && leb (4 + 36 * (n - c)) (min (length out₂) 133116)) where
+    pub take-short : {o : Outcome Held (List Hold)} → not r ≡ true → o ≡ told recordsOf (Answer.Refused Refusal.BufferTooShort) h → (o, out₁, out₂) ≡ takeFrom h (recordsOf k) (points cells) (points picked) (points spent) owner out₁ out₂
     unfolding end hasRoom told number
-    take-short-rest s e = rw e (rw (le-leb (length (pointList T)) (length out₁) (omega (arith, T-list)), lt-leb (length (pointList U)) (length out₂) (omega (arith, U-list))) at end-is)
+    take-short f e = rw e (by (hasRoom T out₁) (hasRoom U out₂) refl refl ∙ end-is)
+      where
+        by : (a b : Bool) → hasRoom T out₁ ≡ a → hasRoom U out₂ ≡ b → (refused 13 h, out₁, out₂) ≡ end
+        by true true ea eb = absurd (false≢true (sym (not-true r f) ∙ er ∙ rw (← T-list, ← U-list, ea, eb)))
+        by true false ea eb = rw (ea, eb)
+        by false b ea eb = rw ea
 
-    module _ (room₂ : 4 + 36 * (n - c) ≤ length out₂) where
+    module _ (fit : not r ≡ false) where
+      room₁ : 4 + 36 * c ≤ min (length out₁) 133116
+      room₁ = both-first (4 + 36 * c) (min (length out₁) 133116) (4 + 36 * (n - c)) (min (length out₂) 133116) er fit
+
+      room₂ : 4 + 36 * (n - c) ≤ min (length out₂) 133116
+      room₂ = both-second (4 + 36 * c) (min (length out₁) 133116) (4 + 36 * (n - c)) (min (length out₂) 133116) er fit
+
       fits : cond (leb (length (recordsOf k) + length T) 256) (done (recordsOf k ++ map (heldBy owner) T), written T out₁, written U out₂) (refused 14 h, out₁, out₂) ≡ takeFrom h (recordsOf k) (points cells) (points picked) (points spent) owner out₁ out₂
       unfolding end hasRoom
-      fits = rw (le-leb (length (pointList T)) (length out₁) (omega (arith, T-list)), le-leb (length (pointList U)) (length out₂) (omega (arith, U-list))) at end-is
+      fits =
+          let a = room₁ in
+          let b = room₂ in
+          rw (le-leb (length (pointList T)) (min (length out₁) 133116) (omega (arith, T-list)), le-leb (length (pointList U)) (min (length out₂) 133116) (omega (arith, U-list))) at end-is
 
       module _ {from : ℕ} (ef : from ≡ min (k .count) 256) where
         all-long : length (recordsOf k) + length T ≡ from + c
@@ -151,6 +181,32 @@ module _ (h k : Held) (cells picked spent : List ℕ) (owner : Owner) (out₁ ou
             let v₁ : b₁ ≡ written T out₁ = e₁ ∙ ap (λ (q : List OutPoint). putIf q out₁) y ∙ put-yes T out₁ (room-yes T out₁ (sym T-long) room₁) in
             let v₂ : b₂ ≡ written U out₂ = e₂ ∙ ap (λ (q : List OutPoint). written q out₂) z in
             rw (v, v₁, v₂) (rw (le-leb (length (recordsOf k) + length T) 256 (omega (arith, all-long))) at fits)
+
+-- more picks than two lists hold
+neither : {X : Type 0} (a b : Bool) (x y : X) → (a ≡ true → b ≡ true → ⊥) → y ≡ cond a (cond b x y) y
+neither true true x y h = absurd (h refl refl)
+neither true false x y h = refl
+neither false b x y h = refl
+
+over : (l m : List OutPoint) (out₁ out₂ : List ℕ) → 7394 < length l + length m → hasRoom l out₁ ≡ true → hasRoom m out₂ ≡ true → ⊥
+unfolding hasRoom
+over l m out₁ out₂ h a b =
+    let x : length (pointList l) ≤ min (length out₁) 133116 = leb-true (length (pointList l)) (min (length out₁) 133116) a in
+    let y : length (pointList m) ≤ min (length out₂) 133116 = leb-true (length (pointList m)) (min (length out₂) 133116) b in
+    omega (arith, length-list l, length-list m)
+
+pub take-many : (h k : Held) (cells picked spent : List ℕ) (owner : Owner) (out₁ out₂ : List ℕ) {n : ℕ} {o : Outcome Held (List Hold)} → n ≡ fixCount picked → 7394 < n
+    → o ≡ told recordsOf (Answer.Refused Refusal.BufferTooShort) h → (o, out₁, out₂) ≡ takeFrom h (recordsOf k) (points cells) (points picked) (points spent) owner out₁ out₂
+unfolding takeFrom told number
+take-many h k cells picked spent owner out₁ out₂ {n} en m e =
+    let l : List OutPoint = firsts (λ p. not (isAmong (points cells) (points spent) p)) [] (points picked) in
+    let r : List OutPoint = others (λ p. not (isAmong (points cells) (points spent) p)) [] (points picked) in
+    let z : length l + length r ≡ fixCount picked = both-length (λ p. not (isAmong (points cells) (points spent) p)) [] (points picked) ∙ length-points picked in
+    rw e
+    (neither (hasRoom l out₁) (hasRoom r out₂)
+    (cond (leb (length (recordsOf k) + length l) 256) (done (recordsOf k ++ map (heldBy owner) l), written l out₁, written r out₂) (refused 14 h, out₁, out₂))
+    (refused 13 h, out₁, out₂)
+    (over l r out₁ out₂ (omega arith)))
 
 -- what is taken by a list of cells is taken by the records that they are of
 pub take-among : (h k : Held) (cells picked spent : List ℕ) (owner : Owner) (out₁ out₂ : List ℕ) {z : ℕ} {x : Outcome Held (List Hold) × List ℕ × List ℕ} → (9220 ≤ z → points cells ≡ cellsOf (recordsOf k)) → 9220 ≤ z

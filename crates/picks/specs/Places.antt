@@ -7,14 +7,11 @@ use lib.Dec.{leb}
 use lib.ListN.{length, drop, getD, set}
 use Rattle.molecule.specs.Layout.{span}
 use Rattle.out_points.specs.declared.{OutPoint.OutPoint}
-use Rattle.out_points.specs.OutPoints.{eqPoint, has}
+use Rattle.out_points.specs.OutPoints.{eqPoint, has, pointOf, points}
 use Rattle.out_points.specs.Tables.{Outcome, done, refused, check, hasRoom, written}
 use Rattle.hold_records.specs.declared.{Owner.Owner, Hold.Hold, Held.Held}
 use Rattle.hold_records.specs.Holds.{recordsOf, heldBy, firsts, others}
-
--- p is among the cells that are held, or spent: `isBusy` of the list of the records' cells
-unfoldable pub isAmong : List OutPoint → List OutPoint → OutPoint → Bool
-isAmong cells spent p = cond (has p cells) true (has p spent)
+use Rattle.pick_kinds.specs.Kinds.{isAmong, Kinds}
 
 -- the marks with those of the out points set: one stands for every out point, by the first word of its hash
 unfoldable pub marked : List OutPoint → List ℕ → List ℕ
@@ -25,6 +22,16 @@ marked (p ∷ l) m = marked l (set m (p .hash .a % 4096) 1)
 pub record Marks (cells spent : List OutPoint) (m : List ℕ) : Type 0 where
   pub enough : length m ≡ 4096
   pub unmarked : (p : OutPoint) → getD m (p .hash .a % 4096) 0 ≡ 0 → isAmong cells spent p ≡ false
+
+-- marks, and what the first `known` picks are
+pub record Looked (cells picked spent marks kinds : List ℕ) (known : ℕ) : Type 0 where
+  pub marks-are : Marks (points cells) (points spent) marks
+  pub kinds-are : Kinds (isAmong (points cells) (points spent)) (pointOf picked) known kinds
+
+-- what stands for a first pick that is busy, or free
+unfoldable pub wanted : Bool → ℕ
+wanted true = 2
+wanted false = 1
 
 -- b, or its opposite
 unfoldable pub asked : Bool → Bool → Bool

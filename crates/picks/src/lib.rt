@@ -7,11 +7,13 @@ use hold_records::MOST_RECORDS;
 use hold_records::Owner;
 use molecule::write;
 use out_points::OutPoint;
+use pick_kinds::MOST_PICKS;
 ghost use mathlib.Core.Path.{_≡_};
-ghost use mathlib.Core.Bool.{true, false};
+ghost use mathlib.Core.Bool.{true, false, _&&_};
 ghost use mathlib.Core.List.{[]};
-ghost use Prim.Native.Nat.{_+_, _*_, _%_, _≤_, _<_};
-ghost use lib.ListN.{length, drop, set};
+ghost use Prim.Native.Nat.{_+_, _*_, _%_, _≤_, _<_, min};
+ghost use lib.Dec.{leb, eqb};
+ghost use lib.ListN.{length, getD, drop, set};
 ghost use Rattle.error.specs.declared.{Answer.Answer};
 ghost use Rattle.molecule.specs.Layout.{fixCount};
 ghost use Rattle.molecule.specs.Write.{Put};
@@ -19,10 +21,14 @@ ghost use Rattle.out_points.specs.OutPoints.{pointOf, points, bytesOf};
 ghost use Rattle.out_points.specs.Tables.{told, hasRoom, written};
 ghost use Rattle.hold_records.specs.Holds.{recordsOf, cellsOf, isBusy, firsts};
 ghost use Rattle.hold_records.specs.Rules.{putIf};
-ghost use Rattle.picks.specs.Places.{isAmong, marked, Marks, asked, isFirst, select, Tallied, unmatched, takeFrom};
+ghost use Rattle.pick_kinds.specs.Kinds.{isAmong};
+ghost use Rattle.picks.specs.Places.{marked, Marks, wanted, Looked, asked, isFirst, select, Tallied, unmatched, takeFrom};
 
 // How many bytes the list of a table's cells has at most.
 const CELLS_BYTES: usize = 4 + 36 * MOST_RECORDS;
+
+// So many picks are looked up one by one: an index would cost more.
+const FEW_PICKS: usize = 64;
 
 // How many marks stand before a search: one for every out point, by the first word of its hash.
 const MARKS: usize = 4096;
@@ -87,8 +93,8 @@ fn passes(cells: &[u8], spent: &[u8], marks: &[u8], want: bool, p: OutPoint) -> 
     !b
 }
 
-// Whether pick i passes, and no pick before it is the same.
-fn is_first(cells: &[u8], picked: &[u8], spent: &[u8], marks: &[u8], want: bool, i: usize) -> bool
+// Whether pick i passes, and no pick before it is the same: both are looked up.
+fn look_up(cells: &[u8], picked: &[u8], spent: &[u8], marks: &[u8], want: bool, i: usize) -> bool
     requires { ⌜ i < fixCount (now picked) ⌝ }
     requires { ⌜ Marks (points (now cells)) (points (now spent)) (now marks) ⌝ }
     ensures { λ r. ⌜ r ≡ isFirst (λ p. asked want (isAmong (points (now (cells .entry))) (points (now (spent .entry))) p)) (pointOf (now (picked .entry))) i ⌝ }
@@ -100,9 +106,49 @@ fn is_first(cells: &[u8], picked: &[u8], spent: &[u8], marks: &[u8], want: bool,
     !out_points::has_before(picked, i, p)
 }
 
+// Whether pick i is a first one and busy, or free, as wanted.
+fn is_kind(kinds: &[u8], want: bool, i: usize) -> bool
+    requires { ⌜ i < length (now kinds) ⌝ }
+    ensures { λ r. ⌜ r ≡ eqb (getD (now (kinds .entry)) i 0) (wanted want) ⌝ }
+{
+    let kind = kinds[i];
+    if want {
+        return kind == 2;
+    }
+    kind == 1
+}
+
+// The same as `look_up`. What the first `known` picks are has been sorted out.
+fn is_first(
+    cells: &[u8],
+    picked: &[u8],
+    spent: &[u8],
+    marks: &[u8],
+    kinds: &[u8],
+    known: usize,
+    want: bool,
+    i: usize,
+) -> bool
+    requires { ⌜ i < fixCount (now picked) ⌝ }
+    requires { ⌜ Looked (now cells) (now picked) (now spent) (now marks) (now kinds) known ⌝ }
+    ensures { λ r. ⌜ r ≡ isFirst (λ p. asked want (isAmong (points (now (cells .entry))) (points (now (spent .entry))) p)) (pointOf (now (picked .entry))) i ⌝ }
+{
+    if i < known {
+        return is_kind(kinds, want, i);
+    }
+    look_up(cells, picked, spent, marks, want, i)
+}
+
 // How many picks are busy, each counted once.
-fn count_busy(cells: &[u8], picked: &[u8], spent: &[u8], marks: &[u8]) -> u32
-    requires { ⌜ Marks (points (now cells)) (points (now spent)) (now marks) ⌝ }
+fn count_busy(
+    cells: &[u8],
+    picked: &[u8],
+    spent: &[u8],
+    marks: &[u8],
+    kinds: &[u8],
+    known: usize,
+) -> u32
+    requires { ⌜ Looked (now cells) (now picked) (now spent) (now marks) (now kinds) known ⌝ }
     ensures { λ r. ⌜ r ≡ length (select (λ p. asked true (isAmong (points (now (cells .entry))) (points (now (spent .entry))) p)) (pointOf (now (picked .entry))) 0 (fixCount (now (picked .entry)))) ⌝ }
 {
     let n = molecule::fix_count(picked) as usize;
@@ -111,7 +157,7 @@ fn count_busy(cells: &[u8], picked: &[u8], spent: &[u8], marks: &[u8]) -> u32
     while i < n {
         let k = i;
         i += 1;
-        if is_first(cells, picked, spent, marks, true, k) {
+        if is_first(cells, picked, spent, marks, kinds, known, true, k) {
             count += 1;
         }
     }
@@ -124,10 +170,12 @@ fn put_busy(
     picked: &[u8],
     spent: &[u8],
     marks: &[u8],
+    kinds: &[u8],
+    known: usize,
     out: &mut [u8],
     at: usize,
 ) -> usize
-    requires { ⌜ Marks (points (now cells)) (points (now spent)) (now marks) ⌝ }
+    requires { ⌜ Looked (now cells) (now picked) (now spent) (now marks) (now kinds) known ⌝ }
     requires { ⌜ at + 36 * length (select (λ p. asked true (isAmong (points (now cells)) (points (now spent)) p)) (pointOf (now picked)) 0 (fixCount (now picked))) ≤ length (now out) ⌝ }
     ensures { λ r. ⌜ Put (now (out .entry)) at (bytesOf (select (λ p. asked true (isAmong (points (now (cells .entry))) (points (now (spent .entry))) p)) (pointOf (now (picked .entry))) 0 (fixCount (now (picked .entry))))) (now (out .exit)) r ⌝ }
 {
@@ -137,7 +185,7 @@ fn put_busy(
     while i < n {
         let k = i;
         i += 1;
-        if is_first(cells, picked, spent, marks, true, k) {
+        if is_first(cells, picked, spent, marks, kinds, known, true, k) {
             let p = out_points::point_of(picked, k);
             to = out_points::put_out_point(out, to, p);
         }
@@ -146,18 +194,50 @@ fn put_busy(
 }
 
 // Puts the list of the busy picks at the start of out, and answers whether there is room for all of it: else it puts nothing.
-fn put_busy_list(cells: &[u8], picked: &[u8], spent: &[u8], marks: &[u8], out: &mut [u8]) -> bool
+fn put_busy_list(
+    cells: &[u8],
+    picked: &[u8],
+    spent: &[u8],
+    marks: &[u8],
+    kinds: &[u8],
+    known: usize,
+    out: &mut [u8],
+) -> bool
+    requires { ⌜ Looked (now cells) (now picked) (now spent) (now marks) (now kinds) known ⌝ }
+    ensures { λ r. ⌜ r ≡ hasRoom (firsts (isAmong (points (now (cells .entry))) (points (now (spent .entry)))) [] (points (now (picked .entry)))) (now (out .entry)) ⌝ }
+    ensures { λ _. ⌜ now (out .exit) ≡ putIf (firsts (isAmong (points (now (cells .entry))) (points (now (spent .entry)))) [] (points (now (picked .entry)))) (now (out .entry)) ⌝ }
+{
+    let n = count_busy(cells, picked, spent, marks, kinds, known);
+    if !out_points::fits(n, out.len()) {
+        return false;
+    }
+    let at = write::put_u32(out, 0, n);
+    put_busy(cells, picked, spent, marks, kinds, known, out, at);
+    true
+}
+
+// The same by an index of the picks.
+fn index_busy(cells: &[u8], picked: &[u8], spent: &[u8], marks: &[u8], out: &mut [u8]) -> bool
     requires { ⌜ Marks (points (now cells)) (points (now spent)) (now marks) ⌝ }
     ensures { λ r. ⌜ r ≡ hasRoom (firsts (isAmong (points (now (cells .entry))) (points (now (spent .entry)))) [] (points (now (picked .entry)))) (now (out .entry)) ⌝ }
     ensures { λ _. ⌜ now (out .exit) ≡ putIf (firsts (isAmong (points (now (cells .entry))) (points (now (spent .entry)))) [] (points (now (picked .entry)))) (now (out .entry)) ⌝ }
 {
-    let n = count_busy(cells, picked, spent, marks);
-    if out.len() < out_points::list_size(n) {
-        return false;
+    let mut kinds = [0u8; MOST_PICKS];
+    let known = pick_kinds::sort_out(cells, picked, spent, &mut kinds);
+    put_busy_list(cells, picked, spent, marks, &kinds, known, out)
+}
+
+// The same. A few picks are looked up one by one.
+fn put_among(cells: &[u8], picked: &[u8], spent: &[u8], marks: &[u8], out: &mut [u8]) -> bool
+    requires { ⌜ Marks (points (now cells)) (points (now spent)) (now marks) ⌝ }
+    ensures { λ r. ⌜ r ≡ hasRoom (firsts (isAmong (points (now (cells .entry))) (points (now (spent .entry)))) [] (points (now (picked .entry)))) (now (out .entry)) ⌝ }
+    ensures { λ _. ⌜ now (out .exit) ≡ putIf (firsts (isAmong (points (now (cells .entry))) (points (now (spent .entry)))) [] (points (now (picked .entry)))) (now (out .entry)) ⌝ }
+{
+    let n = molecule::fix_count(picked) as usize;
+    if n <= FEW_PICKS {
+        return put_busy_list(cells, picked, spent, marks, marks, 0, out);
     }
-    let at = write::put_u32(out, 0, n);
-    put_busy(cells, picked, spent, marks, out, at);
-    true
+    index_busy(cells, picked, spent, marks, out)
 }
 
 // The same of the picks that a table holds, or that are spent.
@@ -169,7 +249,7 @@ pub fn put_unavailable(h: Held, picked: &[u8], spent: &[u8], out: &mut [u8]) -> 
     hold_records::list_cells(h, &mut cells);
     let mut marks = [0u8; MARKS];
     mark_both(&cells, spent, &mut marks);
-    put_busy_list(&cells, picked, spent, &marks, out)
+    put_among(&cells, picked, spent, &marks, out)
 }
 
 // How many picks are taken, and the table with a record for each, as far as there is room.
@@ -178,8 +258,17 @@ struct Taken {
     count: u32,
 }
 
-fn tally(h: Held, cells: &[u8], picked: &[u8], spent: &[u8], marks: &[u8], owner: Owner) -> Taken
-    requires { ⌜ Marks (points (now cells)) (points (now spent)) (now marks) ⌝ }
+fn tally(
+    h: Held,
+    cells: &[u8],
+    picked: &[u8],
+    spent: &[u8],
+    marks: &[u8],
+    kinds: &[u8],
+    known: usize,
+    owner: Owner,
+) -> Taken
+    requires { ⌜ Looked (now cells) (now picked) (now spent) (now marks) (now kinds) known ⌝ }
     ensures { λ r. ⌜ Tallied owner (select (λ p. asked false (isAmong (points (now (cells .entry))) (points (now (spent .entry))) p)) (pointOf (now (picked .entry))) 0 (fixCount (now (picked .entry)))) h (r .held) (r .count) ⌝ }
 {
     let n = molecule::fix_count(picked) as usize;
@@ -191,7 +280,7 @@ fn tally(h: Held, cells: &[u8], picked: &[u8], spent: &[u8], marks: &[u8], owner
     while i < n {
         let k = i;
         i += 1;
-        if is_first(cells, picked, spent, marks, false, k) {
+        if is_first(cells, picked, spent, marks, kinds, known, false, k) {
             count += 1;
             let last = g.count;
             if last < MOST_RECORDS {
@@ -258,7 +347,84 @@ fn put_taken_and_refused(
     put_refused_list(g, from, picked, n, refused);
 }
 
+// Whether lists of so many out points may be written to buffers of so many bytes.
+fn both_fit(count: u32, taken: usize, rest: u32, refused: usize) -> bool
+    ensures { λ r. ⌜ r ≡ leb (4 + 36 * count) (min taken 133116) && leb (4 + 36 * rest) (min refused 133116) ⌝ }
+{
+    if !out_points::fits(count, taken) {
+        return false;
+    }
+    out_points::fits(rest, refused)
+}
+
 // Takes the picks that are not among the cells of `live`; a refusal hands back `held`.
+fn take_known(
+    held: Held,
+    live: Held,
+    cells: &[u8],
+    picked: &[u8],
+    spent: &[u8],
+    marks: &[u8],
+    kinds: &[u8],
+    known: usize,
+    owner: Owner,
+    taken: &mut [u8],
+    refused: &mut [u8],
+) -> HeldAnswer
+    requires { ⌜ Looked (now cells) (now picked) (now spent) (now marks) (now kinds) known ⌝ }
+    ensures { λ r. ⌜ (told recordsOf (r .answer) (r .held), now (taken .exit), now (refused .exit)) ≡ takeFrom held (recordsOf live) (points (now (cells .entry))) (points (now (picked .entry))) (points (now (spent .entry))) owner (now (taken .entry)) (now (refused .entry)) ⌝ }
+    ensures { λ r. ⌜ (r .answer ≡ Answer.Done → r .held .count ≤ 256) ⌝ }
+{
+    let t = tally(live, cells, picked, spent, marks, kinds, known, owner);
+    let count = t.count;
+    let n = molecule::fix_count(picked);
+    let rest = n - count;
+    if !both_fit(count, taken.len(), rest, refused.len()) {
+        return hold_records::refuse(held, Refusal::BufferTooShort);
+    }
+    let from = hold_records::used(live.count);
+    if MOST_RECORDS - from < count as usize {
+        return hold_records::refuse(held, Refusal::TooManyHolds);
+    }
+    let after = t.held;
+    put_taken_and_refused(after, from, picked, rest, taken, refused);
+    hold_records::done(after)
+}
+
+// The same by an index of the picks.
+fn take_indexed(
+    held: Held,
+    live: Held,
+    cells: &[u8],
+    picked: &[u8],
+    spent: &[u8],
+    marks: &[u8],
+    owner: Owner,
+    taken: &mut [u8],
+    refused: &mut [u8],
+) -> HeldAnswer
+    requires { ⌜ Marks (points (now cells)) (points (now spent)) (now marks) ⌝ }
+    ensures { λ r. ⌜ (told recordsOf (r .answer) (r .held), now (taken .exit), now (refused .exit)) ≡ takeFrom held (recordsOf live) (points (now (cells .entry))) (points (now (picked .entry))) (points (now (spent .entry))) owner (now (taken .entry)) (now (refused .entry)) ⌝ }
+    ensures { λ r. ⌜ (r .answer ≡ Answer.Done → r .held .count ≤ 256) ⌝ }
+{
+    let mut kinds = [0u8; MOST_PICKS];
+    let known = pick_kinds::sort_out(cells, picked, spent, &mut kinds);
+    take_known(
+        held,
+        live,
+        cells,
+        picked,
+        spent,
+        marks,
+        &kinds,
+        known,
+        owner,
+        taken,
+        refused,
+    )
+}
+
+// The same. More picks than two lists hold are refused, and a few are looked up one by one.
 fn take_free(
     held: Held,
     live: Held,
@@ -274,23 +440,36 @@ fn take_free(
     ensures { λ r. ⌜ (told recordsOf (r .answer) (r .held), now (taken .exit), now (refused .exit)) ≡ takeFrom held (recordsOf live) (points (now (cells .entry))) (points (now (picked .entry))) (points (now (spent .entry))) owner (now (taken .entry)) (now (refused .entry)) ⌝ }
     ensures { λ r. ⌜ (r .answer ≡ Answer.Done → r .held .count ≤ 256) ⌝ }
 {
-    let t = tally(live, cells, picked, spent, marks, owner);
-    let count = t.count;
-    let n = molecule::fix_count(picked);
-    let rest = n - count;
-    if taken.len() < out_points::list_size(count) {
+    let n = molecule::fix_count(picked) as usize;
+    if MOST_PICKS < n {
         return hold_records::refuse(held, Refusal::BufferTooShort);
     }
-    if refused.len() < out_points::list_size(rest) {
-        return hold_records::refuse(held, Refusal::BufferTooShort);
+    if n <= FEW_PICKS {
+        return take_known(
+            held,
+            live,
+            cells,
+            picked,
+            spent,
+            marks,
+            marks,
+            0,
+            owner,
+            taken,
+            refused,
+        );
     }
-    let from = hold_records::used(live.count);
-    if MOST_RECORDS - from < count as usize {
-        return hold_records::refuse(held, Refusal::TooManyHolds);
-    }
-    let after = t.held;
-    put_taken_and_refused(after, from, picked, rest, taken, refused);
-    hold_records::done(after)
+    take_indexed(
+        held,
+        live,
+        cells,
+        picked,
+        spent,
+        marks,
+        owner,
+        taken,
+        refused,
+    )
 }
 
 // Takes the picks that no record of `live` holds; a refusal hands back `held`.

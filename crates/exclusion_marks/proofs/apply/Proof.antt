@@ -9,7 +9,7 @@ apply-spec =
     (λ c κs. search ways)  -- read-map-requires
     (λ c. search ways)  -- returns
     (λ c. search ways)  -- cast-n
-    (λ c κs. search ways)  -- list-size-requires
+    (λ c κs. search ways)  -- fits-requires
     (λ c. search ways)  -- returns-2
     (λ c κs. search ways)  -- are-bytes-requires
     (λ c κs. search ways)  -- put-excluded-requires

@@ -6,8 +6,7 @@ pub is-first-spec : {M : Type 1} → statement M
 is-first-spec =
     tie.close
     (tie.spec
-    (λ c κs. search ways)  -- point-of-requires
-    (λ c κs. search ways)  -- passes-requires
+    (λ c κs. search ways)  -- is-kind-requires
     (λ c. search ways)  -- returns
-    (λ c κs. search ways)  -- has-before-requires
+    (λ c κs. search ways)  -- look-up-requires
     (λ c. search ways))  -- returns-2

@@ -3,17 +3,18 @@ use mathlib.Core.Bool.{true, false}
 use lib.ListN.{length}
 use Rattle.molecule.specs.Layout.{fixCount}
 use Rattle.out_points.specs.OutPoints.{pointOf, points}
-use Rattle.picks.specs.Places.{isAmong, asked, select}
+use Rattle.pick_kinds.specs.Kinds.{isAmong}
+use Rattle.picks.specs.Places.{asked, select}
 use Rattle.picks.proofs.PickLaws.{Naming}
 use Rattle.picks.proofs.Ways.{ways}
 use Rattle.picks.proofs.put_busy.Statement.{statement}
 use Rattle.picks.proofs.put_busy.Tie as tie
 
 abbrev Inv-loop : tie.InvT-loop
-Inv-loop cells picked spent marks out₀ at n to₀ i₀ out to i = Naming (λ p. asked true (isAmong (points cells) (points spent) p)) (pointOf picked) n (fixCount picked) i out₀ at out to
+Inv-loop cells picked spent marks kinds known out₀ at n to₀ i₀ out to i = Naming (λ p. asked true (isAmong (points cells) (points spent) p)) (pointOf picked) n (fixCount picked) i out₀ at out to
 
 abbrev μ-loop : tie.MeasureT-loop
-μ-loop cells picked spent marks out₀ at n to₀ i₀ out to i = n - i
+μ-loop cells picked spent marks kinds known out₀ at n to₀ i₀ out to i = n - i
 
 pub put-busy-spec : {M : Type 1} → statement M
 put-busy-spec =

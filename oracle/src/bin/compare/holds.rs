@@ -11,7 +11,7 @@ use oracle::original::holds::{self as original, Holds};
 const BYTES: usize = 12_292;
 const MOST: usize = 256;
 const OVER: &str = "14 where the original has no such bound: a 257th hold record";
-const ROOM: &str = "13 where the original has no such bound: a buffer of a call on the holds; ended records stay";
+const ROOM: &str = "13 where the original has no such bound: a buffer of a call on the holds, or 133,116 bytes; ended records stay";
 const TWICE: &str = "a table with a watchtower's cell twice, which the original can't have";
 
 #[derive(Clone, Debug)]

@@ -100,7 +100,7 @@ impl Buffer {
         Buffer(vec![BYTE; room])
     }
     pub fn fits(room: usize, points: &[Point]) -> bool {
-        4 + 36 * points.len() <= room
+        4 + 36 * points.len() <= room.min(133_116)
     }
     /// Whether it has the list in front and is otherwise as it was.
     pub fn has(&self, points: &[Point]) -> bool {
