@@ -17,6 +17,7 @@ use Rattle.out_points.specs.declared.{OutPoint.OutPoint}
 use Rattle.out_points.specs.OutPoints.{eqPoint, outPointAt, pointOf, pointBytes}
 use Rattle.out_points.proofs.EqualLaws.{point-same, point-refl}
 use Rattle.out_points.proofs.AgainLaws.{point-again, item-bytes}
+use Rattle.molecule.proofs.LayoutLaws.{fix-count-said}
 use Rattle.item_index.specs.Index.{keyOf, placeIn, Index}
 use Rattle.pick_kinds.specs.Indexed.{Whole, AllWhole, Indexed, FirstAt}
 
@@ -43,7 +44,7 @@ item-whole : {s : List ℕ} → Whole s → (i : ℕ) → i < fixCount s → poi
 unfolding pointOf
 item-whole {s} w i h =
     let l = w .long in
-    let n : length (fixItem s 36 i) ≡ 36 = ap length (item-run s 36 i h) ∙ length-take-le 36 (drop (4 + 36 * i) s) (rw (length-drop (4 + 36 * i) s) (omega arith)) in
+    let n : length (fixItem s 36 i) ≡ 36 = ap length (item-run s 36 i (omega (arith, fix-count-said s))) ∙ length-take-le 36 (drop (4 + 36 * i) s) (rw (length-drop (4 + 36 * i) s) (omega arith)) in
     point-again (fixItem s 36 i) (item-bytes s 36 i (w .bytes)) n
 
 pub same-bytes : {s t : List ℕ} → Whole s → Whole t → (i j : ℕ) → i < fixCount s → j < fixCount t → eqBytes (fixItem s 36 i) (fixItem t 36 j) ≡ eqPoint (pointOf s i) (pointOf t j)
