@@ -5,7 +5,11 @@ const HEADER: &str = include_str!("../../bindings/c/basinpantry.h");
 
 /// Entries by the start of their names, and a sentence of the header: as long as it stands there, what it bounds may grow with the count.
 const EXCEPTIONS: &[(&[&str], Growth, &str)] = &[
-    (&["take", "unavailable"], Growth::Any, "look at as many out points as picks times (records, spent and picks)."),
+    (
+        &["hold_for_watchtower", "release_for_watchtower"],
+        Growth::Any,
+        "This call and the next look at up to 256 records for each cell, where many hashes begin alike.",
+    ),
     (&["exclusions_"], Growth::ToOriginal, "Excluded cells (LiveCellsExclusionMap): at most 64 entries with at most 512 out points in all."),
 ];
 

@@ -236,7 +236,8 @@ uint32_t basinpantry_build_base(const uint8_t *ours, size_t ours_len,
    each other's records, and an empty list lets all its cells go. Refused: 3, 14. */
 uint32_t basinpantry_hold_funding(uint8_t *held, size_t held_len, uint64_t holder, const uint8_t *cells, size_t cells_len);
 
-/* The cells of a transaction that the watchtower sent at `time`: held for 1,800,000 ms. Refused: 3, 14. */
+/* The cells of a transaction that the watchtower sent at `time`: held for 1,800,000 ms. This call and the next look at up to 256 records for each cell, where
+   many hashes begin alike. Refused: 3, 14. */
 uint32_t basinpantry_hold_for_watchtower(uint8_t *held, size_t held_len, const uint8_t *cells, size_t cells_len, uint64_t time);
 
 /* The cells of a transaction that the watchtower could not send are free again: its records of them are dropped, and no funding's. Refused: 3. */
