@@ -10,7 +10,7 @@ use std::rc::Rc;
 
 /// How many records a table has room for, how many picks, and how many records where these grow.
 const RECORDS: usize = 256;
-const PICKS: [usize; 3] = [350, 1_400, 5_600];
+const PICKS: [usize; 3] = [350, 1_400, 3_600];
 const GROWING: [usize; 3] = [64, 128, 256];
 const TIME: u64 = 5;
 

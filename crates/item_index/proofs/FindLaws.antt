@@ -10,6 +10,7 @@ use lib.Dec.{ltb}
 use lib.ListN.{length, getD}
 use Rattle.molecule.specs.Layout.{span}
 use Rattle.lists.specs.Lists.{eqBytes, contains}
+use Rattle.lists.proofs.LoopLaws.{at-place}
 use Rattle.lists.proofs.EqualLaws.{not-so, eq-refl, eq-true}
 use Rattle.item_index.specs.declared.ordering.Order.{Order}
 use Rattle.item_index.specs.Order.{isBefore, orderOf}
@@ -178,8 +179,73 @@ module _ {f : ℕ → List ℕ} {s : List ℕ} {n : ℕ} {x : List ℕ} {at : �
         before : (a : ℕ) → 0 ≤ a → a < p → eqBytes x (f a) ≡ false
         before a z l = let m = o .inside at h in not-so (eqBytes x (f a)) (smaller a l (o .onto a (omega arith)))
 
-pub has-is : (f : ℕ → List ℕ) (s x : List ℕ) (n : ℕ) {at : ℕ} → (Index f n s → at ≡ placeIn x (span f 0 n)) → Index f n s → ltb at n ≡ contains x (span f 0 n)
-has-is f s x n e o = ap (λ (v : ℕ). ltb v n) (e o) ∙ sym (place-there x f 0 n)
-
 pub place-short : (f : ℕ → List ℕ) (s x : List ℕ) (n : ℕ) → length s < n → Index f n s → n ≡ placeIn x (span f 0 n)
 place-short f s x n h o = absurd (let r = o .room in omega arith)
+
+-- ---- the search that ends where x is met
+
+-- if s is the index, those below `low` come before x, and those from `high` on after it
+pub record Seeking (f : ℕ → List ℕ) (s : List ℕ) (n : ℕ) (x : List ℕ) (low high : ℕ) : Type 0 where
+  pub room : n ≤ length s
+  pub meet : low ≤ high
+  pub end : high ≤ n
+  pub below : Index f n s → (i : ℕ) → i < low → isBefore (f (getD s i 0)) x ≡ true
+  pub above : Index f n s → (i : ℕ) → high ≤ i → i < n → isBefore x (f (getD s i 0)) ≡ true
+
+pub search-start : (f : ℕ → List ℕ) (s : List ℕ) (n : ℕ) (x : List ℕ) → n ≤ length s → Seeking f s n x 0 n
+search-start f s n x r = record { room = r; meet = omega arith; end = omega arith; below = λ o i h. absurd (omega arith); above = λ o i h l. absurd (omega arith) }
+
+pub search-short : (f : ℕ → List ℕ) (s x : List ℕ) (n : ℕ) → length s < n → Index f n s → false ≡ contains x (span f 0 n)
+search-short f s x n h o = absurd (let r = o .room in omega arith)
+
+module _ {f : ℕ → List ℕ} {s : List ℕ} {n : ℕ} {x : List ℕ} {low high : ℕ} (k : Seeking f s n x low high) where
+  pub search-none : high ≤ low → Index f n s → false ≡ contains x (span f 0 n)
+  search-none h o =
+      sym (place-there x f 0 n ∙ ap (λ (v : ℕ). ltb v n) (nowhere-there x f 0 n (λ i p q. by-place x o each i (omega arith))) ∙ le-ltb n n (omega arith))
+    where
+      each : (a : ℕ) → a < n → eqBytes x (f (getD s a 0)) ≡ false
+      each a l = three a low
+          (λ w. low-differs x (f (getD s a 0)) (k .below o a w))
+          (λ w. before-differs x (f (getD s a 0)) (k .above o a (omega arith) l))
+          (λ w. before-differs x (f (getD s a 0)) (k .above o a (omega arith) l))
+
+  module _ (h : low < high) where
+    pub search-in : low + (high - low) / 2 < length s
+    search-in =
+        let e = k .end in
+        let r = k .room in
+        omega arith
+
+    module _ {p : ℕ} (ep : p ≡ getD s (low + (high - low) / 2) 0) {y : List ℕ} (ey : y ≡ f p) {o : Order} (eo : o ≡ orderOf y x) where
+      found-at : y ≡ f (getD s (low + (high - low) / 2) 0)
+      found-at = ey ∙ ap f ep
+
+      pub search-up : o ≡ Order.Before → Seeking f s n x (low + (high - low) / 2 + 1) high
+      search-up t =
+          let e = k .end in
+          record {
+            room = k .room;
+            meet = omega arith;
+            end = e;
+            below = λ ix i l. before-later (f (getD s i 0)) y x (ap (λ (w : List ℕ). isBefore w (f (getD s i 0))) found-at ∙ items-on ix i (low + (high - low) / 2) (omega arith) (omega arith))
+                (order-less y x (sym t ∙ eo));
+            above = k .above;
+          }
+
+      pub search-down : o ≡ Order.After → Seeking f s n x low (low + (high - low) / 2)
+      search-down t =
+          let e = k .end in
+          record {
+            room = k .room;
+            meet = omega arith;
+            end = omega arith;
+            below = k .below;
+            above = λ ix i l m. before-earlier x y (f (getD s i 0)) (order-more y x (sym t ∙ eo)) (ap (isBefore (f (getD s i 0))) found-at ∙ items-on ix (low + (high - low) / 2) i l m);
+          }
+
+      pub search-met : o ≡ Order.Same → Index f n s → true ≡ contains x (span f 0 n)
+      search-met t ix =
+          let e = k .end in
+          let i : ℕ = getD s (low + (high - low) / 2) 0 in
+          sym (at-place x f i 0 n (ix .inside (low + (high - low) / 2) (omega arith))
+          (ap (λ (v : ℕ). eqBytes x (f v)) (zero-add i) ∙ ap (eqBytes x) (sym found-at ∙ order-same y x (sym t ∙ eo)) ∙ eq-refl x))

@@ -5,8 +5,9 @@ use mathlib.Core.Bool.{Bool, true, false}
 use mathlib.Core.List.{List}
 use native.Mathlib.Nat.{add-zero}
 use native.Mathlib.Omega.{arith}
-use lib.ListN.{length, getD}
+use lib.ListN.{length, getD, take, drop}
 use Rattle.arithmetic.specs.LittleEndian.{AllBytes}
+use Rattle.lists.proofs.EqualLaws.{whole}
 use Rattle.item_index.specs.declared.ordering.Order.{Order}
 use Rattle.item_index.specs.Order.{isBefore, orderOf, horner}
 use Rattle.item_index.proofs.OrderLaws.{three, Alike, alike-start, alike-back, alike-next, alike-less, all-alike, less, before-is, after-is, same-is}
@@ -98,3 +99,7 @@ module _ {a b : List ℕ} {i : ℕ} (w : Alike a b i) (e : length a ≡ length b
     pub last-same : v ≤ u → u ≤ v → Order.Same ≡ orderOf a b
     last-same m n =
         same-is a b (all-alike a b (length a - 8 + 8) (at-same w e (length a - 8) h (omega arith) (eu .0) (eu .1) (ev .0) (ev .1) m n) (omega arith) (omega arith))
+
+-- both strings taken anew
+pub order-whole : (a b : List ℕ) {o : Order} → o ≡ orderOf (take (length a - 0) (drop 0 a)) (take (length b - 0) (drop 0 b)) → o ≡ orderOf a b
+order-whole a b h = rw (whole a, whole b) at h

@@ -235,12 +235,42 @@ pub fn place_of(b: &[u8], k: u32, skip: usize, s: &[u32], n: u32, x: &[u8]) -> u
     m
 }
 
-// Whether x stands among the first n items, if s is their index.
+// Whether x stands among the first n items, if s is their index: a search by halves that ends where x is met.
+fn has_within(b: &[u8], k: u32, skip: usize, s: &[u32], n: usize, x: &[u8]) -> bool
+    requires { ⌜ n ≤ length (now s) ⌝ }
+    ensures { λ r. ⌜ (Index (keyOf (now (b .entry)) k skip) n (now (s .entry)) → r ≡ contains (now (x .entry)) (span (keyOf (now (b .entry)) k skip) 0 n)) ⌝ }
+{
+    let mut low: usize = 0;
+    let mut high = n;
+    while low < high {
+        let mid = low + (high - low) / 2;
+        let place = place_at(s, mid);
+        let y = key(b, k, skip, place);
+        let order = ordering::compare(y, x);
+        match order {
+            Order::Before => {
+                low = mid + 1;
+            }
+            Order::Same => {
+                return true;
+            }
+            Order::After => {
+                high = mid;
+            }
+        }
+    }
+    false
+}
+
+// The same of any places.
 pub fn has(b: &[u8], k: u32, skip: usize, s: &[u32], n: u32, x: &[u8]) -> bool
     ensures { λ r. ⌜ (Index (keyOf (now (b .entry)) k skip) n (now (s .entry)) → r ≡ contains (now (x .entry)) (span (keyOf (now (b .entry)) k skip) 0 n)) ⌝ }
 {
-    let at = place_of(b, k, skip, s, n, x);
-    at < n as usize
+    let m = n as usize;
+    if s.len() < m {
+        return false;
+    }
+    has_within(b, k, skip, s, m, x)
 }
 
 // Whether item i of a is among the first n of b, which are looked at one by one.

@@ -104,6 +104,9 @@ fn compare_bytes(a: &[u8], b: &[u8]) -> Order
 pub fn compare(a: &[u8], b: &[u8]) -> Order
     ensures { λ r. ⌜ r ≡ orderOf (now (a .entry)) (now (b .entry)) ⌝ }
 {
+    // taken anew, a slice comes in as its two words, and not by way of memory
+    let a = &a[0..a.len()];
+    let b = &b[0..b.len()];
     if a.len() != b.len() {
         return compare_bytes(a, b);
     }

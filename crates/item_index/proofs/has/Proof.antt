@@ -6,5 +6,6 @@ pub has-spec : {M : Type 1} → statement M
 has-spec =
     tie.close
     (tie.spec
-    (λ c κs. search ways)  -- place-of-requires
-    (λ c. search ways))  -- returns
+    (λ c. search ways)  -- returns
+    (λ c κs. search ways)  -- has-within-requires
+    (λ c. search ways))  -- returns-2
