@@ -8,7 +8,7 @@ const EXCEPTIONS: &[(&[&str], Growth, &str)] = &[
     (
         &["hold_for_watchtower", "release_for_watchtower"],
         Growth::Any,
-        "This call and the next look at up to 256 records for each cell, where many hashes begin alike.",
+        "This call and the next look at up to 256 records for each cell, where many hashes begin alike: the time goes by 256 times the cells at most.",
     ),
     (&["exclusions_"], Growth::ToOriginal, "Excluded cells (LiveCellsExclusionMap): at most 64 entries with at most 512 out points in all."),
 ];

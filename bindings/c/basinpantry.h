@@ -14,7 +14,7 @@
    the refusal carries (6 and 8, below, and no other), and all others keep their value.
    `places_len` and `answers_len` count words of 64 bits; every other length counts bytes.
 
-   A thread that calls needs half a megabyte of stack; measured were up to 165 KB (basinpantry_check_case) and 166 KB (basinpantry_take). Calls may run at once
+   A thread that calls needs half a megabyte of stack; measured were up to 208 KB (basinpantry_check_case) and 176 KB (basinpantry_take). Calls may run at once
    unless one of them writes to a table or buffer that another is lent: two that only read a table may. */
 #ifndef BASINPANTRY_H
 #define BASINPANTRY_H
@@ -229,7 +229,7 @@ uint32_t basinpantry_build_base(const uint8_t *ours, size_t ours_len,
 /* Held cells: 256 places of 48 bytes, each an out point (36), a kind (4) and a number (8). Kind 0 is a funding, and the number its holder; any other kind the
    watchtower, and the number the end in milliseconds: every content means a table, and a count above 256 counts as 256. A call that is done writes the
    records that stand anew in this form. Watchtower records that have ended are dropped by lock_held and take; the two calls that hold count them for 14. Of a
-   cell with two watchtower records, which no call makes, hold_for_watchtower renews the first. */
+   cell with two watchtower records, which no call makes, hold_for_watchtower renews the first, and release_for_watchtower drops both. */
 #define BASINPANTRY_HELD_BYTES 12292
 
 /* The funding inputs that `holder` holds now, in place of the ones that it held before. A holder is a number of the caller's: two that use one number replace
@@ -237,7 +237,7 @@ uint32_t basinpantry_build_base(const uint8_t *ours, size_t ours_len,
 uint32_t basinpantry_hold_funding(uint8_t *held, size_t held_len, uint64_t holder, const uint8_t *cells, size_t cells_len);
 
 /* The cells of a transaction that the watchtower sent at `time`: held for 1,800,000 ms. This call and the next look at up to 256 records for each cell, where
-   many hashes begin alike. Refused: 3, 14. */
+   many hashes begin alike: the time goes by 256 times the cells at most. Refused: 3, 14. */
 uint32_t basinpantry_hold_for_watchtower(uint8_t *held, size_t held_len, const uint8_t *cells, size_t cells_len, uint64_t time);
 
 /* The cells of a transaction that the watchtower could not send are free again: its records of them are dropped, and no funding's. Refused: 3. */
@@ -250,16 +250,17 @@ uint32_t basinpantry_release_for_watchtower(uint8_t *held, size_t held_len, cons
    that have ended are dropped. Refused: 3, 13. */
 uint32_t basinpantry_lock_held(uint8_t *held, size_t held_len, uint64_t time, uint8_t *out, size_t out_len);
 
-/* Writes the out points of `picked` that are held at `time` or in `spent`, each once and in the order of the picks: picked_len bytes are always enough, and
-   over 133,116 (3,697 out points) are 13. This call and the next make about (picks + spent + records) log picks comparisons; here picks beyond the first
-   7,394 are looked up one by one, among all before them. Refused: 3, 13. */
+/* Writes the out points of `picked` that are held at `time` or in `spent`, each once and in the order of the picks: picked_len bytes are enough, or
+   133,116, and a longer list (over 3,697 out points) is 13 whatever the buffer. This call and the next make about (picks + spent + records) log picks
+   comparisons. Up to 64 picks, and here those beyond the first 7,394, are looked up one by one, in the records, in `spent` and among the picks before them,
+   where hashes begin alike. Refused: 3, 13. */
 uint32_t basinpantry_unavailable(const uint8_t *held, size_t held_len, const uint8_t *picked, size_t picked_len, const uint8_t *spent, size_t spent_len,
                                  uint64_t time, uint8_t *out, size_t out_len);
 
 /* Takes the cells `picked` for the watchtower, which holds them for 60,000 ms, or for the funding of `holder`, which is not looked at for the watchtower: a
    cell that is held, spent, or taken earlier in the call is refused.
-   The lists of those taken and of those refused go into the two buffers; picked_len bytes are always enough for each, and over
-   133,116 for either (3,697 out points) are 13, and so are more than 7,394 picks. Watchtower records that have ended are dropped. Refused: 3, 13, 14. */
+   The lists of those taken and of those refused go into the two buffers; picked_len bytes are enough for each, or 133,116, and a
+   longer list (over 3,697 out points) is 13 whatever the buffer, so that more than 7,394 picks always are. Watchtower records that have ended are dropped. Refused: 3, 13, 14. */
 uint32_t basinpantry_take(uint8_t *held, size_t held_len, const uint8_t *picked, size_t picked_len, const uint8_t *spent, size_t spent_len, bool watchtower,
                           uint64_t holder, uint64_t time, uint8_t *taken, size_t taken_len, uint8_t *refused, size_t refused_len);
 
