@@ -260,7 +260,8 @@ uint32_t basinpantry_unavailable(const uint8_t *held, size_t held_len, const uin
 /* Takes the cells `picked` for the watchtower, which holds them for 60,000 ms, or for the funding of `holder`, which is not looked at for the watchtower: a
    cell that is held, spent, or taken earlier in the call is refused.
    The lists of those taken and of those refused go into the two buffers; picked_len bytes are enough for each, or 133,116, and a
-   longer list (over 3,697 out points) is 13 whatever the buffer, so that more than 7,394 picks always are. Watchtower records that have ended are dropped. Refused: 3, 13, 14. */
+   longer list (over 3,697 out points) is 13 whatever the buffer, so that more than 7,394 picks always are. Watchtower records that have
+   ended are dropped. Refused: 3, 13, 14. */
 uint32_t basinpantry_take(uint8_t *held, size_t held_len, const uint8_t *picked, size_t picked_len, const uint8_t *spent, size_t spent_len, bool watchtower,
                           uint64_t holder, uint64_t time, uint8_t *taken, size_t taken_len, uint8_t *refused, size_t refused_len);
 
