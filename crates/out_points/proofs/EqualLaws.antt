@@ -1,6 +1,6 @@
 -- When two out points are the same: one law for each way out of the tests, and that the tests say equality.
 use mathlib.Core.Path.{_≡_, refl, sym, ap, _∙_, subst}
-use Prim.Native.Nat.{ℕ, zero, suc, _+_, _-_, _*_, _≤_, _<_, min}
+use Prim.Native.Nat.{ℕ, zero, suc, _+_, _-_, _*_, _^_, _%_, _≤_, _<_, min}
 use mathlib.Core.List.{List, [], _∷_}
 use mathlib.Core.Bool.{Bool, true, false, not, _&&_, cond, and-true, and-false}
 use native.Mathlib.Omega.{arith}
@@ -15,7 +15,7 @@ use Rattle.molecule.proofs.LayoutLaws.{fix-count-said}
 use Rattle.lists.proofs.RunLaws.{item-run}
 use Rattle.lists.proofs.SpanLaws.{span-on, span-end, span-whole}
 use Rattle.out_points.specs.declared.{Byte32.Byte32, OutPoint.OutPoint}
-use Rattle.out_points.specs.OutPoints.{eqHash, eqPoint, has, byte32At, outPointAt, pointOf, points}
+use Rattle.out_points.specs.OutPoints.{eqHash, eqPoint, slotOf, has, byte32At, outPointAt, pointOf, points}
 
 module _ (x y : Byte32) where
   pub hash-a : (x .a ≡ y .a → ⊥) → false ≡ eqHash x y
@@ -45,6 +45,17 @@ module _ (p q : OutPoint) where
     pub point-index : not r ≡ false → eqb (p .index) (q .index) ≡ eqPoint p q
     unfolding eqPoint
     point-index t = sym (rw (← e, not-false r t) (and-true (eqb (p .index) (q .index))))
+
+-- ---- slots
+
+pub slot-is : (p : OutPoint) {ab abc abcd sum : ℕ} → ab ≡ (p .hash .a + p .hash .b) % 2 ^ 64 → abc ≡ (ab + p .hash .c) % 2 ^ 64 → abcd ≡ (abc + p .hash .d) % 2 ^ 64
+    → sum ≡ (abcd + p .index) % 2 ^ 64 → sum % 4093 ≡ slotOf p
+unfolding slotOf
+slot-is p e f g h = rw (h, g, f, e) refl
+
+pub slot-below : (p : OutPoint) → slotOf p < 4093
+unfolding slotOf
+slot-below p = omega arith
 
 -- a number at the front of w bytes from a place on
 num-front : (k w : ℕ) (s : List ℕ) (at : ℕ) → 0 < k → k ≤ w → numAt k (take w (drop at s)) 0 ≡ numAt k s at

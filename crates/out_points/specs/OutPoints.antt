@@ -1,6 +1,6 @@
 -- Out points and lists of them, in bytes (docs/RULES.md, "The bytes underneath": an out point is a hash of 32 bytes and an index of 4; a list of
 -- sized items is its count, then the items).
-use Prim.Native.Nat.{ℕ, _+_, _^_, _<_}
+use Prim.Native.Nat.{ℕ, _+_, _^_, _%_, _<_}
 use mathlib.Core.List.{List, [], _∷_, _++_}
 use mathlib.Core.Bool.{Bool, true, false, _&&_, cond}
 use lib.Dec.{eqb}
@@ -29,6 +29,13 @@ eqPoint p q = eqb (p .index) (q .index) && eqHash (p .hash) (q .hash)
 unfoldable pub has : OutPoint → List OutPoint → Bool
 has p [] = false
 has p (q ∷ l) = cond (eqPoint p q) true (has p l)
+
+-- ---- slots
+
+-- one of 4,093 slots: the sum of an out point's words, modulo a prime, so that each bit moves it. A table with an entry for each slot says of most out points
+-- that they are not in a list
+unfoldable pub slotOf : OutPoint → ℕ
+slotOf p = ((((p .hash .a + p .hash .b) % 2 ^ 64 + p .hash .c) % 2 ^ 64 + p .hash .d) % 2 ^ 64 + p .index) % 2 ^ 64 % 4093
 
 -- ---- read; a number that is not there whole is 0
 

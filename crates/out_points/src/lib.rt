@@ -10,7 +10,7 @@ ghost use lib.ListN.{length};
 ghost use Rattle.arithmetic.specs.LittleEndian.{toLe};
 ghost use Rattle.molecule.specs.Layout.{span, fixCount};
 ghost use Rattle.molecule.specs.Write.{putAt, putEnd, Put};
-ghost use Rattle.out_points.specs.OutPoints.{eqHash, eqPoint, byte32At, outPointAt, pointOf, points, has, hashBytes, pointBytes};
+ghost use Rattle.out_points.specs.OutPoints.{eqHash, eqPoint, slotOf, byte32At, outPointAt, pointOf, points, has, hashBytes, pointBytes};
 
 // How many bytes an out point has.
 const OUT_POINT_BYTES: u32 = 36;
@@ -54,6 +54,22 @@ pub fn same_point(p: OutPoint, q: OutPoint) -> bool
         return false;
     }
     p.index == q.index
+}
+
+// How many slots there are for marks and hints by which a search is spared.
+pub const SLOTS: usize = 4093;
+
+// The slot of an out point. Every word of it counts, so that out points that begin alike don't share one.
+pub fn slot(p: OutPoint) -> usize
+    ensures { λ r. ⌜ r ≡ slotOf p ⌝ }
+    ensures { λ r. ⌜ r < 4093 ⌝ }
+{
+    let hash = p.hash;
+    let ab = std::num::wrapping_add_u64(hash.a, hash.b);
+    let abc = std::num::wrapping_add_u64(ab, hash.c);
+    let abcd = std::num::wrapping_add_u64(abc, hash.d);
+    let sum = std::num::wrapping_add_u64(abcd, p.index as u64);
+    sum as usize % SLOTS
 }
 
 // The hash at `at`; a word that is not there whole is 0.
