@@ -27,7 +27,7 @@ fn keeps_cell_deps(ours: &[u8], peer: &[u8]) -> bool
     if molecule::fix_count(b) < molecule::fix_count(a) {
         return false;
     }
-    item_index::fix_has_all(a, b, 37)
+    item_lookup::fix_has_all(a, b, 37)
 }
 
 // No fewer header deps, and ours at their places.

@@ -4,5 +4,4 @@ pub mod ComesLaws
 pub mod MergeLaws
 pub mod SortLaws
 pub mod FindLaws
-pub mod AllLaws
 pub mod Ways

@@ -1,12 +1,10 @@
 -- What closes the needs of this crate's functions: `search ways`.
 use borrow.Author.Needs.{needs}
-use Rattle.lists.proofs.LoopLaws.{seek-end, seek-more, seek-found, among-start, among-end, among-more, among-stop}
 use Rattle.item_index.proofs.OrderLaws.{alike-start, compare-short, compare-longer, compare-end, compare-less, compare-more, compare-on}
 use Rattle.item_index.proofs.WordLaws.{four-is, eight-is, next-less, next-more, next-same, last-less, last-more, last-same}
 use Rattle.item_index.proofs.ComesLaws.{first-less, first-more, first-same}
 use Rattle.item_index.proofs.MergeLaws.{turn-right, turn-left, turn-less, merge-start, merge-end, right-in, left-in, merge-right, merge-left}
 use Rattle.item_index.proofs.SortLaws.{key-is, copy-start, copy-end, copy-on, merged-none, merged-back, sorted-none, half-low, half-high, sorted-both, number-start, number-end, number-on, counts-room, index-short, index-short-too, index-so}
 use Rattle.item_index.proofs.FindLaws.{halve-start, halve-end, halve-in, halve-up, halve-same, halve-down, place-none, place-other, place-here, place-short, search-start, search-short, search-none, search-in, search-up, search-down, search-met}
-use Rattle.item_index.proofs.AllLaws.{all-whole, all-extends, scan-start, found, found-there, some-start, no-place, place-same, all-rest, all-same, index-for}
 
-pub ruleset ways = (needs, seek-end, seek-more, seek-found, among-start, among-end, among-more, among-stop, alike-start, compare-short, compare-longer, compare-end, compare-less, compare-more, compare-on, four-is, eight-is, next-less, next-more, next-same, last-less, last-more, last-same, first-less, first-more, first-same, turn-right, turn-left, turn-less, merge-start, merge-end, right-in, left-in, merge-right, merge-left, key-is, copy-start, copy-end, copy-on, merged-none, merged-back, sorted-none, half-low, half-high, sorted-both, number-start, number-end, number-on, counts-room, index-short, index-short-too, index-so, halve-start, halve-end, halve-in, halve-up, halve-same, halve-down, place-none, place-other, place-here, place-short, search-start, search-short, search-none, search-in, search-up, search-down, search-met, all-whole, all-extends, scan-start, found, found-there, some-start, no-place, place-same, all-rest, all-same, index-for)
+pub ruleset ways = (needs, alike-start, compare-short, compare-longer, compare-end, compare-less, compare-more, compare-on, four-is, eight-is, next-less, next-more, next-same, last-less, last-more, last-same, first-less, first-more, first-same, turn-right, turn-left, turn-less, merge-start, merge-end, right-in, left-in, merge-right, merge-left, key-is, copy-start, copy-end, copy-on, merged-none, merged-back, sorted-none, half-low, half-high, sorted-both, number-start, number-end, number-on, counts-room, index-short, index-short-too, index-so, halve-start, halve-end, halve-in, halve-up, halve-same, halve-down, place-none, place-other, place-here, place-short, search-start, search-short, search-none, search-in, search-up, search-down, search-met)

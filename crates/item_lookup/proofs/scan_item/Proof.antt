@@ -2,9 +2,9 @@ use Prim.Native.Nat.{_-_}
 use Rattle.molecule.specs.Layout.{fixItem, span}
 use Rattle.lists.specs.Lists.{contains}
 use Rattle.lists.proofs.LoopLaws.{Seek}
-use Rattle.item_index.proofs.Ways.{ways}
-use Rattle.item_index.proofs.scan_item.Statement.{statement}
-use Rattle.item_index.proofs.scan_item.Tie as tie
+use Rattle.item_lookup.proofs.Ways.{ways}
+use Rattle.item_lookup.proofs.scan_item.Statement.{statement}
+use Rattle.item_lookup.proofs.scan_item.Tie as tie
 
 abbrev Inv-loop : tie.InvT-loop
 Inv-loop a b k n i x j₀ j = Seek x (fixItem b k) n j (contains (fixItem a k i) (span (fixItem b k) 0 n))

@@ -39,10 +39,6 @@ pub found : (a b : List ℕ) (k n i : ℕ) (s : List ℕ) → Index (keyOf b k 0
     → (Index (keyOf b k 0) n s → r ≡ contains x (span (keyOf b k 0) 0 n)) → r ≡ contains (fixItem a k i) (span (fixItem b k) 0 n)
 unfolding keyOf
 found a b k n i s o e h = h o ∙ ap (λ (l : List ℕ). contains l (span (fixItem b k) 0 n)) e
-
-pub found-there : (a b : List ℕ) (k n i : ℕ) {x y : List ℕ} {r : Bool} → x ≡ fixItem a k i → i < n → y ≡ fixItem b k i → r ≡ eqBytes x y → r ≡ true
-    → true ≡ contains (fixItem a k i) (span (fixItem b k) 0 n)
-found-there a b k n i ex h ey er t = sym (at-first (fixItem a k i) (fixItem b k) n i h (ap₂ eqBytes (sym ex) (sym ey) ∙ sym er ∙ t))
 
 pub some-start : (f : ℕ → List ℕ) (ys : List (List ℕ)) (from m : ℕ) → Among f ys m from (containsAll (span f from (m - from)) ys)
 some-start f ys from m = record { rest = refl }

@@ -3,12 +3,12 @@ use Rattle.molecule.specs.Layout.{fixItem, span}
 use Rattle.lists.specs.Lists.{containsAll}
 use Rattle.lists.proofs.LoopLaws.{Among, among-more}
 use native.Mathlib.Omega.{arith}
-use Rattle.item_index.proofs.Ways.{ways}
-use Rattle.item_index.proofs.moved_in.Statement.{statement}
-use Rattle.item_index.proofs.moved_in.Tie as tie
+use Rattle.item_lookup.proofs.Ways.{ways}
+use Rattle.item_lookup.proofs.moved_in.Statement.{statement}
+use Rattle.item_lookup.proofs.moved_in.Tie as tie
 
 abbrev Inv-loop : tie.InvT-loop
-Inv-loop a b k m n count moved₀ i₀ moved i = Among (fixItem a k) (span (fixItem b k) 0 n) m i (containsAll (span (fixItem a k) 0 m) (span (fixItem b k) 0 n)) × (moved ≤ 4)
+Inv-loop a b k m n count moved₀ i₀ moved i = Among (fixItem a k) (span (fixItem b k) 0 n) m i (containsAll (span (fixItem a k) 0 m) (span (fixItem b k) 0 n)) × (moved ≤ 2)
 
 abbrev μ-loop : tie.MeasureT-loop
 μ-loop a b k m n count moved₀ i₀ moved i = m - i
