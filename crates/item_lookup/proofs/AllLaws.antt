@@ -5,11 +5,13 @@ use mathlib.Core.Bool.{Bool, true, false, not, _&&_, cond, false≢true, and-eq-
 use mathlib.Core.Logic.{_↔_}
 use mathlib.Core.List.{List, [], _∷_}
 use native.Mathlib.Nat.{zero-add}
+use native.Mathlib.Omega.{arith}
 use Rattle.molecule.specs.Layout.{span, fixCount, fixItem, fixItems}
 use Rattle.lists.specs.Lists.{eqBytes, extends, contains, containsAll}
 use Rattle.lists.proofs.LoopLaws.{at-place, Among, Seek, among-more}
 use Rattle.lists.proofs.SpanLaws.{span-whole}
 use Rattle.item_index.specs.Index.{keyOf, Index}
+use Rattle.item_lookup.specs.Lookup.{areAmong}
 
 pub at-first : (y : List ℕ) (g : ℕ → List ℕ) (n i : ℕ) → i < n → eqBytes y (g i) ≡ true → contains y (span g 0 n) ≡ true
 at-first y g n i l e = at-place y g i 0 n l (ap (λ (v : ℕ). eqBytes y (g v)) (zero-add i) ∙ e)
@@ -47,9 +49,10 @@ pub index-for : (f : ℕ → List ℕ) (n p q : ℕ) (s : List ℕ) → (n ≤ p
 index-for f n p q s h l m = h l m
 
 -- both lists by their counts
-pub all-whole : (a b : List ℕ) (k : ℕ) {m n : ℕ} → m ≡ fixCount a → n ≡ fixCount b → {q : Bool} → q ≡ containsAll (span (fixItem a k) 0 m) (span (fixItem b k) 0 n)
-    → q ≡ containsAll (fixItems k a) (fixItems k b)
-all-whole a b k {m} {n} em en e = e ∙ ap₂ (λ (x y : ℕ). containsAll (span (fixItem a k) 0 x) (span (fixItem b k) 0 y)) em en
+pub all-whole : (a b : List ℕ) (k : ℕ) {m n : ℕ} → m ≡ fixCount a → n ≡ fixCount b → {q : Bool} → q ≡ areAmong a 0 m b k n → q ≡ containsAll (fixItems k a) (fixItems k b)
+all-whole a b k {m} {n} em en e =
+    let z : m - 0 ≡ m = omega arith in
+    e ∙ ap₂ (λ (x y : ℕ). containsAll (span (fixItem a k) 0 x) (span (fixItem b k) 0 y)) (z ∙ em) en
 
 pub no-place : {A : Type 0} → false ≡ true → A
 no-place t = absurd (false≢true t)

@@ -3,11 +3,12 @@
 // So the time goes by the bytes lent, and by n log n comparisons at most, whatever the bytes.
 ghost use mathlib.Core.Path.{_≡_};
 ghost use mathlib.Core.Bool.{true};
-ghost use Prim.Native.Nat.{_+_, _-_, _≤_, _<_};
+ghost use Prim.Native.Nat.{_≤_, _<_};
 ghost use lib.ListN.{length, getD};
-ghost use Rattle.molecule.specs.Layout.{span, fixItem, fixItems};
-ghost use Rattle.lists.specs.Lists.{contains, containsAll};
+ghost use Rattle.molecule.specs.Layout.{fixItem, fixItems};
+ghost use Rattle.lists.specs.Lists.{containsAll};
 ghost use Rattle.item_index.specs.Index.{keyOf, Index};
+ghost use Rattle.item_lookup.specs.Lookup.{isAmong, areAmong};
 
 // For how many items there is room: 3,597 cell deps fill a transaction of 133,116 bytes.
 const ROOM: usize = 3600;
@@ -116,7 +117,7 @@ fn link(b: &[u8], k: u32, n: u32, seed: u64, heads: &mut [u32], next: &mut [u32]
 fn is_met(b: &[u8], k: u32, n: usize, seed: u64, heads: &[u32], next: &[u32], x: &[u8]) -> bool
     requires { ⌜ 4096 ≤ length (now heads) ⌝ }
     requires { ⌜ n ≤ length (now next) ⌝ }
-    ensures { λ r. ⌜ (r ≡ true → contains (now (x .entry)) (span (fixItem (now (b .entry)) k) 0 n) ≡ true) ⌝ }
+    ensures { λ r. ⌜ (r ≡ true → isAmong (now (x .entry)) (now (b .entry)) k n ≡ true) ⌝ }
 {
     let chain = chain_of(seed, x);
     let mut place = number_at(heads, chain);
@@ -125,8 +126,8 @@ fn is_met(b: &[u8], k: u32, n: usize, seed: u64, heads: &[u32], next: &[u32], x:
         if n <= place {
             return false;
         }
-        let y = molecule::fix_item(b, k, place);
-        if lists::same(x, y) {
+        let item = molecule::fix_item(b, k, place);
+        if lists::same(x, item) {
             return true;
         }
         place = number_at(next, place);
@@ -149,7 +150,7 @@ fn first_unmet(
 ) -> usize
     requires { ⌜ 4096 ≤ length (now heads) ⌝ }
     requires { ⌜ n ≤ length (now next) ⌝ }
-    ensures { λ r. ⌜ containsAll (span (fixItem (now (a .entry)) k) from (m - from)) (span (fixItem (now (b .entry)) k) 0 n) ≡ containsAll (span (fixItem (now (a .entry)) k) r (m - r)) (span (fixItem (now (b .entry)) k) 0 n) ⌝ }
+    ensures { λ r. ⌜ areAmong (now (a .entry)) from m (now (b .entry)) k n ≡ areAmong (now (a .entry)) r m (now (b .entry)) k n ⌝ }
 {
     let mut i = from;
     while i < m {
@@ -166,7 +167,7 @@ fn first_unmet(
 
 // Whether item i of a is among the first n of b, which are looked at one by one.
 fn scan_item(a: &[u8], b: &[u8], k: u32, n: usize, i: usize) -> bool
-    ensures { λ r. ⌜ r ≡ contains (fixItem (now (a .entry)) k i) (span (fixItem (now (b .entry)) k) 0 n) ⌝ }
+    ensures { λ r. ⌜ r ≡ isAmong (fixItem (now (a .entry)) k i) (now (b .entry)) k n ⌝ }
 {
     let x = molecule::fix_item(a, k, i);
     let mut j = 0;
@@ -182,7 +183,7 @@ fn scan_item(a: &[u8], b: &[u8], k: u32, n: usize, i: usize) -> bool
 
 // Whether the items of a from `from` on and before m are among the first n of b, which are looked at one by one.
 fn scan_all(a: &[u8], b: &[u8], k: u32, from: usize, m: usize, n: usize) -> bool
-    ensures { λ r. ⌜ r ≡ containsAll (span (fixItem (now (a .entry)) k) from (m - from)) (span (fixItem (now (b .entry)) k) 0 n) ⌝ }
+    ensures { λ r. ⌜ r ≡ areAmong (now (a .entry)) from m (now (b .entry)) k n ⌝ }
 {
     let mut i = from;
     while i < m {
@@ -197,7 +198,7 @@ fn scan_all(a: &[u8], b: &[u8], k: u32, from: usize, m: usize, n: usize) -> bool
 // Whether item i of a is among the first n of b, by their index s.
 fn find_item(a: &[u8], b: &[u8], k: u32, n: u32, s: &[u32], i: usize) -> bool
     requires { ⌜ Index (keyOf (now b) k 0) n (now s) ⌝ }
-    ensures { λ r. ⌜ r ≡ contains (fixItem (now (a .entry)) k i) (span (fixItem (now (b .entry)) k) 0 n) ⌝ }
+    ensures { λ r. ⌜ r ≡ isAmong (fixItem (now (a .entry)) k i) (now (b .entry)) k n ⌝ }
 {
     let x = molecule::fix_item(a, k, i);
     item_index::has(b, k, 0, s, n, x)
@@ -206,7 +207,7 @@ fn find_item(a: &[u8], b: &[u8], k: u32, n: u32, s: &[u32], i: usize) -> bool
 // All of them.
 fn find_all(a: &[u8], b: &[u8], k: u32, from: usize, m: usize, n: u32, s: &[u32]) -> bool
     requires { ⌜ Index (keyOf (now b) k 0) n (now s) ⌝ }
-    ensures { λ r. ⌜ r ≡ containsAll (span (fixItem (now (a .entry)) k) from (m - from)) (span (fixItem (now (b .entry)) k) 0 n) ⌝ }
+    ensures { λ r. ⌜ r ≡ areAmong (now (a .entry)) from m (now (b .entry)) k n ⌝ }
 {
     let mut i = from;
     while i < m {
@@ -231,7 +232,7 @@ fn index_all(
 ) -> bool
     requires { ⌜ n ≤ length (now s) ⌝ }
     requires { ⌜ n ≤ length (now t) ⌝ }
-    ensures { λ r. ⌜ r ≡ containsAll (span (fixItem (now (a .entry)) k) from (m - from)) (span (fixItem (now (b .entry)) k) 0 n) ⌝ }
+    ensures { λ r. ⌜ r ≡ areAmong (now (a .entry)) from m (now (b .entry)) k n ⌝ }
 {
     item_index::build(b, k, 0, n, s, t);
     find_all(a, b, k, from, m, n, s)
@@ -241,26 +242,26 @@ fn index_all(
 // for which the chains make room.
 fn chain_all(a: &[u8], b: &[u8], k: u32, from: usize, m: usize, n: u32) -> bool
     requires { ⌜ n ≤ 3600 ⌝ }
-    ensures { λ r. ⌜ r ≡ containsAll (span (fixItem (now (a .entry)) k) from (m - from)) (span (fixItem (now (b .entry)) k) 0 n) ⌝ }
+    ensures { λ r. ⌜ r ≡ areAmong (now (a .entry)) from m (now (b .entry)) k n ⌝ }
 {
     let mut heads = [NONE; CHAINS];
     let mut next = [0u32; ROOM];
     let count = n as usize;
     let seed = seed_of(b, k, count);
     link(b, k, n, seed, &mut heads, &mut next);
-    let i = first_unmet(a, b, k, from, m, count, seed, &heads, &next);
-    if m <= i {
+    let unmet = first_unmet(a, b, k, from, m, count, seed, &heads, &next);
+    if m <= unmet {
         return true;
     }
-    if !scan_item(a, b, k, count, i) {
+    if !scan_item(a, b, k, count, unmet) {
         return false;
     }
-    index_all(a, b, k, i + 1, m, n, &mut heads, &mut next)
+    index_all(a, b, k, unmet + 1, m, n, &mut heads, &mut next)
 }
 
 // Whether the items of a from `from` on and before m are among the first n of b.
 fn has_rest(a: &[u8], b: &[u8], k: u32, from: usize, m: usize, n: u32) -> bool
-    ensures { λ r. ⌜ r ≡ containsAll (span (fixItem (now (a .entry)) k) from (m - from)) (span (fixItem (now (b .entry)) k) 0 n) ⌝ }
+    ensures { λ r. ⌜ r ≡ areAmong (now (a .entry)) from m (now (b .entry)) k n ⌝ }
 {
     let count = n as usize;
     if count <= FEW {
@@ -276,7 +277,7 @@ fn has_rest(a: &[u8], b: &[u8], k: u32, from: usize, m: usize, n: u32) -> bool
 
 // Whether item i of a stands in b at its place, which is one of the first n.
 fn same_place(a: &[u8], b: &[u8], k: u32, n: usize, i: usize) -> bool
-    ensures { λ r. ⌜ (r ≡ true → contains (fixItem (now (a .entry)) k i) (span (fixItem (now (b .entry)) k) 0 n) ≡ true) ⌝ }
+    ensures { λ r. ⌜ (r ≡ true → isAmong (fixItem (now (a .entry)) k i) (now (b .entry)) k n ≡ true) ⌝ }
 {
     if n <= i {
         return false;
@@ -286,9 +287,10 @@ fn same_place(a: &[u8], b: &[u8], k: u32, n: usize, i: usize) -> bool
     lists::same(x, y)
 }
 
-// Whether the first m items of a are among the first n of b. A few that do not stand at their own place are looked for one by one, and for more chains are made.
+// Whether the first m items of a are among the first n of b. A few that do not stand at their own place are looked for one by one, and for more chains are
+// made.
 fn moved_in(a: &[u8], b: &[u8], k: u32, m: usize, n: u32) -> bool
-    ensures { λ r. ⌜ r ≡ containsAll (span (fixItem (now (a .entry)) k) 0 m) (span (fixItem (now (b .entry)) k) 0 n) ⌝ }
+    ensures { λ r. ⌜ r ≡ areAmong (now (a .entry)) 0 m (now (b .entry)) k n ⌝ }
 {
     let count = n as usize;
     let mut moved = 0;

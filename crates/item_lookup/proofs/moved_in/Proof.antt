@@ -8,7 +8,7 @@ use Rattle.item_lookup.proofs.moved_in.Statement.{statement}
 use Rattle.item_lookup.proofs.moved_in.Tie as tie
 
 abbrev Inv-loop : tie.InvT-loop
-Inv-loop a b k m n count moved₀ i₀ moved i = Among (fixItem a k) (span (fixItem b k) 0 n) m i (containsAll (span (fixItem a k) 0 m) (span (fixItem b k) 0 n)) × (moved ≤ 2)
+Inv-loop a b k m n count moved₀ i₀ moved i = Among (fixItem a k) (span (fixItem b k) 0 n) m i (containsAll (span (fixItem a k) 0 (m - 0)) (span (fixItem b k) 0 n)) × (moved ≤ 2)
 
 abbrev μ-loop : tie.MeasureT-loop
 μ-loop a b k m n count moved₀ i₀ moved i = m - i
