@@ -66,6 +66,8 @@ pub enum Hashes {
     LastTwo,
     /// Not at all: only by the index.
     Same,
+    /// In the first two words, whose sum is the same: they were made to share a slot (crates/out_points).
+    OneSlot,
 }
 
 impl Hashes {
@@ -76,6 +78,7 @@ impl Hashes {
             Hashes::LastByte => "all but the last byte alike",
             Hashes::LastTwo => "all but bytes 30, 31 alike",
             Hashes::Same => "one hash",
+            Hashes::OneSlot => "made to share a slot",
         }
     }
     /// Out point i: all of them are distinct.
@@ -97,6 +100,10 @@ impl Hashes {
         match self {
             Hashes::LastByte => point[31] = i as u8,
             Hashes::LastTwo => point[30..32].copy_from_slice(&(i as u16).to_be_bytes()),
+            Hashes::OneSlot => {
+                point[..8].copy_from_slice(&random(0));
+                point[8..16].copy_from_slice(&mixed(4 * i as u64).wrapping_neg().to_le_bytes());
+            }
             _ => (),
         }
         point

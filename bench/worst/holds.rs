@@ -149,15 +149,26 @@ fn pick_rows(entry: Entry) -> Vec<Row> {
     rows
 }
 
+/// Cells that the watchtower holds, or that were made to look like them.
+const TOWER_KINDS: &[Hashes] = &[Hashes::Random, Hashes::FirstWord, Hashes::LastByte, Hashes::OneSlot];
+
+/// As many picks as are looked up one by one, against lists of spent cells that grow.
+fn few_rows(entry: Entry) -> Vec<Row> {
+    const FEW: usize = 64;
+    let among = |hashes, n| Lent::funding(held(hashes, 192), picks(hashes, FEW), others(hashes, n));
+    let mut rows = vec![];
+    of_kinds(&mut rows, entry, "64 free picks, many spent", TOWER_KINDS, PICKS, &(Rc::new(among) as Make), Rc::new(among));
+    rows
+}
+
 fn watchtower_rows(entry: Entry) -> Vec<Row> {
     let mut rows = vec![];
     let same: Make = Rc::new(|hashes, n| Lent::watchtower(held(hashes, n), held(hashes, n)));
-    let mut add = |name: &str, counts, honest: &Make, worst: Make| of_kinds(&mut rows, entry, name, KINDS, counts, honest, worst);
+    let mut add = |name: &str, counts, honest: &Make, worst: Make| of_kinds(&mut rows, entry, name, TOWER_KINDS, counts, honest, worst);
     add("all held, in the reverse order", GROWING, &same, Rc::new(|hashes, n| Lent::watchtower(held(hashes, n), reversed(&held(hashes, n)))));
     let again: Make = Rc::new(|hashes, n| Lent::watchtower(held(hashes, RECORDS), held(hashes, RECORDS).into_iter().cycle().take(n).collect()));
     add("held ones again and again", PICKS, &again, Rc::new(|hashes, n| Lent::watchtower(held(hashes, RECORDS), held_ones(hashes, n))));
-    let none: Make = Rc::new(|hashes, n| Lent::watchtower(held(hashes, RECORDS), picks(hashes, n)));
-    add("none held", PICKS, &none, none.clone());
+    add("none held", PICKS, &again, Rc::new(|hashes, n| Lent::watchtower(held(hashes, RECORDS), picks(hashes, n))));
     rows
 }
 
@@ -173,7 +184,9 @@ fn table_rows(entry: Entry, names: [&str; 2]) -> Vec<Row> {
 
 pub fn rows() -> Vec<Row> {
     let mut rows = pick_rows(UNAVAILABLE);
+    rows.extend(few_rows(UNAVAILABLE));
     rows.extend(pick_rows(TAKE));
+    rows.extend(few_rows(TAKE));
     rows.extend(watchtower_rows(HOLD_FOR_WATCHTOWER));
     rows.extend(watchtower_rows(RELEASE_FOR_WATCHTOWER));
     rows.extend(table_rows(HOLD_FUNDING, ["as many others in their place", "beside ended records"]));

@@ -1,6 +1,7 @@
 //! The worst inputs known, entry by entry: see bench/hostile.
 mod bases;
 mod bytes;
+mod chains;
 mod claims;
 pub mod clock;
 mod exclusions;

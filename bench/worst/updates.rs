@@ -1,5 +1,6 @@
 //! `update_for_peer`: cell deps in every order, and every list as long as it can be.
 use super::bytes::*;
+use super::chains;
 use super::clock::{Clock, Deps, Row, Size};
 use super::sorting;
 use crate::judged::Update;
@@ -177,6 +178,11 @@ fn copies_found_last(hashes: Hashes, n: usize) -> (Vec<Dep>, Vec<Dep>) {
 fn copies_missing(hashes: Hashes, n: usize) -> (Vec<Dep>, Vec<Dep>) {
     (vec![hashes.dep(0); n], hashes.deps(1..n + 1))
 }
+/// The peer's meet in the library's digest.
+fn made_to_meet(_: Hashes, n: usize) -> (Vec<Dep>, Vec<Dep>) {
+    let peer = chains::deps(n);
+    (reversed(&peer), peer)
+}
 fn one_fewer(hashes: Hashes, n: usize) -> (Vec<Dep>, Vec<Dep>) {
     let (mut ours, peer) = of_all(hashes, n, |peer| peer.rotate_left(1));
     ours.pop();
@@ -194,6 +200,7 @@ const ORDERS: &[(&str, &[Hashes], Order)] = &[
     ("ours copies of the peer's last", &[Hashes::Random, Hashes::Same], copies_found_last),
     ("ours copies of none (5)", &[Hashes::Random, Hashes::Same], copies_missing),
     ("ours one fewer, rotated by one", &[Hashes::Random], one_fewer),
+    ("made to meet, reversed", &[Hashes::Random], made_to_meet),
 ];
 
 fn dep_rows() -> Vec<Row> {

@@ -154,6 +154,7 @@ uint32_t basinpantry_rewrite(const uint8_t *tx, size_t tx_len, uint8_t *out, siz
    lock and a fee rate in shannons for 1,000 bytes. `records` has the cell that each added input spends, in the order of these inputs, as the chain has it: the
    caller answers for that. Each input entry counts by itself: a cell that the peer lists twice counts twice. After 0 the peer's transaction is in force,
    after a refusal ours.
+   The time goes by the bytes lent. Cell deps in another order that were made to meet in the library's digest are sorted: n log n comparisons.
    On success values[0] and values[1] are the capacity surplus (low half, high half), values[2] and values[3] the token surplus (low half, high half).
    Refused: 1, 2, 3 (a script), 4, 5 (compared with ours), 3 (the records), 5 and 6 (input by input), 5 (output 0, and the capacity), 8, 5 and 7 (the
    tokens). */
@@ -236,8 +237,8 @@ uint32_t basinpantry_build_base(const uint8_t *ours, size_t ours_len,
    each other's records, and an empty list lets all its cells go. Refused: 3, 14. */
 uint32_t basinpantry_hold_funding(uint8_t *held, size_t held_len, uint64_t holder, const uint8_t *cells, size_t cells_len);
 
-/* The cells of a transaction that the watchtower sent at `time`: held for 1,800,000 ms. This call and the next look at up to 256 records for each cell, where
-   many hashes begin alike: the time goes by 256 times the cells at most. Refused: 3, 14. */
+/* The cells of a transaction that the watchtower sent at `time`: held for 1,800,000 ms. This call and the next look at up to 256 records
+   for each cell whose out point was made to share a slot with theirs. Refused: 3, 14. */
 uint32_t basinpantry_hold_for_watchtower(uint8_t *held, size_t held_len, const uint8_t *cells, size_t cells_len, uint64_t time);
 
 /* The cells of a transaction that the watchtower could not send are free again: its records of them are dropped, and no funding's. Refused: 3. */

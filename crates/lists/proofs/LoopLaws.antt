@@ -77,9 +77,6 @@ at-place x g (suc i) j (suc k) h e =
 pub record Among (f : ℕ → List ℕ) (ys : List (List ℕ)) (m i : ℕ) (R : Bool) : Type 0 where
   pub rest : R ≡ containsAll (span f i (m - i)) ys
 
-pub among-start : (f : ℕ → List ℕ) (ys : List (List ℕ)) {m k : ℕ} → m ≡ k → Among f ys m 0 (containsAll (span f 0 k) ys)
-among-start f ys {m} p = record { rest = rw (← p) (ap (λ (xs : List (List ℕ)). containsAll xs ys) (span-whole f m)) }
-
 module _ {f : ℕ → List ℕ} {ys : List (List ℕ)} {m i : ℕ} {R : Bool} (h : Among f ys m i R) where
   pub among-end : m ≤ i → true ≡ R
   unfolding containsAll

@@ -1,4 +1,4 @@
-// Lists compared item by item: the peer's list goes on from ours. (Whether it holds all of ours is for crate item_index to say.)
+// Lists compared item by item: the peer's list goes on from ours. (Whether it holds all of ours is for crate item_lookup to say.)
 ghost use mathlib.Core.Path.{_≡_};
 ghost use Prim.Native.Nat.{_+_, _≤_};
 ghost use lib.ListN.{length, take, drop};
