@@ -96,31 +96,12 @@ fn chain_of(seed: u64, x: &[u8]) -> usize
 
 // ---- chains
 
-// Puts the first n items of b into their chains: `heads` has the last item of each, `next` the one before it.
-fn link(b: &[u8], k: u32, n: u32, seed: u64, heads: &mut [u32], next: &mut [u32])
-    requires { ⌜ 4096 ≤ length (now heads) ⌝ }
-    requires { ⌜ n ≤ length (now next) ⌝ }
-    ensures { λ _. ⌜ length (now (heads .exit)) ≡ length (now (heads .entry)) ⌝ }
-    ensures { λ _. ⌜ length (now (next .exit)) ≡ length (now (next .entry)) ⌝ }
-{
-    let mut i: u32 = 0;
-    while i < n {
-        let x = molecule::fix_item(b, k, i as usize);
-        let chain = chain_of(seed, x);
-        next[i as usize] = heads[chain];
-        heads[chain] = i;
-        i += 1;
-    }
-}
-
-// Whether x is met in its chain: then it is among the first n items of b. It may be there and not be met.
-fn is_met(b: &[u8], k: u32, n: usize, seed: u64, heads: &[u32], next: &[u32], x: &[u8]) -> bool
-    requires { ⌜ 4096 ≤ length (now heads) ⌝ }
+// Whether x is met in a chain, from its item `first` on: then it is among the first n items of b. It may be there and not be met.
+fn is_met(b: &[u8], k: u32, n: usize, next: &[u32], first: usize, x: &[u8]) -> bool
     requires { ⌜ n ≤ length (now next) ⌝ }
     ensures { λ r. ⌜ (r ≡ true → isAmong (now (x .entry)) (now (b .entry)) k n ≡ true) ⌝ }
 {
-    let chain = chain_of(seed, x);
-    let mut place = number_at(heads, chain);
+    let mut place = first;
     let mut steps = 0;
     while steps < STEPS {
         if n <= place {
@@ -134,6 +115,28 @@ fn is_met(b: &[u8], k: u32, n: usize, seed: u64, heads: &[u32], next: &[u32], x:
         steps += 1;
     }
     false
+}
+
+// Puts the first n items of b into their chains, each once: `heads` has the first item of each chain, `next` the one after it.
+fn link(b: &[u8], k: u32, n: u32, seed: u64, heads: &mut [u32], next: &mut [u32])
+    requires { ⌜ 4096 ≤ length (now heads) ⌝ }
+    requires { ⌜ n ≤ length (now next) ⌝ }
+    ensures { λ _. ⌜ length (now (heads .exit)) ≡ length (now (heads .entry)) ⌝ }
+    ensures { λ _. ⌜ length (now (next .exit)) ≡ length (now (next .entry)) ⌝ }
+{
+    let mut i: u32 = 0;
+    while i < n {
+        let x = molecule::fix_item(b, k, i as usize);
+        let chain = chain_of(seed, x);
+        let first = number_at(heads, chain);
+        if is_met(b, k, n as usize, next, first, x) {
+            i += 1;
+        } else {
+            next[i as usize] = heads[chain];
+            heads[chain] = i;
+            i += 1;
+        }
+    }
 }
 
 // The first item of a, from `from` on and before m, that is not met in its chain, and m where all are.
@@ -155,7 +158,9 @@ fn first_unmet(
     let mut i = from;
     while i < m {
         let x = molecule::fix_item(a, k, i);
-        if !is_met(b, k, n, seed, heads, next, x) {
+        let chain = chain_of(seed, x);
+        let first = number_at(heads, chain);
+        if !is_met(b, k, n, next, first, x) {
             return i;
         }
         i += 1;

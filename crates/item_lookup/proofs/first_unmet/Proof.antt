@@ -20,6 +20,8 @@ first-unmet-spec =
     μ-loop
     (λ c. search ways)  -- loop-holds
     (λ c κs. search ways)  -- fix-item-requires
+    (λ c κs. search ways)  -- chain-of-requires
+    (λ c κs. search ways)  -- number-at-requires
     (λ c κs. search ways)  -- is-met-requires
     (λ c. search ways)  -- returns
     (λ c. search ways)  -- add-i

@@ -4,10 +4,10 @@ use Rattle.item_lookup.proofs.is_met.Statement.{statement}
 use Rattle.item_lookup.proofs.is_met.Tie as tie
 
 abbrev Inv-loop : tie.InvT-loop
-Inv-loop b k n seed heads next x chain place₀ steps₀ place steps = Unit {0}
+Inv-loop b k n next first x place₀ steps₀ place steps = Unit {0}
 
 abbrev μ-loop : tie.MeasureT-loop
-μ-loop b k n seed heads next x chain place₀ steps₀ place steps = 8 - steps
+μ-loop b k n next first x place₀ steps₀ place steps = 8 - steps
 
 pub is-met-spec : {M : Type 1} → statement M
 is-met-spec =
@@ -15,14 +15,12 @@ is-met-spec =
     (tie.spec
     Inv-loop
     μ-loop
-    (λ c κs. search ways)  -- chain-of-requires
-    (λ c κs. search ways)  -- number-at-requires
     (λ c. search ways)  -- loop-holds
     (λ c. search ways)  -- returns
     (λ c κs. search ways)  -- fix-item-requires
     (λ c κs. search ways)  -- same-requires
     (λ c. search ways)  -- returns-2
-    (λ c κs. search ways)  -- number-at-requires-2
+    (λ c κs. search ways)  -- number-at-requires
     (λ c. search ways)  -- add-steps
     (λ c. search ways)  -- loop-less
     (λ c. search ways)  -- loop-again

@@ -21,6 +21,11 @@ link-spec =
     (λ c. search ways)  -- cast-fix-item
     (λ c κs. search ways)  -- fix-item-requires
     (λ c κs. search ways)  -- chain-of-requires
+    (λ c κs. search ways)  -- number-at-requires
+    (λ c κs. search ways)  -- is-met-requires
+    (λ c. search ways)  -- add-i
+    (λ c. search ways)  -- loop-less
+    (λ c. search ways)  -- loop-again
     (λ c. search ways)  -- mul-next
     (λ c. search ways)  -- slice-read-next
     (λ c. search ways)  -- cast-next
@@ -28,9 +33,9 @@ link-spec =
     (λ c. search ways)  -- slice-write-next
     (λ c. search ways)  -- mul-heads
     (λ c. search ways)  -- slice-write-heads
-    (λ c. search ways)  -- add-i
-    (λ c. search ways)  -- loop-less
-    (λ c. search ways)  -- loop-again
+    (λ c. search ways)  -- add-i-2
+    (λ c. search ways)  -- loop-less-2
+    (λ c. search ways)  -- loop-again-2
     (λ c. search ways)  -- same-length
     (λ c. search ways)  -- same-length-2
     (λ c. search ways))  -- returns
