@@ -54,7 +54,7 @@ fn mix(digest: u64, word: u64) -> u64 {
     spread(digest ^ word)
 }
 
-// The digest with the bytes of an item more, word by word; the last word ends with them, and may look at some bytes again.
+// The digest with bytes more, word by word; the last word ends with them, and may look at some of them again.
 fn digest(seed: u64, x: &[u8]) -> u64 {
     if x.len() < WORD {
         return seed;
@@ -69,19 +69,6 @@ fn digest(seed: u64, x: &[u8]) -> u64 {
     }
     let word = arithmetic::little_endian::u64_at(x, last);
     mix(sum, word)
-}
-
-// What all digests of a list begin with: a digest of the whole list, so that an item can't be made to meet others before the list is known.
-fn seed_of(b: &[u8], k: u32, n: usize) -> u64 {
-    let mut seed: u64 = 0;
-    let mut i = 0;
-    while i < n {
-        let x = molecule::fix_item(b, k, i);
-        let word = digest(0, x);
-        seed = mix(seed, word);
-        i += 1;
-    }
-    seed
 }
 
 // The chain of an item: the highest twelve bits of its digest.
@@ -252,7 +239,8 @@ fn chain_all(a: &[u8], b: &[u8], k: u32, from: usize, m: usize, n: u32) -> bool
     let mut heads = [NONE; CHAINS];
     let mut next = [0u32; ROOM];
     let count = n as usize;
-    let seed = seed_of(b, k, count);
+    // all digests begin with one of the whole list, so that an item can't be made to meet others before the list is known
+    let seed = digest(0, b);
     link(b, k, n, seed, &mut heads, &mut next);
     let unmet = first_unmet(a, b, k, from, m, count, seed, &heads, &next);
     if m <= unmet {
