@@ -16,8 +16,7 @@ use Rattle.list_writer.specs.ListWriter.{fixList, putList, putListEnd}
 use Rattle.list_writer.specs.Around.{fitsAt}
 use Rattle.list_writer.proofs.AnswerLaws.{fit-room, list-in, list-in-end}
 use Rattle.list_writer.proofs.LoopLaws.{Sizing, size-none, size-more, size-end, Writing, write-none, write-more, write-end}
-use Rattle.cell_deps.specs.CellDeps.{depAt, depsAt}
-use Rattle.cell_deps.specs.Sorted.{placedAt}
+use Rattle.cell_deps.specs.CellDeps.{depAt, depsAt, placedAt}
 use Rattle.cell_deps.proofs.DepLaws.{map-span}
 
 module _ (a b c d x : List ℕ) where

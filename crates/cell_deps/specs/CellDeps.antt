@@ -4,7 +4,7 @@ use mathlib.Core.Path.{_≡_}
 use Prim.Native.Nat.{ℕ, _+_, _-_, _≤_, min}
 use mathlib.Core.Bool.{cond}
 use mathlib.Core.List.{List, [], _∷_, _++_, map}
-use lib.ListN.{length, take}
+use lib.ListN.{length, getD, take}
 use lib.Dec.{ltb}
 use Rattle.lists.specs.Lists.{contains}
 use Rattle.molecule.specs.Layout.{fixCount, fixItem, fixItems}
@@ -50,6 +50,10 @@ depCount a b c d = fixCount a + (fixCount b + (anyCount c + fixCount d))
 -- the deps at these places
 unfoldable pub depsAt : List ℕ → List ℕ → List ℕ → List ℕ → List ℕ → List (List ℕ)
 depsAt a b c d places = map (depAt a b c d) places
+
+-- the dep at place j of a list of places
+unfoldable pub placedAt : List ℕ → List ℕ → List ℕ → List ℕ → List ℕ → ℕ → List ℕ
+placedAt a b c d s j = depAt a b c d (getD s j 0)
 
 -- the choice: the first r are places of these deps, in their order; one more than there is room for where there are more deps
 pub record Chooses (a b c d : List ℕ) (room : ℕ) (places : List ℕ) (r : ℕ) : Type 0 where

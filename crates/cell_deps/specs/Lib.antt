@@ -1,2 +1,1 @@
 pub mod CellDeps
-pub mod Sorted

@@ -1,30 +1,18 @@
 // The cell deps of a base transaction: of four lists, one after the other, each dep where it first stands.
-pub mod distinct;
-
-use arithmetic::sizes;
-use item_index::ordering;
-use item_index::ordering::Order;
 use molecule::write;
 ghost use mathlib.Core.Path.{_≡_};
-ghost use Prim.Native.Nat.{_+_, _≤_, _<_, min};
+ghost use Prim.Native.Nat.{_+_, _≤_, min};
 ghost use mathlib.Core.List.{flatten};
-ghost use lib.ListN.{length, set};
+ghost use lib.ListN.{length};
 ghost use Rattle.molecule.specs.Write.{Put};
 ghost use Rattle.list_writer.specs.ListWriter.{fixList, putList, putListEnd};
-ghost use Rattle.cell_deps.specs.CellDeps.{anyCount, lastDepAt, ownDepAt, depAt, depCount, depsAt, Chooses};
-ghost use Rattle.cell_deps.specs.Sorted.{placedAt, Ordered, Lower, Sought, Inserted};
+ghost use Rattle.cell_deps.specs.CellDeps.{anyCount, lastDepAt, ownDepAt, depAt, depCount, depsAt};
 
 // How many bytes a cell dep has: an out point and the dep type.
 const CELL_DEP_BYTES: u32 = 37;
 
-// Where a dep stands among sorted ones, or where it is to be put.
-struct Found {
-    at: usize,
-    there: bool,
-}
-
 // Whether there is a dep: none is empty.
-fn any_count(dep: &[u8]) -> usize
+pub fn any_count(dep: &[u8]) -> usize
     ensures { λ r. ⌜ r ≡ anyCount (now (dep .entry)) ⌝ }
     ensures { λ r. ⌜ r ≤ 1 ⌝ }
 {
@@ -57,7 +45,7 @@ fn own_dep_at<'a>(udt: &'a [u8], lock: &'a [u8], extra: &'a [u8], i: usize) -> &
 }
 
 // The dep at a place.
-fn dep_at<'a>(
+pub fn dep_at<'a>(
     present: &'a [u8],
     udt: &'a [u8],
     lock: &'a [u8],
@@ -73,95 +61,6 @@ fn dep_at<'a>(
     own_dep_at(udt, lock, extra, i - n)
 }
 
-// How many of the first n places have a dep that comes before x. They are in the order of their deps, so half of what is left is ruled out at a time.
-fn lower_bound<'a>(
-    present: &'a [u8],
-    udt: &'a [u8],
-    lock: &'a [u8],
-    extra: &'a [u8],
-    sorted: &[usize],
-    n: usize,
-    x: &[u8],
-) -> usize
-    requires { ⌜ n ≤ length (now sorted) ⌝ }
-    requires { ⌜ Ordered (placedAt (now present) (now udt) (now lock) (now extra) (now sorted)) n ⌝ }
-    ensures { λ r. ⌜ Lower (placedAt (now (present .entry)) (now (udt .entry)) (now (lock .entry)) (now (extra .entry)) (now (sorted .entry))) n (now (x .entry)) r ⌝ }
-{
-    let mut low: usize = 0;
-    let mut high = n;
-    while low < high {
-        let mid = low + (high - low) / 2;
-        let place = sorted[mid];
-        let y = dep_at(present, udt, lock, extra, place);
-        let order = ordering::compare(y, x);
-        match order {
-            Order::Before => {
-                low = mid + 1;
-            }
-            Order::Same => {
-                high = mid;
-            }
-            Order::After => {
-                high = mid;
-            }
-        }
-    }
-    low
-}
-
-// Looks the dep at a place up among those at the first n places, which are in the order of their deps.
-fn find<'a>(
-    present: &'a [u8],
-    udt: &'a [u8],
-    lock: &'a [u8],
-    extra: &'a [u8],
-    sorted: &[usize],
-    n: usize,
-    i: usize,
-) -> Found
-    requires { ⌜ n ≤ length (now sorted) ⌝ }
-    requires { ⌜ Ordered (placedAt (now present) (now udt) (now lock) (now extra) (now sorted)) n ⌝ }
-    ensures { λ r. ⌜ Sought (placedAt (now (present .entry)) (now (udt .entry)) (now (lock .entry)) (now (extra .entry)) (now (sorted .entry))) n (depAt (now (present .entry)) (now (udt .entry)) (now (lock .entry)) (now (extra .entry)) i) r ⌝ }
-{
-    let x = dep_at(present, udt, lock, extra, i);
-    let at = lower_bound(present, udt, lock, extra, sorted, n, x);
-    if n <= at {
-        return Found { at, there: false };
-    }
-    let place = sorted[at];
-    let y = dep_at(present, udt, lock, extra, place);
-    let there = lists::same(x, y);
-    Found { at, there }
-}
-
-// Puts a place at `at`, and moves those from there on to the n-th one further.
-fn insert(sorted: &mut [usize], n: usize, at: usize, place: usize)
-    requires { ⌜ at ≤ n ⌝ }
-    requires { ⌜ n < length (now sorted) ⌝ }
-    ensures { λ _. ⌜ Inserted (now (sorted .entry)) n at place (now (sorted .exit)) ⌝ }
-{
-    let mut x = place;
-    let mut j = at;
-    while j <= n {
-        let y = sorted[j];
-        sorted[j] = x;
-        x = y;
-        j += 1;
-    }
-}
-
-// Puts a place after the first n of `places`, and at `at` among the first n of `sorted`.
-fn put_place(places: &mut [usize], sorted: &mut [usize], n: usize, at: usize, place: usize)
-    requires { ⌜ at ≤ n ⌝ }
-    requires { ⌜ n < length (now places) ⌝ }
-    requires { ⌜ n < length (now sorted) ⌝ }
-    ensures { λ _. ⌜ now (places .exit) ≡ set (now (places .entry)) n place ⌝ }
-    ensures { λ _. ⌜ Inserted (now (sorted .entry)) n at place (now (sorted .exit)) ⌝ }
-{
-    insert(sorted, n, at, place);
-    places[n] = place;
-}
-
 // How many deps the four lists have.
 pub fn dep_count(present: &[u8], udt: &[u8], lock: &[u8], extra: &[u8]) -> usize
     ensures { λ r. ⌜ r ≡ depCount (now (present .entry)) (now (udt .entry)) (now (lock .entry)) (now (extra .entry)) ⌝ }
@@ -170,37 +69,6 @@ pub fn dep_count(present: &[u8], udt: &[u8], lock: &[u8], extra: &[u8]) -> usize
     let b = molecule::fix_count(udt) as usize;
     let d = molecule::fix_count(extra) as usize;
     a + b + any_count(lock) + d
-}
-
-// Chooses one dep after the other. In `sorted` the chosen places are kept in the order of their deps, so that one more is looked up by halves.
-fn choose_in_turn<'a>(
-    present: &'a [u8],
-    udt: &'a [u8],
-    lock: &'a [u8],
-    extra: &'a [u8],
-    places: &mut [usize],
-    sorted: &mut [usize],
-) -> usize
-    ensures { λ r. ⌜ Chooses (now (present .entry)) (now (udt .entry)) (now (lock .entry)) (now (extra .entry)) (min (length (now (places .entry))) (length (now (sorted .entry)))) (now (places .exit)) r ⌝ }
-{
-    let n = dep_count(present, udt, lock, extra);
-    let room = sizes::min(places.len(), sorted.len());
-    let mut count: usize = 0;
-    let mut i: usize = 0;
-    while i < n {
-        let place = i;
-        i += 1;
-        let last = count;
-        let found = find(present, udt, lock, extra, sorted, last, place);
-        if !found.there {
-            if room <= last {
-                return room + 1;
-            }
-            put_place(places, sorted, last, found.at, place);
-            count = last + 1;
-        }
-    }
-    count
 }
 
 // How long the list of the chosen deps is; 133,117 for all that is longer.

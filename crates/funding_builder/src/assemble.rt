@@ -1,6 +1,5 @@
 // The base transaction written from its figures: the funding cell, the pick and its change, and what the present transaction has already.
 use base_writer::Plan;
-use cell_deps::distinct;
 use error::Refusal;
 use transaction::fields;
 use transaction_writer::Written;
@@ -161,7 +160,7 @@ fn choose_deps<'a>(
     let deps = fields::cell_deps(ours);
     let udt_used = if_picked(taken, udt_deps);
     let lock_used = if_picked(taken, lock_dep);
-    distinct::choose(deps, udt_used, lock_used, extra_deps, places, sorted)
+    distinct_deps::choose(deps, udt_used, lock_used, extra_deps, places, sorted)
 }
 
 // The figures that are written.

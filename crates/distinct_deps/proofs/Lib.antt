@@ -1,0 +1,4 @@
+pub mod SortedLaws
+pub mod ChooseLaws
+pub mod DistinctLaws
+pub mod Ways
