@@ -8,13 +8,28 @@ const HEADER: &str = include_str!("../../bindings/c/basinpantry.h");
 const EXCEPTIONS: &[(&[&str], &str, Growth, &str)] = &[
     (
         &["hold_for_watchtower", "release_for_watchtower"],
-        "made to share a slot",
+        "all held, in the reverse order, made to share a slot",
         Growth::Any,
         "This call and the next look at up to 256 records for each cell whose out point was made to share a slot with theirs.",
     ),
-    (&["update_for_peer"], "made to meet", Growth::ToOriginal, "Cell deps in another order that were made to meet in the library's digest are sorted: n log n comparisons."),
+    (
+        &["unavailable", "take"],
+        "64 free picks, many spent",
+        Growth::Any,
+        "Up to 64 picks, and here those beyond the first 7,394, are looked up one by one in the records, in `spent` and among the picks before them.",
+    ),
+    (&["update_for_peer"], MET, Growth::ToOriginal, "Cell deps in another order that were made to meet in the library's digest are sorted: n log n comparisons."),
     (&["exclusions_"], "", Growth::ToOriginal, "Excluded cells (LiveCellsExclusionMap): at most 64 entries with at most 512 out points in all."),
 ];
+
+/// A part of the names of the inputs whose cell deps meet, and how many times the original's time and that of deps which do not meet these take, at most and at
+/// least: where they no longer take longer, they no longer meet.
+const MET: &str = "made to meet";
+const MET_MOST: f64 = 6.0;
+const MET_LEAST: f64 = 1.5;
+
+/// How many times an honest input's a call of the watchtower's takes at most, whatever cells it is lent.
+const TOWER_MOST: f64 = 4.0;
 
 /// What may grow: the factor to the original's time, or that and all else.
 #[derive(PartialEq)]
@@ -126,11 +141,13 @@ fn assertions(row: &Row) -> Vec<Assertion> {
     if row.sizes.len() == 1 {
         all.push(("worst/honest is".into(), size.to_honest(), 2.0));
     }
+    if row.entry.ends_with("watchtower") && row.sizes.len() > 1 && !row.input.contains("made to share a slot") {
+        all.push(("worst/honest is".into(), size.to_honest(), TOWER_MOST));
+    }
     if let Some(deps) = &size.deps {
         all.push(("by C's qsort and bsearch over the same deps it is".into(), size.to(&deps.sorted), 2.0));
-        if !may_grow(row, Growth::ToOriginal) {
-            all.push(("by the original from parsed transactions it is".into(), size.to(&deps.parsed), 1.0));
-        }
+        let most = if row.input.contains(MET) { MET_MOST } else { 1.0 };
+        all.push(("by the original from parsed transactions it is".into(), size.to(&deps.parsed), most));
     }
     all
 }
@@ -141,11 +158,18 @@ pub fn fails_closely(row: &Row) -> bool {
     all.iter().any(|(_, figure, most)| figure > most) && all.iter().all(|(_, figure, most)| *figure < 1.5 * most)
 }
 
+/// That deps which were made to meet still do: beside the same order of others they take longer.
+fn still_meet(rows: &[Row], row: &Row) -> Option<Assertion> {
+    let plain = rows.iter().find(|plain| plain.input == row.input.replace("made to meet, ", ""))?;
+    let times = row.largest().worst.best / plain.largest().worst.best;
+    row.input.contains(MET).then(|| ("deps that do not meet, in their time, are".into(), 1.0 / times, 1.0 / MET_LEAST))
+}
+
 /// Prints the assertions that fail, and tells whether none does.
 pub fn judge(rows: &[Row]) -> bool {
     let (mut all, mut failed) = (0, 0);
     for row in rows {
-        for (what, figure, most) in assertions(row) {
+        for (what, figure, most) in assertions(row).into_iter().chain(still_meet(rows, row)) {
             all += 1;
             if figure > most {
                 failed += 1;

@@ -178,10 +178,15 @@ fn copies_found_last(hashes: Hashes, n: usize) -> (Vec<Dep>, Vec<Dep>) {
 fn copies_missing(hashes: Hashes, n: usize) -> (Vec<Dep>, Vec<Dep>) {
     (vec![hashes.dep(0); n], hashes.deps(1..n + 1))
 }
-/// The peer's meet in the library's digest.
-fn made_to_meet(_: Hashes, n: usize) -> (Vec<Dep>, Vec<Dep>) {
-    let peer = chains::deps(n);
-    (reversed(&peer), peer)
+/// They meet in the library's digest.
+fn made_to_meet(hashes: Hashes, n: usize) -> (Vec<Dep>, Vec<Dep>) {
+    let ours = chains::deps(hashes, n);
+    (ours.clone(), reversed(&ours))
+}
+/// One more than are looked at in a chain, again and again.
+fn some_made_to_meet(hashes: Hashes, n: usize) -> (Vec<Dep>, Vec<Dep>) {
+    let ours: Vec<Dep> = chains::deps(hashes, 17).into_iter().cycle().take(n).collect();
+    (ours.clone(), reversed(&ours))
 }
 fn one_fewer(hashes: Hashes, n: usize) -> (Vec<Dep>, Vec<Dep>) {
     let (mut ours, peer) = of_all(hashes, n, |peer| peer.rotate_left(1));
@@ -200,7 +205,8 @@ const ORDERS: &[(&str, &[Hashes], Order)] = &[
     ("ours copies of the peer's last", &[Hashes::Random, Hashes::Same], copies_found_last),
     ("ours copies of none (5)", &[Hashes::Random, Hashes::Same], copies_missing),
     ("ours one fewer, rotated by one", &[Hashes::Random], one_fewer),
-    ("made to meet, reversed", &[Hashes::Random], made_to_meet),
+    ("made to meet, reversed", &[Hashes::Random, Hashes::Same], made_to_meet),
+    ("seventeen made to meet, by turns", &[Hashes::Same], some_made_to_meet),
 ];
 
 fn dep_rows() -> Vec<Row> {

@@ -253,8 +253,8 @@ uint32_t basinpantry_lock_held(uint8_t *held, size_t held_len, uint64_t time, ui
 
 /* Writes the out points of `picked` that are held at `time` or in `spent`, each once and in the order of the picks: picked_len bytes are enough, or
    133,116, and a longer list (over 3,697 out points) is 13 whatever the buffer. This call and the next make about (picks + spent + records) log picks
-   comparisons. Up to 64 picks, and here those beyond the first 7,394, are looked up one by one, in the records, in `spent` and among the picks before them,
-   where hashes begin alike. Refused: 3, 13. */
+   comparisons. Up to 64 picks, and here those beyond the first 7,394, are looked up one by one in the records, in `spent` and among the picks before them.
+   Refused: 3, 13. */
 uint32_t basinpantry_unavailable(const uint8_t *held, size_t held_len, const uint8_t *picked, size_t picked_len, const uint8_t *spent, size_t spent_len,
                                  uint64_t time, uint8_t *out, size_t out_len);
 

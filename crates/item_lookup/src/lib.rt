@@ -1,6 +1,6 @@
 // Whether one list of items of one size holds all of another. What stands at its own place is seen there. For the others the items of the list are put into
 // chains by a digest of their bytes, and an item is looked for in its chain; where a peer has made many meet in one chain, an index (crate item_index) is made.
-// So the time goes by the bytes lent, and by n log n comparisons at most, whatever the bytes.
+// So of lists of up to 3,600 items the time goes by the bytes lent, and by n log n comparisons at most, whatever the bytes.
 ghost use mathlib.Core.Path.{_≡_};
 ghost use mathlib.Core.Bool.{true};
 ghost use Prim.Native.Nat.{_≤_, _<_};
@@ -10,14 +10,14 @@ ghost use Rattle.lists.specs.Lists.{containsAll};
 ghost use Rattle.item_index.specs.Index.{keyOf, Index};
 ghost use Rattle.item_lookup.specs.Lookup.{isAmong, areAmong};
 
-// For how many items there is room: 3,597 cell deps fill a transaction of 133,116 bytes.
+// For how many items there is room: a transaction of 133,116 bytes has no more cell deps.
 const ROOM: usize = 3600;
 
 // How many chains there are.
 const CHAINS: usize = 4096;
 
-// So many items of a chain are looked at. Few chains are longer, unless their items were made to meet.
-const STEPS: usize = 8;
+// So many items of a chain are looked at. No chain of 3,600 items is longer unless they were made to meet: by chance one in 10^12 is.
+const STEPS: usize = 16;
 
 // Behind the last item of a chain.
 const NONE: u32 = 4_294_967_295;
@@ -54,13 +54,13 @@ fn mix(digest: u64, word: u64) -> u64 {
     spread(digest ^ word)
 }
 
-// The digest with bytes more, word by word; the last word ends with them, and may look at some of them again.
-fn digest(seed: u64, x: &[u8]) -> u64 {
+// The digest of a string, word by word; the last word ends with it, and may look at some bytes again. Strings of under eight bytes share one.
+fn digest(x: &[u8]) -> u64 {
     if x.len() < WORD {
-        return seed;
+        return 0;
     }
     let last = x.len() - WORD;
-    let mut sum = seed;
+    let mut sum: u64 = 0;
     let mut i = 0;
     while i < last {
         let word = arithmetic::little_endian::u64_at(x, i);
@@ -71,13 +71,13 @@ fn digest(seed: u64, x: &[u8]) -> u64 {
     mix(sum, word)
 }
 
-// The chain of an item: the highest twelve bits of its digest.
-fn chain_of(seed: u64, x: &[u8]) -> usize
+// The chain of an item: the highest twelve bits of its digest, spread once more.
+fn chain_of(x: &[u8]) -> usize
     ensures { λ r. ⌜ r < 4096 ⌝ }
 {
-    let sum = digest(seed, x);
-    let mixed = mix(sum, seed);
-    let high = mixed / 4503599627370496;
+    let sum = digest(x);
+    let spread = spread(sum);
+    let high = spread / 4503599627370496;
     high as usize
 }
 
@@ -104,8 +104,9 @@ fn is_met(b: &[u8], k: u32, n: usize, next: &[u32], first: usize, x: &[u8]) -> b
     false
 }
 
-// Puts the first n items of b into their chains, each once: `heads` has the first item of each chain, `next` the one after it.
-fn link(b: &[u8], k: u32, n: u32, seed: u64, heads: &mut [u32], next: &mut [u32])
+// Puts the first n items of b into their chains, but for those that are met there: `heads` has the first item of each chain, `next` the one after it. What is
+// linked decides only how long a search takes.
+fn link(b: &[u8], k: u32, n: u32, heads: &mut [u32], next: &mut [u32])
     requires { ⌜ 4096 ≤ length (now heads) ⌝ }
     requires { ⌜ n ≤ length (now next) ⌝ }
     ensures { λ _. ⌜ length (now (heads .exit)) ≡ length (now (heads .entry)) ⌝ }
@@ -114,7 +115,7 @@ fn link(b: &[u8], k: u32, n: u32, seed: u64, heads: &mut [u32], next: &mut [u32]
     let mut i: u32 = 0;
     while i < n {
         let x = molecule::fix_item(b, k, i as usize);
-        let chain = chain_of(seed, x);
+        let chain = chain_of(x);
         let first = number_at(heads, chain);
         if is_met(b, k, n as usize, next, first, x) {
             i += 1;
@@ -126,7 +127,7 @@ fn link(b: &[u8], k: u32, n: u32, seed: u64, heads: &mut [u32], next: &mut [u32]
     }
 }
 
-// The first item of a, from `from` on and before m, that is not met in its chain, and m where all are.
+// The first item of a, from `from` on and before m, that is not met in its chain, and m where all are: those before it are among the first n of b.
 fn first_unmet(
     a: &[u8],
     b: &[u8],
@@ -134,7 +135,6 @@ fn first_unmet(
     from: usize,
     m: usize,
     n: usize,
-    seed: u64,
     heads: &[u32],
     next: &[u32],
 ) -> usize
@@ -145,7 +145,7 @@ fn first_unmet(
     let mut i = from;
     while i < m {
         let x = molecule::fix_item(a, k, i);
-        let chain = chain_of(seed, x);
+        let chain = chain_of(x);
         let first = number_at(heads, chain);
         if !is_met(b, k, n, next, first, x) {
             return i;
@@ -239,10 +239,8 @@ fn chain_all(a: &[u8], b: &[u8], k: u32, from: usize, m: usize, n: u32) -> bool
     let mut heads = [NONE; CHAINS];
     let mut next = [0u32; ROOM];
     let count = n as usize;
-    // all digests begin with one of the whole list, so that an item can't be made to meet others before the list is known
-    let seed = digest(0, b);
-    link(b, k, n, seed, &mut heads, &mut next);
-    let unmet = first_unmet(a, b, k, from, m, count, seed, &heads, &next);
+    link(b, k, n, &mut heads, &mut next);
+    let unmet = first_unmet(a, b, k, from, m, count, &heads, &next);
     if m <= unmet {
         return true;
     }

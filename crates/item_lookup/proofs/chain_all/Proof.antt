@@ -6,7 +6,6 @@ pub chain-all-spec : {M : Type 1} → statement M
 chain-all-spec =
     tie.close
     (tie.spec
-    (λ c κs. search ways)  -- digest-requires
     (λ c. search ways)  -- slice-aggregate-link
     (λ c. search ways)  -- slice-aggregate-link-2
     (λ c κs. search ways)  -- link-requires

@@ -4,10 +4,10 @@ use Rattle.item_lookup.proofs.digest.Statement.{statement}
 use Rattle.item_lookup.proofs.digest.Tie as tie
 
 abbrev Inv-loop : tie.InvT-loop
-Inv-loop seed x last sum₀ i₀ sum i = Unit {0}
+Inv-loop x last sum₀ i₀ sum i = Unit {0}
 
 abbrev μ-loop : tie.MeasureT-loop
-μ-loop seed x last sum₀ i₀ sum i = last - i
+μ-loop x last sum₀ i₀ sum i = last - i
 
 pub digest-spec : {M : Type 1} → statement M
 digest-spec =

@@ -7,10 +7,10 @@ use Rattle.item_lookup.proofs.first_unmet.Statement.{statement}
 use Rattle.item_lookup.proofs.first_unmet.Tie as tie
 
 abbrev Inv-loop : tie.InvT-loop
-Inv-loop a b k from m n seed heads next i₀ i = Among (fixItem a k) (span (fixItem b k) 0 n) m i (containsAll (span (fixItem a k) from (m - from)) (span (fixItem b k) 0 n))
+Inv-loop a b k from m n heads next i₀ i = Among (fixItem a k) (span (fixItem b k) 0 n) m i (containsAll (span (fixItem a k) from (m - from)) (span (fixItem b k) 0 n))
 
 abbrev μ-loop : tie.MeasureT-loop
-μ-loop a b k from m n seed heads next i₀ i = m - i
+μ-loop a b k from m n heads next i₀ i = m - i
 
 pub first-unmet-spec : {M : Type 1} → statement M
 first-unmet-spec =

@@ -7,7 +7,7 @@ abbrev Inv-loop : tie.InvT-loop
 Inv-loop b k n next first x place₀ steps₀ place steps = Unit {0}
 
 abbrev μ-loop : tie.MeasureT-loop
-μ-loop b k n next first x place₀ steps₀ place steps = 8 - steps
+μ-loop b k n next first x place₀ steps₀ place steps = 16 - steps
 
 pub is-met-spec : {M : Type 1} → statement M
 is-met-spec =

@@ -6,10 +6,10 @@ use Rattle.item_lookup.proofs.link.Statement.{statement}
 use Rattle.item_lookup.proofs.link.Tie as tie
 
 abbrev Inv-loop : tie.InvT-loop
-Inv-loop b k n seed heads₀ next₀ i₀ heads next i = (length heads ≡ length heads₀) × (length next ≡ length next₀)
+Inv-loop b k n heads₀ next₀ i₀ heads next i = (length heads ≡ length heads₀) × (length next ≡ length next₀)
 
 abbrev μ-loop : tie.MeasureT-loop
-μ-loop b k n seed heads₀ next₀ i₀ heads next i = n - i
+μ-loop b k n heads₀ next₀ i₀ heads next i = n - i
 
 pub link-spec : {M : Type 1} → statement M
 link-spec =
