@@ -2,9 +2,12 @@
 use mathlib.Core.Path.{_≡_, refl, sym, ap, ap₂, _∙_}
 use Prim.Native.Nat.{ℕ, zero, suc, _+_, _-_, _≤_, _<_, min}
 use native.Mathlib.Omega.{arith}
-use mathlib.Core.Bool.{Bool, true, false, cond}
+use borrow.Author.Tests.{ltb-true, ltb-false}
+use mathlib.Core.Bool.{Bool, true, false, cond, false≢true}
 use mathlib.Core.List.{List, [], _∷_}
-use lib.ListN.{length, getD, take, drop, set, length-set, length-take}
+use lib.Dec.{ltb}
+use lib.ListN.{length, getD, take, set, length-set, length-take}
+use lib.Seq.{getD-take}
 use Rattle.units.specs.declared.{Millis.Millis}
 use Rattle.molecule.specs.Layout.{span, fixCount}
 use Rattle.lists.proofs.SpanLaws.{span-on, span-end, span-whole}
@@ -14,41 +17,94 @@ use Rattle.out_points.specs.Tables.{renew}
 use Rattle.hold_records.specs.declared.{Owner.Owner, Hold.Hold, Held.Held}
 use Rattle.hold_records.specs.Holds.{recordsOf, heldBy, isTowerOn, renewAll}
 use Rattle.watchtower_holds.specs.Places.{placeOf}
-use Rattle.hold_records.proofs.LoopLaws.{drop-record, drop-none}
+use Rattle.hold_records.proofs.LoopLaws.{stands}
 
--- ---- the search: what is left decides
+-- ---- where the first record on p stands
 
-pub record Placing (p : OutPoint) (h : Held) (n i R : ℕ) : Type 0 where
+pub place-below : (p : OutPoint) (l : List Hold) → placeOf p l ≤ length l
+unfolding placeOf
+place-below p [] = omega arith
+place-below p (y ∷ l) = by (isTowerOn p y) (place-below p l)
+  where
+    by : (b : Bool) → placeOf p l ≤ length l → cond b 0 (suc (placeOf p l)) ≤ suc (length l)
+    by true h = omega arith
+    by false h = omega arith
+
+-- one that is on p stands no earlier
+place-at : (p : OutPoint) (l : List Hold) (k : ℕ) (d : Hold) → k < length l → isTowerOn p (getD l k d) ≡ true → placeOf p l ≤ k
+unfolding placeOf
+place-at p [] k d h e = absurd (omega arith)
+place-at p (y ∷ l) zero d h e = rw e (omega arith)
+place-at p (y ∷ l) (suc k) d h e = by (isTowerOn p y) (place-at p l k d (omega arith) e)
+  where
+    by : (b : Bool) → placeOf p l ≤ k → cond b 0 (suc (placeOf p l)) ≤ suc k
+    by true g = omega arith
+    by false g = omega arith
+
+place-is : (p : OutPoint) (l : List Hold) (d : Hold) → placeOf p l < length l → isTowerOn p (getD l (placeOf p l) d) ≡ true
+unfolding placeOf
+place-is p [] d h = absurd (omega arith)
+place-is p (y ∷ l) d h = by (isTowerOn p y) refl h (place-is p l d)
+  where
+    by : (b : Bool) → isTowerOn p y ≡ b → cond b 0 (suc (placeOf p l)) < suc (length l) → (placeOf p l < length l → isTowerOn p (getD l (placeOf p l) d) ≡ true)
+        → isTowerOn p (getD (y ∷ l) (cond b 0 (suc (placeOf p l))) d) ≡ true
+    by true e h f = e
+    by false e h f = f (omega arith)
+
+-- the same of a table
+module _ (p : OutPoint) (h : Held) (w : length (h .records) ≡ 256) where
+  pub place-most : placeOf p (recordsOf h) ≤ min (h .count) 256
+  place-most = let a = place-below p (recordsOf h) in let b = stands h w in omega arith
+
+  pub stands-at : {j : ℕ} (d : Hold) → j < min (h .count) 256 → isTowerOn p (getD (h .records) j d) ≡ true → placeOf p (recordsOf h) ≤ j
+  unfolding recordsOf
+  stands-at {j} d l e =
+      let b = stands h w in
+      place-at p (take (h .count) (h .records)) j d (omega arith) (ap (isTowerOn p) (getD-take (h .count) (h .records) j d (omega arith)) ∙ e)
+
+  pub stands-on : (d : Hold) → placeOf p (recordsOf h) < min (h .count) 256 → isTowerOn p (getD (h .records) (placeOf p (recordsOf h)) d) ≡ true
+  unfolding recordsOf
+  stands-on d l =
+      let b = stands h w in
+      let at = placeOf p (take (h .count) (h .records)) in
+      ap (isTowerOn p) (sym (getD-take (h .count) (h .records) at d (omega arith))) ∙ place-is p (take (h .count) (h .records)) d (omega arith)
+
+-- ---- the search from a place on, where none stands before
+
+pub record Placing (p : OutPoint) (h : Held) (n i : ℕ) : Type 0 where
   pub most : n ≡ min (h .count) 256
   pub whole : length (h .records) ≡ 256
-  pub within : i ≤ n
-  pub rest : R ≡ i + placeOf p (drop i (recordsOf h))
+  pub behind : min i n ≤ placeOf p (recordsOf h)
 
-pub place-start : (p : OutPoint) (h : Held) {n : ℕ} → n ≡ min (h .count) 256 → length (h .records) ≡ 256 → Placing p h n 0 (placeOf p (recordsOf h))
-place-start p h e l = record { most = e; whole = l; within = omega arith; rest = omega arith }
+pub place-start : (p : OutPoint) (h : Held) {n from : ℕ} → min from (min (h .count) 256) ≤ placeOf p (recordsOf h) → n ≡ min (h .count) 256 → length (h .records) ≡ 256 → Placing p h n from
+place-start p h b e l = record { most = e; whole = l; behind = omega arith }
 
-module _ {p : OutPoint} {h : Held} {n i R : ℕ} (k : Placing p h n i R) where
-  pub place-more : (d : Hold) {b : Bool} → i < n → b ≡ isTowerOn p (getD (h .records) i d) → b ≡ false → Placing p h n (i + 1) R
-  unfolding placeOf
-  place-more d l e t =
-      let m = k .most in
-      let q : placeOf p (drop i (recordsOf h)) ≡ suc (placeOf p (drop (i + 1) (recordsOf h))) = ap (placeOf p) (drop-record h i d (k .whole) (omega arith)) ∙ rw (← e, t) in
-      record { most = k .most; whole = k .whole; within = omega arith; rest = omega (arith, k .rest, q) }
+module _ {p : OutPoint} {h : Held} {n i : ℕ} (k : Placing p h n i) where
+  pub place-in : i < n → i < 256
+  place-in l = let m = k .most in omega arith
 
-  pub place-found : (d : Hold) {b : Bool} → i < n → b ≡ isTowerOn p (getD (h .records) i d) → b ≡ true → i ≡ R
-  unfolding placeOf
+  pub place-more : (d : Hold) {b : Bool} → i < n → b ≡ isTowerOn p (getD (h .records) i d) → b ≡ false → Placing p h n (i + 1)
+  place-more d l e t = record { most = k .most; whole = k .whole; behind = by (ltb i (placeOf p (recordsOf h))) refl }
+    where
+      by : (q : Bool) → ltb i (placeOf p (recordsOf h)) ≡ q → min (i + 1) n ≤ placeOf p (recordsOf h)
+      by true z = let b : i < placeOf p (recordsOf h) = ltb-true _ _ z in omega arith
+      by false z =
+          let a : placeOf p (recordsOf h) ≤ i = ltb-false _ _ z in
+          let b = k .behind in
+          let m = k .most in
+          let at : i ≡ placeOf p (recordsOf h) = omega arith in
+          let on = stands-on p h (k .whole) d (omega arith) in
+          absurd (false≢true (sym t ∙ e ∙ ap (λ (x : ℕ). isTowerOn p (getD (h .records) x d)) at ∙ on))
+
+  pub place-found : (d : Hold) {b : Bool} → i < n → b ≡ isTowerOn p (getD (h .records) i d) → b ≡ true → i ≡ placeOf p (recordsOf h)
   place-found d l e t =
       let m = k .most in
-      let q : placeOf p (drop i (recordsOf h)) ≡ 0 = ap (placeOf p) (drop-record h i d (k .whole) (omega arith)) ∙ rw (← e, t) in
-      omega (arith, k .rest, q)
+      let b = k .behind in
+      let z = stands-at p h (k .whole) d (omega arith) (sym e ∙ t) in
+      omega arith
 
-  pub place-end : n ≤ i → n ≡ R
-  unfolding placeOf
-  place-end l =
-      let m = k .most in
-      let w = k .within in
-      let q : placeOf p (drop i (recordsOf h)) ≡ 0 = ap (placeOf p) (drop-none h i (k .whole) (omega arith)) in
-      omega (arith, k .rest, q)
+  pub place-end : n ≤ i → n ≡ placeOf p (recordsOf h)
+  place-end l = let m = k .most in let b = k .behind in let z = place-most p h (k .whole) in omega arith
 
 -- ---- a record put at its place
 
@@ -71,15 +127,6 @@ put-place t p (y ∷ a) (suc c) h l = by (isTowerOn p y) l (λ b. put-place t p 
         let e : suc c + (suc (placeOf p (take c a)) + 1 - suc c) ≡ suc (c + (placeOf p (take c a) + 1 - c)) = omega arith in
         ap (λ (n : ℕ). take n (y ∷ set a (placeOf p (take c a)) (tower t p))) e
         ∙ ap (λ (x : List Hold). y ∷ x) (f (omega arith))
-
-pub place-below : (p : OutPoint) (l : List Hold) → placeOf p l ≤ length l
-unfolding placeOf
-place-below p [] = omega arith
-place-below p (y ∷ l) = by (isTowerOn p y) (place-below p l)
-  where
-    by : (b : Bool) → placeOf p l ≤ length l → cond b 0 (suc (placeOf p l)) ≤ suc (length l)
-    by true h = omega arith
-    by false h = omega arith
 
 renew-length : (t : Millis) (l : List Hold) (p : OutPoint) → length (renew (isTowerOn p) (tower t p) l) ≡ length l + (placeOf p l + 1 - length l)
 unfolding placeOf renew

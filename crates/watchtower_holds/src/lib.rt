@@ -7,109 +7,98 @@ use hold_records::Hold;
 use hold_records::MOST_RECORDS;
 use hold_records::Owner;
 use out_points::OutPoint;
+use out_points::SLOTS;
 use units::Millis;
 ghost use mathlib.Core.Path.{_≡_};
 ghost use mathlib.Core.Bool.{true, false};
 ghost use mathlib.Core.List.{[]};
-ghost use Prim.Native.Nat.{_+_, _-_, _%_, _<_, _≤_};
-ghost use lib.ListN.{length, getD};
+ghost use Prim.Native.Nat.{_+_, _-_, _*_, _<_, _≤_, min};
+ghost use lib.Dec.{eqb};
+ghost use lib.ListN.{length, getD, set};
 ghost use Rattle.error.specs.declared.{Answer.Answer};
-ghost use Rattle.out_points.specs.OutPoints.{has, points};
+ghost use Rattle.out_points.specs.OutPoints.{points, slotOf};
 ghost use Rattle.out_points.specs.Tables.{keep, told};
 ghost use Rattle.hold_records.specs.declared.{Owner.Owner};
 ghost use Rattle.hold_records.specs.Holds.{recordsOf, isUnnamed, isTowerOn, renewAll, atMost256, releaseForWatchtower, holdForWatchtower};
-ghost use Rattle.watchtower_holds.specs.Places.{placeOf, hinted, Hints, towersOn};
+ghost use Rattle.watchtower_holds.specs.Places.{placeOf, noted, Hints, marked, Marked, Marks};
 
 // How long the watchtower's cells stay held: a transaction of its not committed by then has left the pool, and its cells are free again.
 pub const WATCHTOWER_HOLD_MS: u64 = 1_800_000;
 
-// How many hints stand before a search for a record: one for every out point, by the first word of its hash.
-const HINTS: usize = 4096;
+// Two hints for each slot of out points: where the first of the watchtower's records of the slot stands, and one less than where any other may stand. Both are
+// 255 where there is none: the last place, at which a record is looked at like at any other, and the place behind it.
+const HINTS: usize = 2 * SLOTS;
 
-// The hint of p: it does not stand before that place. Where it is above `most`, it is `most` from then on.
-fn hint(hints: &mut [u8], p: OutPoint, most: usize) -> usize
-    requires { ⌜ length (now hints) ≡ 4096 ⌝ }
-    ensures { λ r. ⌜ r ≡ getD (now (hints .entry)) (p .hash .a % 4096) 0 ⌝ }
-    ensures { λ _. ⌜ now (hints .exit) ≡ hinted (now (hints .entry)) p most ⌝ }
+// Where the first of the watchtower's records in the slot of p stands. If that is beyond the records, the slot has none.
+fn first(hints: &[u8], p: OutPoint) -> usize
+    ensures { λ r. ⌜ r ≡ getD (now (hints .entry)) (2 * slotOf p) 0 ⌝ }
 {
-    let hash = p.hash;
-    let at = hash.a as usize % HINTS;
+    let slot = out_points::slot(p);
+    little_endian::byte(hints, 2 * slot) as usize
+}
+
+// From where on the others stand. If that is beyond the records, the slot has one at most.
+fn next(hints: &[u8], p: OutPoint) -> usize
+    ensures { λ r. ⌜ r ≡ getD (now (hints .entry)) (2 * slotOf p + 1) 0 + 1 ⌝ }
+{
+    let slot = out_points::slot(p);
+    little_endian::byte(hints, 2 * slot + 1) as usize + 1
+}
+
+// Sets a second hint, at `at`, so that `place` is behind it.
+fn note_other(hints: &mut [u8], at: usize, place: usize)
+    requires { ⌜ (at < length (now hints)) × (0 < place) × (place < 256) ⌝ }
+    ensures { λ _. ⌜ now (hints .exit) ≡ set (now (hints .entry)) at (min (getD (now (hints .entry)) at 0) (place - 1)) ⌝ }
+{
     let k = little_endian::byte(hints, at) as usize;
-    if k <= most {
-        return k;
-    }
-    hints[at] = most as u8;
-    k
-}
-
-// Sets the hints of the list's out points.
-fn hint_list(s: &[u8], hints: &mut [u8])
-    requires { ⌜ Hints (now hints) [] ⌝ }
-    ensures { λ _. ⌜ Hints (now (hints .exit)) (towersOn (points (now (s .entry)))) ⌝ }
-{
-    let n = molecule::fix_count(s) as usize;
-    let mut i: usize = 0;
-    while i < n {
-        let p = out_points::point_of(s, i);
-        hint(hints, p, i);
-        i += 1;
+    if place <= k {
+        hints[at] = (place - 1) as u8;
     }
 }
 
-// Whether the list has p. All of it is searched only where another out point stands at the hint of p.
-fn named(s: &[u8], hints: &[u8], p: OutPoint) -> bool
-    requires { ⌜ Hints (now hints) (towersOn (points (now s))) ⌝ }
-    ensures { λ r. ⌜ r ≡ has p (points (now (s .entry))) ⌝ }
+// Notes that a record of the watchtower's in the slot of p stands at `place`.
+fn note(hints: &mut [u8], p: OutPoint, place: usize)
+    requires { ⌜ (length (now hints) ≡ 8186) × (place < 256) ⌝ }
+    ensures { λ _. ⌜ now (hints .exit) ≡ noted (now (hints .entry)) (slotOf p) place ⌝ }
 {
-    let n = molecule::fix_count(s) as usize;
-    let hash = p.hash;
-    let at = hash.a as usize % HINTS;
+    let at = 2 * out_points::slot(p);
     let k = little_endian::byte(hints, at) as usize;
-    if n <= k {
-        return false;
+    if place < k {
+        hints[at] = place as u8;
+        return;
     }
-    let q = out_points::point_of(s, k);
-    if out_points::same_point(p, q) {
-        return true;
+    if k < place {
+        note_other(hints, at + 1, place);
     }
-    out_points::has_point(s, p)
 }
 
-// Whether a record stays when the watchtower's holds on `cells` go.
-fn unnamed(r: Hold, cells: &[u8], hints: &[u8]) -> bool
-    requires { ⌜ Hints (now hints) (towersOn (points (now cells))) ⌝ }
-    ensures { λ b. ⌜ b ≡ isUnnamed (points (now (cells .entry))) r ⌝ }
+// Whether the record is the watchtower's.
+fn is_tower(r: Hold) -> bool
+    ensures { λ b. ⌜ b ≡ isTowerOn (r .point) r ⌝ }
 {
     let owner = r.owner;
     match owner {
-        Owner::Funding(_) => true,
-        Owner::Watchtower(_) => {
-            let p = r.point;
-            !named(cells, hints, p)
-        }
+        Owner::Funding(_) => false,
+        Owner::Watchtower(_) => true,
     }
 }
 
-// The records without the watchtower's on `cells`.
-fn without(h: Held, cells: &[u8], hints: &[u8]) -> Held
-    requires { ⌜ Hints (now hints) (towersOn (points (now cells))) ⌝ }
-    ensures { λ r. ⌜ recordsOf r ≡ keep (isUnnamed (points (now (cells .entry)))) (recordsOf h) ⌝ }
-    ensures { λ r. ⌜ r .count ≤ 256 ⌝ }
+// Notes the watchtower's records of the table.
+fn note_all(h: Held, hints: &mut [u8])
+    requires { ⌜ length (now hints) ≡ 8186 ⌝ }
+    ensures { λ _. ⌜ Hints (now (hints .exit)) (h .records) (min (h .count) 256) ⌝ }
 {
     let n = hold_records::used(h.count);
-    let mut g = h;
-    let mut to: usize = 0;
     let mut i: usize = 0;
     while i < n {
+        let at = i;
         let x = h.records[i];
         i += 1;
-        if unnamed(x, cells, hints) {
-            g.records[to] = x;
-            to += 1;
+        if is_tower(x) {
+            let p = x.point;
+            note(hints, p, at);
         }
     }
-    g.count = to;
-    g
 }
 
 // Whether the record is the watchtower's on p.
@@ -126,12 +115,13 @@ fn tower_on(r: Hold, p: OutPoint) -> bool
     }
 }
 
-// Where the watchtower's record on p stands, and where a new one goes if there is none.
-fn tower_place(h: Held, p: OutPoint) -> usize
+// Where the watchtower's first record on p stands, and where a new one goes if there is none. None stands before `from`.
+fn tower_place(h: Held, p: OutPoint, from: usize) -> usize
+    requires { ⌜ min from (min (h .count) 256) ≤ placeOf p (recordsOf h) ⌝ }
     ensures { λ r. ⌜ r ≡ placeOf p (recordsOf h) ⌝ }
 {
     let n = hold_records::used(h.count);
-    let mut i: usize = 0;
+    let mut i = from;
     while i < n {
         let x = h.records[i];
         if tower_on(x, p) {
@@ -163,25 +153,10 @@ fn counted(count: usize, at: usize) -> usize
     count
 }
 
-// Sets the hints of the table's records.
-fn hint_all(h: Held, hints: &mut [u8])
-    requires { ⌜ Hints (now hints) [] ⌝ }
-    ensures { λ _. ⌜ Hints (now (hints .exit)) (recordsOf h) ⌝ }
-{
-    let n = hold_records::used(h.count);
-    let mut i: usize = 0;
-    while i < n {
-        let x = h.records[i];
-        let p = x.point;
-        hint(hints, p, i);
-        i += 1;
-    }
-}
-
-// The watchtower's record on each of the cells lasts until `end`: in its place, or last. All records are searched only where the one at a cell's hint is of another cell. `from` has
-// the records of h, which a refusal hands back.
+// The watchtower's record on each of the cells lasts until `end`: in its place, or last. More than one record is looked at only where a slot has more than one.
+// `from` has the records of h, which a refusal hands back.
 fn renew_from(h: Held, from: Held, cells: &[u8], end: Millis, hints: &mut [u8]) -> HeldAnswer
-    requires { ⌜ (recordsOf from ≡ recordsOf h) × (from .count ≤ 256) × Hints (now hints) (recordsOf from) ⌝ }
+    requires { ⌜ (recordsOf from ≡ recordsOf h) × (from .count ≤ 256) × Hints (now hints) (from .records) (min (from .count) 256) ⌝ }
     ensures { λ r. ⌜ told recordsOf (r .answer) (r .held) ≡ atMost256 h (renewAll end (recordsOf h) (points (now (cells .entry)))) ⌝ }
     ensures { λ r. ⌜ (r .answer ≡ Answer.Done → r .held .count ≤ 256) ⌝ }
 {
@@ -192,7 +167,7 @@ fn renew_from(h: Held, from: Held, cells: &[u8], end: Millis, hints: &mut [u8]) 
         let point = out_points::point_of(cells, i);
         let owner = Owner::Watchtower(end);
         let last = g.count;
-        let k = hint(hints, point, last);
+        let k = first(hints, point);
         i += 1;
         if last <= k {
             if MOST_RECORDS <= last {
@@ -200,17 +175,20 @@ fn renew_from(h: Held, from: Held, cells: &[u8], end: Millis, hints: &mut [u8]) 
             }
             g.records[last] = Hold { point, owner };
             g.count = last + 1;
+            note(hints, point, last);
         } else {
             let x = g.records[k];
             if tower_on(x, point) {
                 g.records[k] = Hold { point, owner };
             } else {
-                let at = tower_place(g, point);
+                let others = next(hints, point);
+                let at = tower_place(g, point, others);
                 if MOST_RECORDS <= at {
                     return hold_records::refuse(h, Refusal::TooManyHolds);
                 }
                 g.records[at] = Hold { point, owner };
                 g.count = counted(last, at);
+                note(hints, point, at);
             }
         }
     }
@@ -223,8 +201,88 @@ fn renew_all(h: Held, cells: &[u8], end: Millis) -> HeldAnswer
 {
     let g = trimmed(h);
     let mut hints = [255u8; HINTS];
-    hint_all(g, &mut hints);
+    note_all(g, &mut hints);
     renew_from(h, g, cells, end, &mut hints)
+}
+
+// Marks the record at `at`, if it is `on` a cell.
+fn mark(marks: &mut [u8], at: usize, on: bool)
+    requires { ⌜ at < length (now marks) ⌝ }
+    ensures { λ _. ⌜ now (marks .exit) ≡ marked (now (marks .entry)) at on ⌝ }
+{
+    if on {
+        marks[at] = 1;
+    }
+}
+
+// Marks the watchtower's records on p from `from` on.
+fn mark_from(h: Held, p: OutPoint, from: usize, marks: &mut [u8])
+    requires { ⌜ length (now marks) ≡ 256 ⌝ }
+    ensures { λ _. ⌜ Marked p (h .records) from (min (h .count) 256) (now (marks .entry)) (now (marks .exit)) ⌝ }
+{
+    let n = hold_records::used(h.count);
+    let mut i = from;
+    while i < n {
+        let x = h.records[i];
+        let on = tower_on(x, p);
+        mark(marks, i, on);
+        i += 1;
+    }
+}
+
+// Marks the watchtower's records on the cells. More than one is looked at only where a slot has more than one.
+fn mark_all(h: Held, cells: &[u8], hints: &[u8], marks: &mut [u8])
+    requires { ⌜ Hints (now hints) (h .records) (min (h .count) 256) × Marks [] (h .records) (min (h .count) 256) (now marks) ⌝ }
+    ensures { λ _. ⌜ Marks (points (now (cells .entry))) (h .records) (min (h .count) 256) (now (marks .exit)) ⌝ }
+{
+    let count = hold_records::used(h.count);
+    let n = molecule::fix_count(cells) as usize;
+    let mut i: usize = 0;
+    while i < n {
+        let p = out_points::point_of(cells, i);
+        let k = first(hints, p);
+        i += 1;
+        if k < count {
+            let x = h.records[k];
+            let on = tower_on(x, p);
+            mark(marks, k, on);
+            let others = next(hints, p);
+            if others < count {
+                mark_from(h, p, others, marks);
+            }
+        }
+    }
+}
+
+fn is_unmarked(marks: &[u8], at: usize) -> bool
+    ensures { λ r. ⌜ r ≡ eqb (getD (now (marks .entry)) at 0) 0 ⌝ }
+{
+    little_endian::byte(marks, at) == 0
+}
+
+// The records without the watchtower's on `cells`.
+fn without(h: Held, cells: &[u8], hints: &[u8]) -> Held
+    requires { ⌜ Hints (now hints) (h .records) (min (h .count) 256) ⌝ }
+    ensures { λ r. ⌜ recordsOf r ≡ keep (isUnnamed (points (now (cells .entry)))) (recordsOf h) ⌝ }
+    ensures { λ r. ⌜ r .count ≤ 256 ⌝ }
+{
+    let mut marks = [0u8; 256];
+    mark_all(h, cells, hints, &mut marks);
+    let n = hold_records::used(h.count);
+    let mut g = h;
+    let mut to: usize = 0;
+    let mut i: usize = 0;
+    while i < n {
+        let x = h.records[i];
+        let stays = is_unmarked(&marks, i);
+        i += 1;
+        if stays {
+            g.records[to] = x;
+            to += 1;
+        }
+    }
+    g.count = to;
+    g
 }
 
 // The cells of a transaction that the watchtower could not send are free again.
@@ -236,7 +294,7 @@ pub fn release_for_watchtower(held: Held, cells: &[u8]) -> HeldAnswer
         return hold_records::refuse(held, Refusal::LentBytesUnreadable);
     }
     let mut hints = [255u8; HINTS];
-    hint_list(cells, &mut hints);
+    note_all(held, &mut hints);
     let g = without(held, cells, &hints);
     hold_records::done(g)
 }

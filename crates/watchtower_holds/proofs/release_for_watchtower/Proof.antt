@@ -9,8 +9,8 @@ release-for-watchtower-spec =
     (λ c κs. search ways)  -- is-out-points-requires
     (λ c κs. search ways)  -- refuse-requires
     (λ c. search ways)  -- returns
-    (λ c. search ways)  -- slice-aggregate-hint-list
-    (λ c κs. search ways)  -- hint-list-requires
+    (λ c. search ways)  -- slice-aggregate-note-all
+    (λ c κs. search ways)  -- note-all-requires
     (λ c. search ways)  -- slice-aggregate-without
     (λ c κs. search ways)  -- without-requires
     (λ c κs. search ways)  -- done-requires

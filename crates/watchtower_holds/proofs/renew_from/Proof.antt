@@ -1,5 +1,6 @@
 use Prim.Native.Nat.{_-_}
-use Rattle.watchtower_holds.proofs.HintLaws.{Going}
+use borrow.Author.Needs.{needs}
+use Rattle.watchtower_holds.proofs.HintLaws.{Going, go-search}
 use Rattle.watchtower_holds.proofs.Ways.{ways}
 use Rattle.watchtower_holds.proofs.renew_from.Statement.{statement}
 use Rattle.watchtower_holds.proofs.renew_from.Tie as tie
@@ -20,30 +21,33 @@ renew-from-spec =
     (λ c. search ways)  -- cast-n
     (λ c. search ways)  -- loop-holds
     (λ c κs. search ways)  -- point-of-requires
-    (λ c κs. search ways)  -- hint-requires
+    (λ c κs. search ways)  -- first-requires
     (λ c. search ways)  -- add-i
     (λ c κs. search ways)  -- refuse-requires
     (λ c. search ways)  -- same-length
     (λ c. search ways)  -- returns
-    (λ c. search ways)  -- mul-t22
+    (λ c. search ways)  -- mul-t23
     (λ c. search ways)  -- element-set-from-g
     (λ c. search ways)  -- add-g
+    (λ c κs. search ways)  -- note-requires
     (λ c. search ways)  -- loop-less
     (λ c. search ways)  -- loop-again
     (λ c. search ways)  -- mul-x
     (λ c. search ways)  -- element-copy-out-x
     (λ c κs. search ways)  -- tower-on-requires
-    (λ c. search ways)  -- mul-t31
+    (λ c. search ways)  -- mul-t35
     (λ c. search ways)  -- element-set-from-g-2
     (λ c. search ways)  -- loop-less-2
     (λ c. search ways)  -- loop-again-2
-    (λ c κs. search ways)  -- tower-place-requires
+    (λ c κs. search ways)  -- next-requires
+    (λ c κs. go-search (c .before .before .before .before .before .before .before .before .before .before .loop .inv) _ (c .before .before .before .before .before .before .first .ensures) _ (search needs) (c .before .before .before .tower-on .ensures) (c .next .ensures) (search needs))  -- tower-place-requires
     (λ c κs. search ways)  -- refuse-requires-2
     (λ c. search ways)  -- same-length-2
     (λ c. search ways)  -- returns-2
-    (λ c. search ways)  -- mul-t38
+    (λ c. search ways)  -- mul-t44
     (λ c. search ways)  -- element-set-from-g-3
     (λ c κs. search ways)  -- counted-requires
+    (λ c κs. search ways)  -- note-requires-2
     (λ c. search ways)  -- loop-less-3
     (λ c. search ways)  -- loop-again-3
     (λ c κs. search ways)  -- done-requires

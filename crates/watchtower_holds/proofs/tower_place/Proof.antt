@@ -1,16 +1,14 @@
 use Prim.Native.Nat.{_-_}
-use Rattle.hold_records.specs.Holds.{recordsOf}
-use Rattle.watchtower_holds.specs.Places.{placeOf}
 use Rattle.watchtower_holds.proofs.RenewLaws.{Placing}
 use Rattle.watchtower_holds.proofs.Ways.{ways}
 use Rattle.watchtower_holds.proofs.tower_place.Statement.{statement}
 use Rattle.watchtower_holds.proofs.tower_place.Tie as tie
 
 abbrev Inv-loop : tie.InvT-loop
-Inv-loop p h n i₀ i = Placing p h n i (placeOf p (recordsOf h))
+Inv-loop p from h n i₀ i = Placing p h n i
 
 abbrev μ-loop : tie.MeasureT-loop
-μ-loop p h n i₀ i = n - i
+μ-loop p from h n i₀ i = n - i
 
 pub tower-place-spec : {M : Type 1} → statement M
 tower-place-spec =
