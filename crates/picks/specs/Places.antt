@@ -1,27 +1,27 @@
 -- What the functions of this crate answer; no call's contract cites it.
 use mathlib.Core.Path.{_≡_}
-use Prim.Native.Nat.{ℕ, zero, suc, _+_, _%_, _≤_, min}
+use Prim.Native.Nat.{ℕ, zero, suc, _+_, _≤_, min}
 use mathlib.Core.Bool.{Bool, true, false, not, cond}
 use mathlib.Core.List.{List, [], _∷_, _++_, map}
 use lib.Dec.{leb}
 use lib.ListN.{length, drop, getD, set}
 use Rattle.molecule.specs.Layout.{span}
 use Rattle.out_points.specs.declared.{OutPoint.OutPoint}
-use Rattle.out_points.specs.OutPoints.{eqPoint, has, pointOf, points}
+use Rattle.out_points.specs.OutPoints.{eqPoint, slotOf, has, pointOf, points}
 use Rattle.out_points.specs.Tables.{Outcome, done, refused, check, hasRoom, written}
 use Rattle.hold_records.specs.declared.{Owner.Owner, Hold.Hold, Held.Held}
 use Rattle.hold_records.specs.Holds.{recordsOf, heldBy, firsts, others}
 use Rattle.pick_kinds.specs.Kinds.{isAmong, Kinds}
 
--- the marks with those of the out points set: one stands for every out point, by the first word of its hash
+-- the marks with those of the out points set: one for each slot
 unfoldable pub marked : List OutPoint → List ℕ → List ℕ
 marked [] m = m
-marked (p ∷ l) m = marked l (set m (p .hash .a % 4096) 1)
+marked (p ∷ l) m = marked l (set m (slotOf p) 1)
 
 -- where its mark is 0, an out point is neither among the cells nor spent
 pub record Marks (cells spent : List OutPoint) (m : List ℕ) : Type 0 where
-  pub enough : length m ≡ 4096
-  pub unmarked : (p : OutPoint) → getD m (p .hash .a % 4096) 0 ≡ 0 → isAmong cells spent p ≡ false
+  pub enough : length m ≡ 4093
+  pub unmarked : (p : OutPoint) → getD m (slotOf p) 0 ≡ 0 → isAmong cells spent p ≡ false
 
 -- marks, and what the first `known` picks are
 pub record Looked (cells picked spent marks kinds : List ℕ) (known : ℕ) : Type 0 where

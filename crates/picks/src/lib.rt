@@ -7,17 +7,18 @@ use hold_records::MOST_RECORDS;
 use hold_records::Owner;
 use molecule::write;
 use out_points::OutPoint;
+use out_points::SLOTS;
 use pick_kinds::MOST_PICKS;
 ghost use mathlib.Core.Path.{_≡_};
 ghost use mathlib.Core.Bool.{true, false, _&&_};
 ghost use mathlib.Core.List.{[]};
-ghost use Prim.Native.Nat.{_+_, _*_, _%_, _≤_, _<_, min};
+ghost use Prim.Native.Nat.{_+_, _*_, _≤_, _<_, min};
 ghost use lib.Dec.{leb, eqb};
 ghost use lib.ListN.{length, getD, drop, set};
 ghost use Rattle.error.specs.declared.{Answer.Answer};
 ghost use Rattle.molecule.specs.Layout.{fixCount};
 ghost use Rattle.molecule.specs.Write.{Put};
-ghost use Rattle.out_points.specs.OutPoints.{pointOf, points, bytesOf};
+ghost use Rattle.out_points.specs.OutPoints.{slotOf, pointOf, points, bytesOf};
 ghost use Rattle.out_points.specs.Tables.{told, hasRoom, written};
 ghost use Rattle.hold_records.specs.Holds.{recordsOf, cellsOf, isBusy, firsts};
 ghost use Rattle.hold_records.specs.Rules.{putIf};
@@ -30,14 +31,11 @@ const CELLS_BYTES: usize = 4 + 36 * MOST_RECORDS;
 // So many picks are looked up one by one: an index would cost more.
 const FEW_PICKS: usize = 64;
 
-// How many marks stand before a search: one for every out point, by the first word of its hash.
-const MARKS: usize = 4096;
-
-// Sets the mark of the out points with this first word.
-fn mark(marks: &mut [u8], word: u64)
-    ensures { λ _. ⌜ now (marks .exit) ≡ set (now (marks .entry)) (word % 4096) 1 ⌝ }
+// Sets the mark of the out point, which is that of its slot.
+fn mark(marks: &mut [u8], p: OutPoint)
+    ensures { λ _. ⌜ now (marks .exit) ≡ set (now (marks .entry)) (slotOf p) 1 ⌝ }
 {
-    let at = word as usize % MARKS;
+    let at = out_points::slot(p);
     if marks.len() <= at {
         return;
     }
@@ -51,8 +49,8 @@ fn mark_list(s: &[u8], marks: &mut [u8])
     let n = molecule::fix_count(s) as usize;
     let mut i: usize = 0;
     while i < n {
-        let word = out_points::first_word(s, i);
-        mark(marks, word);
+        let p = out_points::point_of(s, i);
+        mark(marks, p);
         i += 1;
     }
 }
@@ -70,8 +68,7 @@ fn busy(cells: &[u8], spent: &[u8], marks: &[u8], p: OutPoint) -> bool
     requires { ⌜ Marks (points (now cells)) (points (now spent)) (now marks) ⌝ }
     ensures { λ r. ⌜ r ≡ isAmong (points (now (cells .entry))) (points (now (spent .entry))) p ⌝ }
 {
-    let hash = p.hash;
-    let at = hash.a as usize % MARKS;
+    let at = out_points::slot(p);
     if marks[at] == 0 {
         return false;
     }
@@ -247,7 +244,7 @@ pub fn put_unavailable(h: Held, picked: &[u8], spent: &[u8], out: &mut [u8]) -> 
 {
     let mut cells = [0u8; CELLS_BYTES];
     hold_records::list_cells(h, &mut cells);
-    let mut marks = [0u8; MARKS];
+    let mut marks = [0u8; SLOTS];
     mark_both(&cells, spent, &mut marks);
     put_among(&cells, picked, spent, &marks, out)
 }
@@ -487,7 +484,7 @@ pub fn take_from(
 {
     let mut cells = [0u8; CELLS_BYTES];
     hold_records::list_cells(live, &mut cells);
-    let mut marks = [0u8; MARKS];
+    let mut marks = [0u8; SLOTS];
     mark_both(&cells, spent, &mut marks);
     take_free(
         held,

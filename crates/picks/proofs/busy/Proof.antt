@@ -6,6 +6,7 @@ pub busy-spec : {M : Type 1} → statement M
 busy-spec =
     tie.close
     (tie.spec
+    (λ c κs. search ways)  -- slot-requires
     (λ c. search ways)  -- shared-slice-read-if1
     (λ c. search ways)  -- returns
     (λ c κs. search ways)  -- has-point-requires

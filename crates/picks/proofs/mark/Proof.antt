@@ -6,6 +6,7 @@ pub mark-spec : {M : Type 1} → statement M
 mark-spec =
     tie.close
     (tie.spec
+    (λ c κs. search ways)  -- slot-requires
     (λ c. search ways)  -- returns
     (λ c. search ways)  -- slice-write-marks
     (λ c. search ways)  -- same-length

@@ -19,7 +19,7 @@ mark-list-spec =
     (λ c κs. search ways)  -- fix-count-requires
     (λ c. search ways)  -- cast-n
     (λ c. search ways)  -- loop-holds
-    (λ c κs. search ways)  -- first-word-requires
+    (λ c κs. search ways)  -- point-of-requires
     (λ c κs. search ways)  -- mark-requires
     (λ c. search ways)  -- add-i
     (λ c. search ways)  -- loop-less
