@@ -20,7 +20,7 @@ use Rattle.hold_records.specs.Holds.{recordsOf, heldBy, cellsOf, atMost256, hol
 use Rattle.hold_records.specs.Rules.{isKept, putIf}
 use Rattle.hold_records.proofs.LoopLaws.{recorded}
 use Rattle.pick_kinds.specs.Kinds.{isAmong}
-use Rattle.picks.specs.Places.{takeFrom}
+use Rattle.picks.specs.Places.{takeLists, takeFrom}
 use Rattle.hold_records.proofs.LimitLaws.{After, over, under}
 
 -- ---- hold_funding
@@ -103,5 +103,5 @@ module _ (h : Held) (picked spent : List ℕ) (taker : Taker) (time : Millis) (o
 
     pub take-live : (k : Held) {owner : Owner} {o : After} {b₁ b₂ : List ℕ} → not b ≡ false → recordsOf k ≡ keep (isKept (Rule.Live time)) (recordsOf h) → owner ≡ ownerFor taker time
         → (o, b₁, b₂) ≡ takeFrom h (recordsOf k) (cellsOf (recordsOf k)) (points picked) (points spent) owner out₁ out₂ → (o, b₁, b₂) ≡ takeCells h picked spent taker time out₁ out₂
-    unfolding takeCells takeFrom isAmong isBusy isKept
+    unfolding takeCells takeFrom takeLists isAmong isBusy isKept
     take-live k tb ek eo e = e ∙ rw (← ea, not-false a ta, ← eb, not-false b tb, ek, eo)

@@ -101,7 +101,7 @@ pub fn unavailable(held: Held, picked: &[u8], spent: &[u8], time: Millis, out: &
     }
     let rule = Rule::Live(time);
     let left = hold_records::keep(held, rule);
-    if !picks::put_unavailable(left, picked, spent, out) {
+    if !unavailable_picks::put_unavailable(left, picked, spent, out) {
         return Answer::Refused(Refusal::BufferTooShort);
     }
     Answer::Done

@@ -133,7 +133,7 @@ pub fn point_of(s: &[u8], i: usize) -> OutPoint
 }
 
 // The first word of item i, and 0 where the list has no such item.
-pub fn first_word(s: &[u8], i: usize) -> u64
+fn first_word(s: &[u8], i: usize) -> u64
     ensures { λ r. ⌜ r ≡ pointOf (now (s .entry)) i .hash .a ⌝ }
 {
     let n = molecule::word(s, 0) as usize;

@@ -57,6 +57,16 @@ module _ {g : ℕ → OutPoint} {n i at : ℕ} (k : FirstAt g n (g i) at) (l : i
       (λ m. absurd (d m))
       (λ m. absurd (false≢true (sym (k .before i m) ∙ point-refl (g i))))
 
+-- a further kind put
+pub kind-put : (f : OutPoint → Bool) (g : ℕ → OutPoint) {i v : ℕ} {m : List ℕ} → i < length m → v ≡ kindOf f g i → Kinds f g i m → Kinds f g (i + 1) (set m i v)
+kind-put f g {i} {v} {m} l e k = record { room = omega (arith, length-set m i v); each = each }
+  where
+    each : (j : ℕ) → j < i + 1 → getD (set m i v) j 0 ≡ kindOf f g j
+    each j h = three j i
+        (λ d. getD-set-other m i j v 0 (λ q. omega arith) ∙ k .each j d)
+        (λ d. rw d (getD-set-same m i v 0 l ∙ e))
+        (λ d. absurd (omega arith))
+
 pub record Setting (g : ℕ → OutPoint) (n i : ℕ) (m₀ m : List ℕ) : Type 0 where
   pub within : i ≤ n
   pub long : length m ≡ length m₀
@@ -74,20 +84,7 @@ module _ {g : ℕ → OutPoint} {n i : ℕ} {m₀ m : List ℕ} (k : Setting g n
   set-long = k .long
 
   pub set-more : {v : ℕ} → i < n → v ≡ kindOf noneIs g i → Setting g n (i + 1) m₀ (set m i v)
-  set-more {v} l e =
-      let a = set-in l in
-      record {
-        within = omega arith;
-        long = length-set m i v ∙ k .long;
-        all = k .all;
-        kinds = record { room = omega (arith, length-set m i v); each = each };
-      }
-    where
-      each : (j : ℕ) → j < i + 1 → getD (set m i v) j 0 ≡ kindOf noneIs g j
-      each j h = three j i
-          (λ d. getD-set-other m i j v 0 (λ q. omega arith) ∙ k .kinds .each j d)
-          (λ d. rw d (getD-set-same m i v 0 (set-in l) ∙ e))
-          (λ d. absurd (omega arith))
+  set-more {v} l e = record { within = omega arith; long = length-set m i v ∙ k .long; all = k .all; kinds = kind-put noneIs g (set-in l) e (k .kinds) }
 
   pub set-end : n ≤ i → Kinds noneIs g n m
   set-end h = let e : i ≡ n = (let w = k .within in omega arith) in rw e at (k .kinds)

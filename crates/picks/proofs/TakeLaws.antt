@@ -1,40 +1,51 @@
 -- What `take` records and writes.
 use mathlib.Core.Path.{_≡_, refl, sym, ap, _∙_}
-use Prim.Native.Nat.{ℕ, zero, suc, _+_, _-_, _*_, _≤_, _<_, min}
-use native.Mathlib.Numerals.{add-one}
+use Prim.Native.Nat.{ℕ, _+_, _-_, _*_, _≤_, _<_, min}
 use native.Mathlib.Omega.{arith}
-use mathlib.Core.Bool.{Bool, true, false}
-use mathlib.Core.List.{List, [], _∷_, _++_, map, append-nil}
-use lib.ListN.{length, getD, take, drop, set, length-set}
+use mathlib.Core.Bool.{Bool, true, false, not}
+use mathlib.Core.List.{List, _∷_, _++_, map, append-nil}
+use lib.Dec.{eqb}
+use lib.ListN.{length, getD, take, set, length-set}
 use lib.Seq.{append-snoc}
-use Rattle.molecule.specs.Layout.{span, fixCount}
-use Rattle.molecule.specs.Write.{putAt, putEnd, Put}
-use Rattle.lists.proofs.SpanLaws.{span-on, span-end, span-whole}
+use Rattle.molecule.specs.Layout.{fixCount}
+use Rattle.molecule.specs.Write.{putAt, putEnd}
 use Rattle.out_points.specs.declared.{OutPoint.OutPoint}
-use Rattle.out_points.specs.OutPoints.{eqPoint, pointOf, points, pointBytes, bytesOf}
+use Rattle.out_points.specs.OutPoints.{pointOf, pointBytes}
 use Rattle.hold_records.specs.declared.{Owner.Owner, Hold.Hold, Held.Held}
-use Rattle.hold_records.specs.Holds.{recordsOf, cellsOf, heldBy}
-use Rattle.picks.specs.Places.{isFirst, select, Tallied, headIs, unmatched}
+use Rattle.hold_records.specs.Holds.{recordsOf, heldBy}
 use Rattle.hold_records.proofs.ListLaws.{take-put}
-use Rattle.hold_records.proofs.LoopLaws.{trim-is, drop-record, drop-none}
-use Rattle.picks.proofs.PickLaws.{select-yes, select-no, select-end, select-whole}
-use Rattle.hold_records.proofs.WriteLaws.{Listing, list-start, list-more, list-end, list-long}
+use Rattle.hold_records.proofs.LoopLaws.{trim-is}
+use Rattle.unavailable_picks.specs.Unavailable.{select}
+use Rattle.unavailable_picks.proofs.PickLaws.{select-yes, select-no, select-end, select-whole, Naming, name-start, name-yes, name-no}
+use Rattle.picks.specs.Places.{isFree, isLeft, freeOf, leftOf, Tallied}
+
+pub free-is : (kinds : List ℕ) (i : ℕ) → eqb (getD kinds i 0) 1 ≡ isFree kinds i
+unfolding isFree
+free-is kinds i = refl
+
+pub kinds-in : {n m c i : ℕ} → n ≡ m → m ≤ c → i < n → i < c
+kinds-in e r l = omega arith
+
+-- the picks to take from i on
+abbrev Free : List ℕ → List ℕ → ℕ → ℕ → List OutPoint
+Free picked kinds i n = select (isFree kinds) (pointOf picked) i (n - i)
 
 -- ---- the taken ones counted, and recorded as far as there is room
 
-pub record Tallying (owner : Owner) (f : OutPoint → Bool) (pt : ℕ → OutPoint) (m : ℕ) (h g : Held) (n i count : ℕ) : Type 0 where
+pub record Tallying (owner : Owner) (picked kinds : List ℕ) (h g : Held) (n i count : ℕ) : Type 0 where
   pub within : i ≤ n
   pub below : count ≤ i
   pub whole : length (h .records) ≡ 256
-  pub total : length (select f pt 0 m) ≡ count + length (select f pt i (n - i))
+  pub total : length (freeOf picked kinds) ≡ count + length (Free picked kinds i n)
   pub stands : g .count ≡ min (min (h .count) 256 + count) 256
   pub long : length (g .records) ≡ 256
-  pub added : min (h .count) 256 + count ≤ 256 → recordsOf g ++ map (heldBy owner) (select f pt i (n - i)) ≡ recordsOf h ++ map (heldBy owner) (select f pt 0 m)
+  pub added : min (h .count) 256 + count ≤ 256 → recordsOf g ++ map (heldBy owner) (Free picked kinds i n) ≡ recordsOf h ++ map (heldBy owner) (freeOf picked kinds)
 
-pub tally-start : (owner : Owner) (f : OutPoint → Bool) (pt : ℕ → OutPoint) {n m u : ℕ} (h : Held) → n ≡ m → u ≡ min (h .count) 256 → length (h .records) ≡ 256
-    → Tallying owner f pt m (record { records = h .records; count = u }) (record { records = h .records; count = u }) n 0 0
-tally-start owner f pt {n} {m} {u} h e b l =
-    let q : select f pt 0 m ≡ select f pt 0 (n - 0) = ap (select f pt 0) (sym e) ∙ select-whole f pt n in
+pub tally-start : (owner : Owner) (picked kinds : List ℕ) {n u : ℕ} (h : Held) → n ≡ fixCount picked → u ≡ min (h .count) 256 → length (h .records) ≡ 256
+    → Tallying owner picked kinds (record { records = h .records; count = u }) (record { records = h .records; count = u }) n 0 0
+unfolding freeOf
+tally-start owner picked kinds {n} {u} h e b l =
+    let q : freeOf picked kinds ≡ Free picked kinds 0 n = ap (select (isFree kinds) (pointOf picked) 0) (sym e) ∙ select-whole (isFree kinds) (pointOf picked) n in
     record {
       within = omega arith;
       below = omega arith;
@@ -45,11 +56,11 @@ tally-start owner f pt {n} {m} {u} h e b l =
       added = λ _. ap (λ (x : List OutPoint). recordsOf (record { records = h .records; count = u }) ++ map (heldBy owner) x) (sym q);
     }
 
-module _ {owner : Owner} {f : OutPoint → Bool} {pt : ℕ → OutPoint} {m : ℕ} {h g : Held} {n i count : ℕ} (k : Tallying owner f pt m h g n i count) where
-  module _ {b : Bool} (l : i < n) (e : b ≡ isFirst f pt i) where
-    pub tally-no : b ≡ false → Tallying owner f pt m h g n (i + 1) count
+module _ {owner : Owner} {picked kinds : List ℕ} {h g : Held} {n i count : ℕ} (k : Tallying owner picked kinds h g n i count) where
+  module _ {b : Bool} (l : i < n) (e : b ≡ isFree kinds i) where
+    pub tally-no : b ≡ false → Tallying owner picked kinds h g n (i + 1) count
     tally-no t =
-        let q = select-no f pt i n l (sym e ∙ t) in
+        let q = select-no (isFree kinds) (pointOf picked) i n l (sym e ∙ t) in
         let c = k .below in
         record {
           within = omega arith;
@@ -61,9 +72,9 @@ module _ {owner : Owner} {f : OutPoint → Bool} {pt : ℕ → OutPoint} {m : �
           added = λ r. ap (λ (x : List OutPoint). recordsOf g ++ map (heldBy owner) x) (sym q) ∙ k .added r;
         }
 
-    pub tally-full : b ≡ true → 256 ≤ g .count → Tallying owner f pt m h g n (i + 1) (count + 1)
+    pub tally-full : b ≡ true → 256 ≤ g .count → Tallying owner picked kinds h g n (i + 1) (count + 1)
     tally-full t u =
-        let q = select-yes f pt i n l (sym e ∙ t) in
+        let q = select-yes (isFree kinds) (pointOf picked) i n l (sym e ∙ t) in
         let c = k .below in
         let s = k .stands in
         record {
@@ -76,10 +87,10 @@ module _ {owner : Owner} {f : OutPoint → Bool} {pt : ℕ → OutPoint} {m : �
           added = λ r. absurd (omega arith);
         }
 
-    pub tally-yes : {p : OutPoint} → b ≡ true → g .count < 256 → p ≡ pt i → Tallying owner f pt m h (record { records = set (g .records) (g .count) (heldBy owner p); count = g .count + 1 }) n (i + 1) (count + 1)
+    pub tally-yes : {p : OutPoint} → b ≡ true → g .count < 256 → p ≡ pointOf picked i → Tallying owner picked kinds h (record { records = set (g .records) (g .count) (heldBy owner p); count = g .count + 1 }) n (i + 1) (count + 1)
     unfolding recordsOf
     tally-yes {p} t u ep =
-        let q : select f pt i (n - i) ≡ pt i ∷ select f pt (i + 1) (n - (i + 1)) = select-yes f pt i n l (sym e ∙ t) in
+        let q : Free picked kinds i n ≡ pointOf picked i ∷ Free picked kinds (i + 1) n = select-yes (isFree kinds) (pointOf picked) i n l (sym e ∙ t) in
         let c = k .below in
         let s = k .stands in
         let w = k .long in
@@ -92,16 +103,16 @@ module _ {owner : Owner} {f : OutPoint → Bool} {pt : ℕ → OutPoint} {m : �
           long = simp length-set (k .long);
           added = λ r.
               rw (take-put (g .records) (g .count) (heldBy owner p) (omega arith), ep)
-              (append-snoc (take (g .count) (g .records)) (heldBy owner (pt i)) (map (heldBy owner) (select f pt (i + 1) (n - (i + 1))))
+              (append-snoc (take (g .count) (g .records)) (heldBy owner (pointOf picked i)) (map (heldBy owner) (Free picked kinds (i + 1) n))
               ∙ sym (ap (λ (x : List OutPoint). take (g .count) (g .records) ++ map (heldBy owner) x) q)
               ∙ k .added (omega arith));
         }
 
 -- the table that the loop begins with is h with its count cut to the array
-pub tally-end : {owner : Owner} {f : OutPoint → Bool} {pt : ℕ → OutPoint} {m : ℕ} (h : Held) {g : Held} {u n i count : ℕ} → u ≡ min (h .count) 256
-    → Tallying owner f pt m (record { records = h .records; count = u }) g n i count → n ≤ i → Tallied owner (select f pt 0 m) h g count
-tally-end {owner} {f} {pt} {m} h {g} {u} {n} {i} {count} b k l =
-    let q = select-end f pt i n l in
+pub tally-end : {owner : Owner} {picked kinds : List ℕ} (h : Held) {g : Held} {u n i count : ℕ} → u ≡ min (h .count) 256
+    → Tallying owner picked kinds (record { records = h .records; count = u }) g n i count → n ≤ i → Tallied owner (freeOf picked kinds) h g count
+tally-end {owner} {picked} {kinds} h {g} {u} {n} {i} {count} b k l =
+    let q = select-end (isFree kinds) (pointOf picked) i n l in
     let s = k .stands in
     record {
       whole = k .whole;
@@ -109,70 +120,22 @@ tally-end {owner} {f} {pt} {m} h {g} {u} {n} {i} {count} b k l =
       stands = λ r. omega arith;
       added = λ r.
           sym (append-nil (recordsOf g)) ∙ sym (ap (λ (x : List OutPoint). recordsOf g ++ map (heldBy owner) x) q) ∙ k .added (omega arith)
-          ∙ ap (λ (y : List Hold). y ++ map (heldBy owner) (select f pt 0 m)) (trim-is h b (k .whole));
+          ∙ ap (λ (y : List Hold). y ++ map (heldBy owner) (freeOf picked kinds)) (trim-is h b (k .whole));
     }
 
 -- ---- the others written
 
-cells-next : (l : List Hold) (k : ℕ) → drop 1 (cellsOf (drop k l)) ≡ cellsOf (drop (suc k) l)
-cells-next [] zero = refl
-cells-next [] (suc k) = refl
-cells-next (x ∷ l) zero = refl
-cells-next (x ∷ l) (suc k) = cells-next l k
+pub leave-start : (picked kinds : List ℕ) {n : ℕ} (out : List ℕ) (at : ℕ) → n ≡ fixCount picked → at + 36 * length (leftOf picked kinds) ≤ length out
+    → Naming (isLeft kinds) (pointOf picked) (leftOf picked kinds) n 0 out at out at
+unfolding leftOf
+leave-start picked kinds out at e = name-start (isLeft kinds) (pointOf picked) out at e refl
 
-pub record Leaving (g : Held) (from : ℕ) (s : List ℕ) (end n i k : ℕ) (out₀ : List ℕ) (at₀ : ℕ) (out : List ℕ) (at : ℕ) : Type 0 where
-  pub within : i ≤ n
-  pub near : k ≤ 256 + i
-  pub counted : end ≡ min (g .count) 256
-  pub whole : length (g .records) ≡ 256
-  pub listing : Listing (unmatched (cellsOf (drop from (recordsOf g))) (points s)) (unmatched (cellsOf (drop k (recordsOf g))) (span (pointOf s) i (n - i))) out₀ at₀ out at
+module _ (picked kinds : List ℕ) {all : List OutPoint} {n i : ℕ} {out₀ : List ℕ} {at₀ : ℕ} {out : List ℕ} {at : ℕ} (v : Naming (isLeft kinds) (pointOf picked) all n i out₀ at₀ out at) {b : Bool} (l : i < n) (e : b ≡ isFree kinds i) where
+  pub leave-put : {p : OutPoint} {o : List ℕ} {a : ℕ} → not b ≡ true → p ≡ pointOf picked i → o ≡ putAt out at (pointBytes p) → a ≡ putEnd out at (pointBytes p)
+      → Naming (isLeft kinds) (pointOf picked) all n (i + 1) out₀ at₀ o a
+  unfolding isLeft
+  leave-put t = name-yes v l (ap not e) t
 
-relist : {x y all : List OutPoint} {o₀ o : List ℕ} {a₀ a : ℕ} → x ≡ y → Listing all x o₀ a₀ o a → Listing all y o₀ a₀ o a
-relist e l = rw e at l
-
-pub leave-start : (g : Held) (from : ℕ) (s : List ℕ) {end n : ℕ} (out : List ℕ) (at : ℕ) → n ≡ fixCount s → end ≡ min (g .count) 256 → length (g .records) ≡ 256 → from ≤ 256 → at + 36 * length (unmatched (cellsOf (drop from (recordsOf g))) (points s)) ≤ length out → Leaving g from s end n 0 from out at out at
-leave-start g from s {end} {n} out at e c w b room = record {
-  within = omega arith;
-  near = omega arith;
-  counted = c;
-  whole = w;
-  listing = relist (ap (unmatched (cellsOf (drop from (recordsOf g)))) (ap (span (pointOf s) 0) (sym e) ∙ span-whole (pointOf s) n)) (list-start (unmatched (cellsOf (drop from (recordsOf g))) (points s)) out at room);
-}
-
-module _ {g : Held} {from : ℕ} {s : List ℕ} {end n i k : ℕ} {out₀ : List ℕ} {at₀ : ℕ} {out : List ℕ} {at : ℕ} (v : Leaving g from s end n i k out₀ at₀ out at) where
-  module _ {p : OutPoint} (l : i < n) (ep : p ≡ pointOf s i) where
-    -- p is not the next of the taken cells, and is put
-    putting : {o : List ℕ} {a : ℕ} → headIs p (cellsOf (drop k (recordsOf g))) ≡ false → o ≡ putAt out at (pointBytes p) → a ≡ putEnd out at (pointBytes p) → Leaving g from s end n (i + 1) k out₀ at₀ o a
-    unfolding unmatched
-    putting t eo ea =
-        let c = v .near in
-        let q : unmatched (cellsOf (drop k (recordsOf g))) (span (pointOf s) i (n - i)) ≡ pointOf s i ∷ unmatched (cellsOf (drop k (recordsOf g))) (span (pointOf s) (i + 1) (n - (i + 1))) =
-        ap (unmatched (cellsOf (drop k (recordsOf g)))) (span-on (pointOf s) i n l) ∙ rw (rw ep at t) in
-        record { within = omega arith; near = omega arith; counted = v .counted; whole = v .whole; listing = list-more (pointOf s i) (relist q (v .listing)) (rw ep at eo) (rw ep at ea) }
-
-    pub leave-past : {o : List ℕ} {a : ℕ} → end ≤ k → o ≡ putAt out at (pointBytes p) → a ≡ putEnd out at (pointBytes p) → Leaving g from s end n (i + 1) k out₀ at₀ o a
-    unfolding headIs
-    leave-past h = let m = v .counted in putting (ap (λ (x : List Hold). headIs p (cellsOf x)) (drop-none g k (v .whole) (omega arith)))
-
-    module _ (d : Hold) {b : Bool} (h : k < end) (e : b ≡ eqPoint p (getD (g .records) k d .point)) where
-      head : headIs p (cellsOf (drop k (recordsOf g))) ≡ b
-      unfolding headIs
-      head = let m = v .counted in ap (λ (x : List Hold). headIs p (cellsOf x)) (drop-record g k d (v .whole) (omega arith)) ∙ sym e
-
-      pub leave-match : b ≡ true → Leaving g from s end n (i + 1) (k + 1) out₀ at₀ out at
-      unfolding unmatched
-      leave-match t =
-          let c = v .near in
-          let q : unmatched (cellsOf (drop k (recordsOf g))) (span (pointOf s) i (n - i)) ≡ unmatched (cellsOf (drop (k + 1) (recordsOf g))) (span (pointOf s) (i + 1) (n - (i + 1))) =
-          ap (unmatched (cellsOf (drop k (recordsOf g)))) (span-on (pointOf s) i n l) ∙ rw (rw ep at (head ∙ t)) (ap (λ (x : List OutPoint). unmatched x (span (pointOf s) (i + 1) (n - (i + 1)))) (cells-next (recordsOf g) k ∙ rw add-one)) in
-          record { within = omega arith; near = omega arith; counted = v .counted; whole = v .whole; listing = relist q (v .listing) }
-
-      pub leave-other : {o : List ℕ} {a : ℕ} → b ≡ false → o ≡ putAt out at (pointBytes p) → a ≡ putEnd out at (pointBytes p) → Leaving g from s end n (i + 1) k out₀ at₀ o a
-      leave-other t = putting (head ∙ t)
-
-  pub leave-end : n ≤ i → Put out₀ at₀ (bytesOf (unmatched (cellsOf (drop from (recordsOf g))) (points s))) out at
-  unfolding unmatched
-  leave-end l = list-end (relist (ap (unmatched (cellsOf (drop k (recordsOf g)))) (span-end (pointOf s) i n l)) (v .listing))
-
-  pub leave-long : length out ≡ length out₀
-  leave-long = list-long (v .listing)
+  pub leave-taken : not b ≡ false → Naming (isLeft kinds) (pointOf picked) all n (i + 1) out₀ at₀ out at
+  unfolding isLeft
+  leave-taken t = name-no v l (ap not e) t

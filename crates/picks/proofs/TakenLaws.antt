@@ -1,28 +1,29 @@
 -- `take`: one law for each way out, and what its calls ask for.
 use mathlib.Core.Path.{_≡_, refl, sym, ap, ap₂, _∙_}
-use Prim.Native.Nat.{ℕ, _+_, _-_, _*_, _≤_, _<_, min}
+use Prim.Native.Nat.{ℕ, zero, suc, _+_, _-_, _*_, _≤_, _<_, min}
 use native.Mathlib.Omega.{arith}
 use borrow.Author.Tests.{leb-true, le-leb, lt-leb, not-true, not-false}
 use mathlib.Core.Bool.{Bool, true, false, not, _&&_, cond, false≢true}
 use mathlib.Core.List.{List, [], _∷_, _++_, map}
-use lib.Dec.{leb}
+use lib.Dec.{leb, eqb}
 use lib.ListN.{length, drop}
 use Rattle.error.specs.declared.{Refusal.Refusal, Answer.Answer}
 use Rattle.error.specs.Refusal.{number}
-use Rattle.molecule.specs.Layout.{fixCount}
+use Rattle.molecule.specs.Layout.{span, fixCount}
 use Rattle.out_points.specs.declared.{OutPoint.OutPoint}
-use Rattle.out_points.specs.OutPoints.{pointOf, points, pointList}
-use Rattle.out_points.proofs.ListLaws.{length-points, length-list}
+use Rattle.out_points.specs.OutPoints.{has, pointOf, points, pointList}
+use Rattle.out_points.proofs.ListLaws.{length-list}
 use Rattle.out_points.proofs.EqualLaws.{and-both}
 use Rattle.out_points.specs.Tables.{Outcome, done, refused, told, hasRoom, written}
 use Rattle.hold_records.specs.declared.{Owner.Owner, Hold.Hold, Held.Held}
 use Rattle.hold_records.specs.Holds.{recordsOf, cellsOf, firsts, others, heldBy}
-use Rattle.pick_kinds.specs.Kinds.{isAmong}
-use Rattle.picks.specs.Places.{asked, select, Tallied, unmatched, takeFrom}
 use Rattle.hold_records.specs.Rules.{putIf}
 use Rattle.hold_records.proofs.LoopLaws.{stands}
 use Rattle.hold_records.proofs.WriteLaws.{room-yes, put-yes}
-use Rattle.picks.proofs.FirstLaws.{firsts-select, others-left, both-length}
+use Rattle.pick_kinds.specs.Kinds.{isAmong, kindOf, Kinds}
+use Rattle.unavailable_picks.specs.Unavailable.{isFirst, select}
+use Rattle.unavailable_picks.proofs.FirstLaws.{isOther, firsts-select, others-select}
+use Rattle.picks.specs.Places.{isFree, isLeft, freeOf, leftOf, Tallied, takeLists, takeFrom}
 
 -- ---- a table with the taken cells last
 
@@ -47,41 +48,80 @@ module _ {owner : Owner} {l : List OutPoint} {h g : Held} {c : ℕ} (t : Tallied
   pub take-count : g .count ≤ 256
   take-count = let e = t .stands (omega arith) in omega arith
 
--- ---- the picks that pass a test f: the code selects them by index, the definition has `firsts`
+-- ---- the picks to take, and the others
 
-module _ (f : OutPoint → Bool) (picked : List ℕ) where
-  both-are : length (select f (pointOf picked) 0 (fixCount picked)) + length (others f [] (points picked)) ≡ fixCount picked
-  both-are =
-      ap (λ (x : List OutPoint). length x + length (others f [] (points picked))) (sym (firsts-select f (pointOf picked) (fixCount picked)))
-      ∙ both-length f [] (points picked)
-      ∙ length-points picked
+module _ (f h : ℕ → Bool) (g : ℕ → OutPoint) where
+  -- a test and its opposite select all
+  both-from : ((j : ℕ) → h j ≡ not (f j)) → (i k : ℕ) → length (select f g i k) + length (select h g i k) ≡ k
+  unfolding select
+  both-from on i zero = refl
+  both-from on i (suc k) = by (f i) (h i) (on i) (both-from on (suc i) k)
+    where
+      by : (a b : Bool) → b ≡ not a → length (select f g (suc i) k) + length (select h g (suc i) k) ≡ k
+          → length (cond a (g i ∷ select f g (suc i) k) (select f g (suc i) k)) + length (cond b (g i ∷ select h g (suc i) k) (select h g (suc i) k)) ≡ suc k
+      by true true e z = absurd (false≢true (sym e))
+      by true false e z = omega arith
+      by false true e z = omega arith
+      by false false e z = absurd (false≢true e)
 
-module _ (f : OutPoint → Bool) (picked : List ℕ) {owner : Owner} {k g : Held} {c : ℕ} (t : Tallied owner (select f (pointOf picked) 0 (fixCount picked)) k g c) where
+  -- tests that agree select the same
+  same-from : {n : ℕ} → ((j : ℕ) → j < n → f j ≡ h j) → (i k : ℕ) → i + k ≤ n → select f g i k ≡ select h g i k
+  unfolding select
+  same-from on i zero l = refl
+  same-from on i (suc k) l = rw (on i (omega arith), same-from on (suc i) k (omega arith))
+
+both-are : (picked kinds : List ℕ) → length (freeOf picked kinds) + length (leftOf picked kinds) ≡ fixCount picked
+unfolding freeOf leftOf isLeft
+both-are picked kinds = both-from (isFree kinds) (isLeft kinds) (pointOf picked) (λ j. refl) 0 (fixCount picked)
+
+module _ (picked kinds : List ℕ) {owner : Owner} {k g : Held} {c : ℕ} (t : Tallied owner (freeOf picked kinds) k g c) {n : ℕ} (en : n ≡ fixCount picked) where
   -- as many picks are left as are not taken
-  pub left-fits : {n : ℕ} → n ≡ fixCount picked → c ≤ n
-  left-fits e = let q = t .counted in omega (arith, both-are f picked)
+  pub left-fits : c ≤ n
+  left-fits = let q = t .counted in omega (arith, both-are picked kinds)
 
-  module _ {from : ℕ} (ef : from ≡ min (k .count) 256) (r : c ≤ 256 - from) where
-    rest-is : unmatched (cellsOf (drop from (recordsOf g))) (points picked) ≡ others f [] (points picked)
-    rest-is =
-        ap (λ (x : List OutPoint). unmatched x (points picked)) (taken-cells t ef r ∙ sym (firsts-select f (pointOf picked) (fixCount picked)))
-        ∙ others-left f [] (points picked)
+  pub left-is : n - c ≡ length (leftOf picked kinds)
+  left-is = let q = t .counted in omega (arith, both-are picked kinds)
 
-    pub left-is : {n : ℕ} → n ≡ fixCount picked → n - c ≡ length (unmatched (cellsOf (drop from (recordsOf g))) (points picked))
-    left-is e = let q = t .counted in omega (arith, both-are f picked, ap length rest-is)
+abbrev notAmong : List OutPoint → List OutPoint → OutPoint → Bool
+notAmong cells spent p = not (isAmong cells spent p)
 
--- the free picks
-module _ (cells picked spent : List ℕ) where
-  abbrev S : List OutPoint
-  S = select (λ p. asked false (isAmong (points cells) (points spent) p)) (pointOf picked) 0 (fixCount picked)
+-- by kinds, and by the lists of cells
+module _ (cells spent : List OutPoint) (picked kinds : List ℕ) (k : Kinds (isAmong cells spent) (pointOf picked) (min (fixCount picked) (length kinds)) kinds) (l : fixCount picked ≤ length kinds) where
+  abbrev F : OutPoint → Bool
+  F = notAmong cells spent
 
-  taken-is : S ≡ firsts (λ p. not (isAmong (points cells) (points spent) p)) [] (points picked)
-  unfolding asked
-  taken-is = sym (firsts-select (λ p. not (isAmong (points cells) (points spent) p)) (pointOf picked) (fixCount picked))
+  free-is : (j : ℕ) → j < fixCount picked → isFree kinds j ≡ isFirst F (pointOf picked) j
+  unfolding isFree isFirst kindOf
+  free-is j b =
+      ap (λ (v : ℕ). eqb v 1) (k .each j (omega arith))
+      ∙ by (has (pointOf picked j) (span (pointOf picked) 0 j)) (isAmong cells spent (pointOf picked j))
+    where
+      by : (b c : Bool) → eqb (cond b 0 (cond c 2 1)) 1 ≡ cond (not c) (not b) false
+      by true true = refl
+      by true false = refl
+      by false true = refl
+      by false false = refl
 
-  rests-are : others (λ p. asked false (isAmong (points cells) (points spent) p)) [] (points picked) ≡ others (λ p. not (isAmong (points cells) (points spent) p)) [] (points picked)
-  unfolding asked
-  rests-are = refl
+  left-is-other : (j : ℕ) → j < fixCount picked → isLeft kinds j ≡ isOther F (pointOf picked) j
+  unfolding isLeft
+  left-is-other j b = ap not (free-is j b)
+
+  free-firsts : freeOf picked kinds ≡ firsts F [] (points picked)
+  unfolding freeOf
+  free-firsts =
+      same-from (isFree kinds) (isFirst F (pointOf picked)) (pointOf picked) free-is 0 (fixCount picked) (omega arith)
+      ∙ sym (firsts-select F (pointOf picked) (fixCount picked))
+
+  left-others : leftOf picked kinds ≡ others F [] (points picked)
+  unfolding leftOf
+  left-others =
+      same-from (isLeft kinds) (isOther F (pointOf picked)) (pointOf picked) left-is-other 0 (fixCount picked) (omega arith)
+      ∙ sym (others-select F (pointOf picked) (fixCount picked))
+
+  take-kinds : (h : Held) (left : List Hold) (owner : Owner) (out₁ out₂ : List ℕ) {x : Outcome Held (List Hold) × List ℕ × List ℕ}
+      → x ≡ takeLists h left (freeOf picked kinds) (leftOf picked kinds) owner out₁ out₂ → x ≡ takeFrom h left cells (points picked) spent owner out₁ out₂
+  unfolding takeFrom
+  take-kinds h left owner out₁ out₂ e = e ∙ ap₂ (λ (y z : List OutPoint). takeLists h left y z owner out₁ out₂) free-firsts left-others
 
 -- ---- whether both lists may be written
 
@@ -103,12 +143,15 @@ both-yes {a} e t f = rw (← e, not-false a t) f
 
 -- ---- the calls
 
-module _ (h k : Held) (cells picked spent : List ℕ) (owner : Owner) (out₁ out₂ : List ℕ) (g : Held) {c : ℕ} (t : Tallied owner (S cells picked spent) k g c) {n : ℕ} (en : n ≡ fixCount picked) where
-  T : List OutPoint
-  T = firsts (λ p. not (isAmong (points cells) (points spent) p)) [] (points picked)
+module _ (h k : Held) (picked kinds : List ℕ) (owner : Owner) (out₁ out₂ : List ℕ) (g : Held) {c : ℕ} (t : Tallied owner (freeOf picked kinds) k g c) {n : ℕ} (en : n ≡ fixCount picked) where
+  abbrev T : List OutPoint
+  T = freeOf picked kinds
 
-  U : List OutPoint
-  U = others (λ p. not (isAmong (points cells) (points spent) p)) [] (points picked)
+  abbrev U : List OutPoint
+  U = leftOf picked kinds
+
+  abbrev Answers : Outcome Held (List Hold) × List ℕ × List ℕ → Type 0
+  Answers x = x ≡ takeLists h (recordsOf k) T U owner out₁ out₂
 
   end : Outcome Held (List Hold) × List ℕ × List ℕ
   end =
@@ -120,17 +163,15 @@ module _ (h k : Held) (cells picked spent : List ℕ) (owner : Owner) (out₁ ou
       (refused 13 h, out₁, out₂))
       (refused 13 h, out₁, out₂)
 
-  end-is : end ≡ takeFrom h (recordsOf k) (points cells) (points picked) (points spent) owner out₁ out₂
-  unfolding takeFrom end T U
+  end-is : Answers end
+  unfolding takeLists end
   end-is = refl
 
   T-long : length T ≡ c
-  unfolding T
-  T-long = ap length (sym (taken-is cells picked spent)) ∙ sym (t .counted)
+  T-long = sym (t .counted)
 
   U-long : length U ≡ n - c
-  unfolding U
-  U-long = let q = t .counted in omega (arith, both-are (λ p. asked false (isAmong (points cells) (points spent) p)) picked, ap length (rests-are cells picked spent))
+  U-long = sym (left-is picked kinds t en)
 
   T-list : length (pointList T) ≡ 4 + 36 * c
   T-list = length-list T ∙ ap (λ (x : ℕ). 4 + 36 * x) T-long
@@ -139,7 +180,7 @@ module _ (h k : Held) (cells picked spent : List ℕ) (owner : Owner) (out₁ ou
   U-list = length-list U ∙ ap (λ (x : ℕ). 4 + 36 * x) U-long
 
   module _ {r : Bool} (er : r ≡ leb (4 + 36 * c) (min (length out₁) 133116) && leb (4 + 36 * (n - c)) (min (length out₂) 133116)) where
-    pub take-short : {o : Outcome Held (List Hold)} → not r ≡ true → o ≡ told recordsOf (Answer.Refused Refusal.BufferTooShort) h → (o, out₁, out₂) ≡ takeFrom h (recordsOf k) (points cells) (points picked) (points spent) owner out₁ out₂
+    pub take-short : {o : Outcome Held (List Hold)} → not r ≡ true → o ≡ told recordsOf (Answer.Refused Refusal.BufferTooShort) h → (o, out₁, out₂) ≡ takeLists h (recordsOf k) (freeOf picked kinds) (leftOf picked kinds) owner out₁ out₂
     unfolding end hasRoom told number
     take-short f e = rw e (by (hasRoom T out₁) (hasRoom U out₂) refl refl ∙ end-is)
       where
@@ -155,7 +196,7 @@ module _ (h k : Held) (cells picked spent : List ℕ) (owner : Owner) (out₁ ou
       room₂ : 4 + 36 * (n - c) ≤ min (length out₂) 133116
       room₂ = both-second (4 + 36 * c) (min (length out₁) 133116) (4 + 36 * (n - c)) (min (length out₂) 133116) er fit
 
-      fits : cond (leb (length (recordsOf k) + length T) 256) (done (recordsOf k ++ map (heldBy owner) T), written T out₁, written U out₂) (refused 14 h, out₁, out₂) ≡ takeFrom h (recordsOf k) (points cells) (points picked) (points spent) owner out₁ out₂
+      fits : cond (leb (length (recordsOf k) + length T) 256) (done (recordsOf k ++ map (heldBy owner) T), written T out₁, written U out₂) (refused 14 h, out₁, out₂) ≡ takeLists h (recordsOf k) (freeOf picked kinds) (leftOf picked kinds) owner out₁ out₂
       unfolding end hasRoom
       fits =
           let a = room₁ in
@@ -166,21 +207,17 @@ module _ (h k : Held) (cells picked spent : List ℕ) (owner : Owner) (out₁ ou
         all-long : length (recordsOf k) + length T ≡ from + c
         all-long = let a = stands k (t .whole) in let b = T-long in omega arith
 
-        pub take-full : {o : Outcome Held (List Hold)} → 256 - from < c → o ≡ told recordsOf (Answer.Refused Refusal.TooManyHolds) h → (o, out₁, out₂) ≡ takeFrom h (recordsOf k) (points cells) (points picked) (points spent) owner out₁ out₂
+        pub take-full : {o : Outcome Held (List Hold)} → 256 - from < c → o ≡ told recordsOf (Answer.Refused Refusal.TooManyHolds) h → (o, out₁, out₂) ≡ takeLists h (recordsOf k) (freeOf picked kinds) (leftOf picked kinds) owner out₁ out₂
         unfolding told number
         take-full s e = rw e (rw (lt-leb (length (recordsOf k) + length T) 256 (omega (arith, all-long))) at fits)
 
-        pub take-done : {o : Outcome Held (List Hold)} {b₁ b₂ : List ℕ} → c ≤ 256 - from → b₁ ≡ putIf (cellsOf (drop from (recordsOf g))) out₁
-            → b₂ ≡ written (unmatched (cellsOf (drop from (recordsOf g))) (points picked)) out₂ → o ≡ told recordsOf Answer.Done g → (o, b₁, b₂) ≡ takeFrom h (recordsOf k) (points cells) (points picked) (points spent) owner out₁ out₂
-        unfolding told T U
+        pub take-done : {o : Outcome Held (List Hold)} {b₁ b₂ : List ℕ} → c ≤ 256 - from → b₁ ≡ putIf (cellsOf (drop from (recordsOf g))) out₁ → b₂ ≡ written (leftOf picked kinds) out₂
+            → o ≡ told recordsOf Answer.Done g → (o, b₁, b₂) ≡ takeLists h (recordsOf k) (freeOf picked kinds) (leftOf picked kinds) owner out₁ out₂
+        unfolding told
         take-done {o} {b₁} {b₂} s e₁ e₂ e =
-            let x : recordsOf g ≡ recordsOf k ++ map (heldBy owner) T = t .added (omega arith) ∙ ap (λ (y : List OutPoint). recordsOf k ++ map (heldBy owner) y) (taken-is cells picked spent) in
-            let y : cellsOf (drop from (recordsOf g)) ≡ T = taken-cells t ef s ∙ taken-is cells picked spent in
-            let z : unmatched (cellsOf (drop from (recordsOf g))) (points picked) ≡ U = rest-is (λ p. asked false (isAmong (points cells) (points spent) p)) picked t ef s ∙ rests-are cells picked spent in
-            let v : o ≡ done (recordsOf k ++ map (heldBy owner) T) = e ∙ ap done x in
-            let v₁ : b₁ ≡ written T out₁ = e₁ ∙ ap (λ (q : List OutPoint). putIf q out₁) y ∙ put-yes T out₁ (room-yes T out₁ (sym T-long) room₁) in
-            let v₂ : b₂ ≡ written U out₂ = e₂ ∙ ap (λ (q : List OutPoint). written q out₂) z in
-            rw (v, v₁, v₂) (rw (le-leb (length (recordsOf k) + length T) 256 (omega (arith, all-long))) at fits)
+            let v : o ≡ done (recordsOf k ++ map (heldBy owner) T) = e ∙ ap done (t .added (omega arith)) in
+            let v₁ : b₁ ≡ written T out₁ = e₁ ∙ ap (λ (q : List OutPoint). putIf q out₁) (taken-cells t ef s) ∙ put-yes T out₁ (room-yes T out₁ (sym T-long) room₁) in
+            rw (v, v₁, e₂) (rw (le-leb (length (recordsOf k) + length T) 256 (omega (arith, all-long))) at fits)
 
 -- more picks than two lists hold
 neither : {X : Type 0} (a b : Bool) (x y : X) → (a ≡ true → b ≡ true → ⊥) → y ≡ cond a (cond b x y) y
@@ -195,13 +232,16 @@ over l m out₁ out₂ h a b =
     let y : length (pointList m) ≤ min (length out₂) 133116 = leb-true (length (pointList m)) (min (length out₂) 133116) b in
     omega (arith, length-list l, length-list m)
 
-pub take-many : (h k : Held) (cells picked spent : List ℕ) (owner : Owner) (out₁ out₂ : List ℕ) {n : ℕ} {o : Outcome Held (List Hold)} → n ≡ fixCount picked → 7394 < n
-    → o ≡ told recordsOf (Answer.Refused Refusal.BufferTooShort) h → (o, out₁, out₂) ≡ takeFrom h (recordsOf k) (points cells) (points picked) (points spent) owner out₁ out₂
-unfolding takeFrom told number
+pub take-many : (h k : Held) (cells : List OutPoint) (picked spent : List ℕ) (owner : Owner) (out₁ out₂ : List ℕ) {n : ℕ} {o : Outcome Held (List Hold)} → n ≡ fixCount picked → 7394 < n
+    → o ≡ told recordsOf (Answer.Refused Refusal.BufferTooShort) h → (o, out₁, out₂) ≡ takeFrom h (recordsOf k) cells (points picked) (points spent) owner out₁ out₂
+unfolding takeFrom takeLists told number
 take-many h k cells picked spent owner out₁ out₂ {n} en m e =
-    let l : List OutPoint = firsts (λ p. not (isAmong (points cells) (points spent) p)) [] (points picked) in
-    let r : List OutPoint = others (λ p. not (isAmong (points cells) (points spent) p)) [] (points picked) in
-    let z : length l + length r ≡ fixCount picked = both-length (λ p. not (isAmong (points cells) (points spent) p)) [] (points picked) ∙ length-points picked in
+    let f : OutPoint → Bool = notAmong cells (points spent) in
+    let l : List OutPoint = firsts f [] (points picked) in
+    let r : List OutPoint = others f [] (points picked) in
+    let z : length l + length r ≡ fixCount picked =
+    ap₂ (λ (x y : List OutPoint). length x + length y) (firsts-select f (pointOf picked) (fixCount picked)) (others-select f (pointOf picked) (fixCount picked))
+    ∙ both-from (isFirst f (pointOf picked)) (isOther f (pointOf picked)) (pointOf picked) (λ j. refl) 0 (fixCount picked) in
     rw e
     (neither (hasRoom l out₁) (hasRoom r out₂)
     (cond (leb (length (recordsOf k) + length l) 256) (done (recordsOf k ++ map (heldBy owner) l), written l out₁, written r out₂) (refused 14 h, out₁, out₂))
@@ -209,7 +249,10 @@ take-many h k cells picked spent owner out₁ out₂ {n} en m e =
     (over l r out₁ out₂ (omega arith)))
 
 -- what is taken by a list of cells is taken by the records that they are of
-pub take-among : (h k : Held) (cells picked spent : List ℕ) (owner : Owner) (out₁ out₂ : List ℕ) {z : ℕ} {x : Outcome Held (List Hold) × List ℕ × List ℕ} → (9220 ≤ z → points cells ≡ cellsOf (recordsOf k)) → 9220 ≤ z
-    → x ≡ takeFrom h (recordsOf k) (points cells) (points picked) (points spent) owner out₁ out₂
+pub take-known : (h k : Held) (cells picked spent kinds : List ℕ) (owner : Owner) (out₁ out₂ : List ℕ) {z : ℕ} {x : Outcome Held (List Hold) × List ℕ × List ℕ}
+    → (9220 ≤ z → points cells ≡ cellsOf (recordsOf k)) → 9220 ≤ z → Kinds (isAmong (points cells) (points spent)) (pointOf picked) (min (fixCount picked) (length kinds)) kinds
+    → fixCount picked ≤ length kinds → x ≡ takeLists h (recordsOf k) (freeOf picked kinds) (leftOf picked kinds) owner out₁ out₂
     → x ≡ takeFrom h (recordsOf k) (cellsOf (recordsOf k)) (points picked) (points spent) owner out₁ out₂
-take-among h k cells picked spent owner out₁ out₂ e l f = f ∙ ap (λ (y : List OutPoint). takeFrom h (recordsOf k) y (points picked) (points spent) owner out₁ out₂) (e l)
+take-known h k cells picked spent kinds owner out₁ out₂ e l known room f =
+    take-kinds (points cells) (points spent) picked kinds known room h (recordsOf k) owner out₁ out₂ f
+    ∙ ap (λ (y : List OutPoint). takeFrom h (recordsOf k) y (points picked) (points spent) owner out₁ out₂) (e l)

@@ -1,4 +1,4 @@
-// Picks against a table of holds: which are busy and which are free, each counted once, and what `take` and `unavailable` make of them.
+// What `take` makes of picks: those that are free, each once, are recorded, and two lists are written.
 use error::Refusal;
 use hold_records::Held;
 use hold_records::HeldAnswer;
@@ -6,250 +6,28 @@ use hold_records::Hold;
 use hold_records::MOST_RECORDS;
 use hold_records::Owner;
 use molecule::write;
-use out_points::OutPoint;
 use pick_kinds::MOST_PICKS;
+use unavailable_picks::CELLS_BYTES;
 ghost use mathlib.Core.Path.{_≡_};
-ghost use mathlib.Core.Bool.{true, false, _&&_};
-ghost use mathlib.Core.List.{[]};
-ghost use Prim.Native.Nat.{_+_, _*_, _%_, _≤_, _<_, min};
-ghost use lib.Dec.{leb, eqb};
-ghost use lib.ListN.{length, getD, drop, set};
+ghost use mathlib.Core.Bool.{_&&_};
+ghost use Prim.Native.Nat.{_+_, _*_, _≤_, _<_, min};
+ghost use lib.Dec.{leb};
+ghost use lib.ListN.{length, drop};
 ghost use Rattle.error.specs.declared.{Answer.Answer};
 ghost use Rattle.molecule.specs.Layout.{fixCount};
 ghost use Rattle.molecule.specs.Write.{Put};
-ghost use Rattle.out_points.specs.OutPoints.{pointOf, points, bytesOf};
-ghost use Rattle.out_points.specs.Tables.{told, hasRoom, written};
-ghost use Rattle.hold_records.specs.Holds.{recordsOf, cellsOf, isBusy, firsts};
+ghost use Rattle.out_points.specs.OutPoints.{points, bytesOf};
+ghost use Rattle.out_points.specs.Tables.{told, written};
+ghost use Rattle.hold_records.specs.Holds.{recordsOf, cellsOf};
 ghost use Rattle.hold_records.specs.Rules.{putIf};
-ghost use Rattle.pick_kinds.specs.Kinds.{isAmong};
-ghost use Rattle.picks.specs.Places.{marked, Marks, wanted, Looked, asked, isFirst, select, Tallied, unmatched, takeFrom};
+ghost use Rattle.picks.specs.Places.{isFree, freeOf, leftOf, Tallied, takeLists, takeFrom};
 
-// How many bytes the list of a table's cells has at most.
-const CELLS_BYTES: usize = 4 + 36 * MOST_RECORDS;
-
-// So many picks are looked up one by one: an index would cost more.
-const FEW_PICKS: usize = 64;
-
-// How many marks stand before a search: one for every out point, by the first word of its hash.
-const MARKS: usize = 4096;
-
-// Sets the mark of the out points with this first word.
-fn mark(marks: &mut [u8], word: u64)
-    ensures { λ _. ⌜ now (marks .exit) ≡ set (now (marks .entry)) (word % 4096) 1 ⌝ }
-{
-    let at = word as usize % MARKS;
-    if marks.len() <= at {
-        return;
-    }
-    marks[at] = 1;
-}
-
-// Sets the marks of the list's out points.
-fn mark_list(s: &[u8], marks: &mut [u8])
-    ensures { λ _. ⌜ now (marks .exit) ≡ marked (points (now (s .entry))) (now (marks .entry)) ⌝ }
-{
-    let n = molecule::fix_count(s) as usize;
-    let mut i: usize = 0;
-    while i < n {
-        let word = out_points::first_word(s, i);
-        mark(marks, word);
-        i += 1;
-    }
-}
-
-// Sets the marks of both lists.
-fn mark_both(cells: &[u8], spent: &[u8], marks: &mut [u8])
-    ensures { λ _. ⌜ now (marks .exit) ≡ marked (points (now (spent .entry))) (marked (points (now (cells .entry))) (now (marks .entry))) ⌝ }
-{
-    mark_list(cells, marks);
-    mark_list(spent, marks);
-}
-
-// Whether p is one of the cells, which are held, or spent. Where its mark is not set, nothing is searched.
-fn busy(cells: &[u8], spent: &[u8], marks: &[u8], p: OutPoint) -> bool
-    requires { ⌜ Marks (points (now cells)) (points (now spent)) (now marks) ⌝ }
-    ensures { λ r. ⌜ r ≡ isAmong (points (now (cells .entry))) (points (now (spent .entry))) p ⌝ }
-{
-    let hash = p.hash;
-    let at = hash.a as usize % MARKS;
-    if marks[at] == 0 {
-        return false;
-    }
-    if out_points::has_point(cells, p) {
-        return true;
-    }
-    out_points::has_point(spent, p)
-}
-
-// Whether p is busy, or whether it is free, as wanted.
-fn passes(cells: &[u8], spent: &[u8], marks: &[u8], want: bool, p: OutPoint) -> bool
-    requires { ⌜ Marks (points (now cells)) (points (now spent)) (now marks) ⌝ }
-    ensures { λ r. ⌜ r ≡ asked want (isAmong (points (now (cells .entry))) (points (now (spent .entry))) p) ⌝ }
-{
-    let b = busy(cells, spent, marks, p);
-    if want {
-        return b;
-    }
-    !b
-}
-
-// Whether pick i passes, and no pick before it is the same: both are looked up.
-fn look_up(cells: &[u8], picked: &[u8], spent: &[u8], marks: &[u8], want: bool, i: usize) -> bool
-    requires { ⌜ i < fixCount (now picked) ⌝ }
-    requires { ⌜ Marks (points (now cells)) (points (now spent)) (now marks) ⌝ }
-    ensures { λ r. ⌜ r ≡ isFirst (λ p. asked want (isAmong (points (now (cells .entry))) (points (now (spent .entry))) p)) (pointOf (now (picked .entry))) i ⌝ }
-{
-    let p = out_points::point_of(picked, i);
-    if !passes(cells, spent, marks, want, p) {
-        return false;
-    }
-    !out_points::has_before(picked, i, p)
-}
-
-// Whether pick i is a first one and busy, or free, as wanted.
-fn is_kind(kinds: &[u8], want: bool, i: usize) -> bool
+// Whether pick i is free, and no pick before it is the same.
+fn is_free(kinds: &[u8], i: usize) -> bool
     requires { ⌜ i < length (now kinds) ⌝ }
-    ensures { λ r. ⌜ r ≡ eqb (getD (now (kinds .entry)) i 0) (wanted want) ⌝ }
+    ensures { λ r. ⌜ r ≡ isFree (now (kinds .entry)) i ⌝ }
 {
-    let kind = kinds[i];
-    if want {
-        return kind == 2;
-    }
-    kind == 1
-}
-
-// The same as `look_up`. What the first `known` picks are has been sorted out.
-fn is_first(
-    cells: &[u8],
-    picked: &[u8],
-    spent: &[u8],
-    marks: &[u8],
-    kinds: &[u8],
-    known: usize,
-    want: bool,
-    i: usize,
-) -> bool
-    requires { ⌜ i < fixCount (now picked) ⌝ }
-    requires { ⌜ Looked (now cells) (now picked) (now spent) (now marks) (now kinds) known ⌝ }
-    ensures { λ r. ⌜ r ≡ isFirst (λ p. asked want (isAmong (points (now (cells .entry))) (points (now (spent .entry))) p)) (pointOf (now (picked .entry))) i ⌝ }
-{
-    if i < known {
-        return is_kind(kinds, want, i);
-    }
-    look_up(cells, picked, spent, marks, want, i)
-}
-
-// How many picks are busy, each counted once.
-fn count_busy(
-    cells: &[u8],
-    picked: &[u8],
-    spent: &[u8],
-    marks: &[u8],
-    kinds: &[u8],
-    known: usize,
-) -> u32
-    requires { ⌜ Looked (now cells) (now picked) (now spent) (now marks) (now kinds) known ⌝ }
-    ensures { λ r. ⌜ r ≡ length (select (λ p. asked true (isAmong (points (now (cells .entry))) (points (now (spent .entry))) p)) (pointOf (now (picked .entry))) 0 (fixCount (now (picked .entry)))) ⌝ }
-{
-    let n = molecule::fix_count(picked) as usize;
-    let mut count: u32 = 0;
-    let mut i: usize = 0;
-    while i < n {
-        let k = i;
-        i += 1;
-        if is_first(cells, picked, spent, marks, kinds, known, true, k) {
-            count += 1;
-        }
-    }
-    count
-}
-
-// Puts those picks, one after the other from `at` on.
-fn put_busy(
-    cells: &[u8],
-    picked: &[u8],
-    spent: &[u8],
-    marks: &[u8],
-    kinds: &[u8],
-    known: usize,
-    out: &mut [u8],
-    at: usize,
-) -> usize
-    requires { ⌜ Looked (now cells) (now picked) (now spent) (now marks) (now kinds) known ⌝ }
-    requires { ⌜ at + 36 * length (select (λ p. asked true (isAmong (points (now cells)) (points (now spent)) p)) (pointOf (now picked)) 0 (fixCount (now picked))) ≤ length (now out) ⌝ }
-    ensures { λ r. ⌜ Put (now (out .entry)) at (bytesOf (select (λ p. asked true (isAmong (points (now (cells .entry))) (points (now (spent .entry))) p)) (pointOf (now (picked .entry))) 0 (fixCount (now (picked .entry))))) (now (out .exit)) r ⌝ }
-{
-    let n = molecule::fix_count(picked) as usize;
-    let mut to = at;
-    let mut i: usize = 0;
-    while i < n {
-        let k = i;
-        i += 1;
-        if is_first(cells, picked, spent, marks, kinds, known, true, k) {
-            let p = out_points::point_of(picked, k);
-            to = out_points::put_out_point(out, to, p);
-        }
-    }
-    to
-}
-
-// Puts the list of the busy picks at the start of out, and answers whether there is room for all of it: else it puts nothing.
-fn put_busy_list(
-    cells: &[u8],
-    picked: &[u8],
-    spent: &[u8],
-    marks: &[u8],
-    kinds: &[u8],
-    known: usize,
-    out: &mut [u8],
-) -> bool
-    requires { ⌜ Looked (now cells) (now picked) (now spent) (now marks) (now kinds) known ⌝ }
-    ensures { λ r. ⌜ r ≡ hasRoom (firsts (isAmong (points (now (cells .entry))) (points (now (spent .entry)))) [] (points (now (picked .entry)))) (now (out .entry)) ⌝ }
-    ensures { λ _. ⌜ now (out .exit) ≡ putIf (firsts (isAmong (points (now (cells .entry))) (points (now (spent .entry)))) [] (points (now (picked .entry)))) (now (out .entry)) ⌝ }
-{
-    let n = count_busy(cells, picked, spent, marks, kinds, known);
-    if !out_points::fits(n, out.len()) {
-        return false;
-    }
-    let at = write::put_u32(out, 0, n);
-    put_busy(cells, picked, spent, marks, kinds, known, out, at);
-    true
-}
-
-// The same by an index of the picks.
-fn index_busy(cells: &[u8], picked: &[u8], spent: &[u8], marks: &[u8], out: &mut [u8]) -> bool
-    requires { ⌜ Marks (points (now cells)) (points (now spent)) (now marks) ⌝ }
-    ensures { λ r. ⌜ r ≡ hasRoom (firsts (isAmong (points (now (cells .entry))) (points (now (spent .entry)))) [] (points (now (picked .entry)))) (now (out .entry)) ⌝ }
-    ensures { λ _. ⌜ now (out .exit) ≡ putIf (firsts (isAmong (points (now (cells .entry))) (points (now (spent .entry)))) [] (points (now (picked .entry)))) (now (out .entry)) ⌝ }
-{
-    let mut kinds = [0u8; MOST_PICKS];
-    let known = pick_kinds::sort_out(cells, picked, spent, &mut kinds);
-    put_busy_list(cells, picked, spent, marks, &kinds, known, out)
-}
-
-// The same. A few picks are looked up one by one.
-fn put_among(cells: &[u8], picked: &[u8], spent: &[u8], marks: &[u8], out: &mut [u8]) -> bool
-    requires { ⌜ Marks (points (now cells)) (points (now spent)) (now marks) ⌝ }
-    ensures { λ r. ⌜ r ≡ hasRoom (firsts (isAmong (points (now (cells .entry))) (points (now (spent .entry)))) [] (points (now (picked .entry)))) (now (out .entry)) ⌝ }
-    ensures { λ _. ⌜ now (out .exit) ≡ putIf (firsts (isAmong (points (now (cells .entry))) (points (now (spent .entry)))) [] (points (now (picked .entry)))) (now (out .entry)) ⌝ }
-{
-    let n = molecule::fix_count(picked) as usize;
-    if n <= FEW_PICKS {
-        return put_busy_list(cells, picked, spent, marks, marks, 0, out);
-    }
-    index_busy(cells, picked, spent, marks, out)
-}
-
-// The same of the picks that a table holds, or that are spent.
-pub fn put_unavailable(h: Held, picked: &[u8], spent: &[u8], out: &mut [u8]) -> bool
-    ensures { λ r. ⌜ r ≡ hasRoom (firsts (isBusy (recordsOf h) (points (now (spent .entry)))) [] (points (now (picked .entry)))) (now (out .entry)) ⌝ }
-    ensures { λ _. ⌜ now (out .exit) ≡ putIf (firsts (isBusy (recordsOf h) (points (now (spent .entry)))) [] (points (now (picked .entry)))) (now (out .entry)) ⌝ }
-{
-    let mut cells = [0u8; CELLS_BYTES];
-    hold_records::list_cells(h, &mut cells);
-    let mut marks = [0u8; MARKS];
-    mark_both(&cells, spent, &mut marks);
-    put_among(&cells, picked, spent, &marks, out)
+    kinds[i] == 1
 }
 
 // How many picks are taken, and the table with a record for each, as far as there is room.
@@ -258,18 +36,9 @@ struct Taken {
     count: u32,
 }
 
-fn tally(
-    h: Held,
-    cells: &[u8],
-    picked: &[u8],
-    spent: &[u8],
-    marks: &[u8],
-    kinds: &[u8],
-    known: usize,
-    owner: Owner,
-) -> Taken
-    requires { ⌜ Looked (now cells) (now picked) (now spent) (now marks) (now kinds) known ⌝ }
-    ensures { λ r. ⌜ Tallied owner (select (λ p. asked false (isAmong (points (now (cells .entry))) (points (now (spent .entry))) p)) (pointOf (now (picked .entry))) 0 (fixCount (now (picked .entry)))) h (r .held) (r .count) ⌝ }
+fn tally(h: Held, picked: &[u8], kinds: &[u8], owner: Owner) -> Taken
+    requires { ⌜ fixCount (now picked) ≤ length (now kinds) ⌝ }
+    ensures { λ r. ⌜ Tallied owner (freeOf (now (picked .entry)) (now (kinds .entry))) h (r .held) (r .count) ⌝ }
 {
     let n = molecule::fix_count(picked) as usize;
     let from = hold_records::used(h.count);
@@ -280,7 +49,7 @@ fn tally(
     while i < n {
         let k = i;
         i += 1;
-        if is_first(cells, picked, spent, marks, kinds, known, false, k) {
+        if is_free(kinds, k) {
             count += 1;
             let last = g.count;
             if last < MOST_RECORDS {
@@ -293,28 +62,19 @@ fn tally(
     Taken { held: g, count }
 }
 
-// Puts the picks that were not taken, one after the other from `at` on: the records from `from` on are the taken ones, in pick order.
-fn put_refused(g: Held, from: usize, picked: &[u8], out: &mut [u8], at: usize) -> usize
-    requires { ⌜ (from ≤ 256) × (at + 36 * length (unmatched (cellsOf (drop from (recordsOf g))) (points (now picked))) ≤ length (now out)) ⌝ }
-    ensures { λ r. ⌜ Put (now (out .entry)) at (bytesOf (unmatched (cellsOf (drop from (recordsOf g))) (points (now (picked .entry))))) (now (out .exit)) r ⌝ }
+// Puts the picks that are not taken, one after the other from `at` on.
+fn put_refused(picked: &[u8], kinds: &[u8], out: &mut [u8], at: usize) -> usize
+    requires { ⌜ (fixCount (now picked) ≤ length (now kinds)) × (at + 36 * length (leftOf (now picked) (now kinds)) ≤ length (now out)) ⌝ }
+    ensures { λ r. ⌜ Put (now (out .entry)) at (bytesOf (leftOf (now (picked .entry)) (now (kinds .entry)))) (now (out .exit)) r ⌝ }
 {
     let n = molecule::fix_count(picked) as usize;
-    let end = hold_records::used(g.count);
     let mut to = at;
-    let mut k = from;
     let mut i: usize = 0;
     while i < n {
-        let p = out_points::point_of(picked, i);
+        let k = i;
         i += 1;
-        if k < end {
-            let x = g.records[k];
-            let q = x.point;
-            if out_points::same_point(p, q) {
-                k += 1;
-            } else {
-                to = out_points::put_out_point(out, to, p);
-            }
-        } else {
+        if !is_free(kinds, k) {
+            let p = out_points::point_of(picked, k);
             to = out_points::put_out_point(out, to, p);
         }
     }
@@ -322,29 +82,30 @@ fn put_refused(g: Held, from: usize, picked: &[u8], out: &mut [u8], at: usize) -
 }
 
 // Puts the list of those n picks at the start of out.
-fn put_refused_list(g: Held, from: usize, picked: &[u8], n: u32, out: &mut [u8])
-    requires { ⌜ (from ≤ 256) × (n ≡ length (unmatched (cellsOf (drop from (recordsOf g))) (points (now picked)))) × (4 + 36 * n ≤ length (now out)) ⌝ }
-    ensures { λ _. ⌜ now (out .exit) ≡ written (unmatched (cellsOf (drop from (recordsOf g))) (points (now (picked .entry)))) (now (out .entry)) ⌝ }
+fn put_refused_list(picked: &[u8], kinds: &[u8], n: u32, out: &mut [u8])
+    requires { ⌜ (fixCount (now picked) ≤ length (now kinds)) × (n ≡ length (leftOf (now picked) (now kinds))) × (4 + 36 * n ≤ length (now out)) ⌝ }
+    ensures { λ _. ⌜ now (out .exit) ≡ written (leftOf (now (picked .entry)) (now (kinds .entry))) (now (out .entry)) ⌝ }
 {
     let at = write::put_u32(out, 0, n);
-    put_refused(g, from, picked, out, at);
+    put_refused(picked, kinds, out, at);
 }
 
-// Puts both lists: the cells of the records from `from` on, and the n picks that are not among them.
+// Puts both lists: the cells of the records from `from` on, and the n picks that are not taken.
 fn put_taken_and_refused(
     g: Held,
     from: usize,
     picked: &[u8],
+    kinds: &[u8],
     n: u32,
     taken: &mut [u8],
     refused: &mut [u8],
 )
-    requires { ⌜ (from ≤ 256) × (n ≡ length (unmatched (cellsOf (drop from (recordsOf g))) (points (now picked)))) × (4 + 36 * n ≤ length (now refused)) ⌝ }
+    requires { ⌜ (fixCount (now picked) ≤ length (now kinds)) × (n ≡ length (leftOf (now picked) (now kinds))) × (4 + 36 * n ≤ length (now refused)) ⌝ }
     ensures { λ _. ⌜ now (taken .exit) ≡ putIf (cellsOf (drop from (recordsOf g))) (now (taken .entry)) ⌝ }
-    ensures { λ _. ⌜ now (refused .exit) ≡ written (unmatched (cellsOf (drop from (recordsOf g))) (points (now (picked .entry)))) (now (refused .entry)) ⌝ }
+    ensures { λ _. ⌜ now (refused .exit) ≡ written (leftOf (now (picked .entry)) (now (kinds .entry))) (now (refused .entry)) ⌝ }
 {
     hold_records::put_cells(g, from, taken);
-    put_refused_list(g, from, picked, n, refused);
+    put_refused_list(picked, kinds, n, refused);
 }
 
 // Whether lists of so many out points may be written to buffers of so many bytes.
@@ -357,25 +118,21 @@ fn both_fit(count: u32, taken: usize, rest: u32, refused: usize) -> bool
     out_points::fits(rest, refused)
 }
 
-// Takes the picks that are not among the cells of `live`; a refusal hands back `held`.
-fn take_known(
+// Takes the free picks; a refusal hands back `held`.
+fn take_free(
     held: Held,
     live: Held,
-    cells: &[u8],
     picked: &[u8],
-    spent: &[u8],
-    marks: &[u8],
     kinds: &[u8],
-    known: usize,
     owner: Owner,
     taken: &mut [u8],
     refused: &mut [u8],
 ) -> HeldAnswer
-    requires { ⌜ Looked (now cells) (now picked) (now spent) (now marks) (now kinds) known ⌝ }
-    ensures { λ r. ⌜ (told recordsOf (r .answer) (r .held), now (taken .exit), now (refused .exit)) ≡ takeFrom held (recordsOf live) (points (now (cells .entry))) (points (now (picked .entry))) (points (now (spent .entry))) owner (now (taken .entry)) (now (refused .entry)) ⌝ }
+    requires { ⌜ fixCount (now picked) ≤ length (now kinds) ⌝ }
+    ensures { λ r. ⌜ (told recordsOf (r .answer) (r .held), now (taken .exit), now (refused .exit)) ≡ takeLists held (recordsOf live) (freeOf (now (picked .entry)) (now (kinds .entry))) (leftOf (now (picked .entry)) (now (kinds .entry))) owner (now (taken .entry)) (now (refused .entry)) ⌝ }
     ensures { λ r. ⌜ (r .answer ≡ Answer.Done → r .held .count ≤ 256) ⌝ }
 {
-    let t = tally(live, cells, picked, spent, marks, kinds, known, owner);
+    let t = tally(live, picked, kinds, owner);
     let count = t.count;
     let n = molecule::fix_count(picked);
     let rest = n - count;
@@ -387,92 +144,11 @@ fn take_known(
         return hold_records::refuse(held, Refusal::TooManyHolds);
     }
     let after = t.held;
-    put_taken_and_refused(after, from, picked, rest, taken, refused);
+    put_taken_and_refused(after, from, picked, kinds, rest, taken, refused);
     hold_records::done(after)
 }
 
-// The same by an index of the picks.
-fn take_indexed(
-    held: Held,
-    live: Held,
-    cells: &[u8],
-    picked: &[u8],
-    spent: &[u8],
-    marks: &[u8],
-    owner: Owner,
-    taken: &mut [u8],
-    refused: &mut [u8],
-) -> HeldAnswer
-    requires { ⌜ Marks (points (now cells)) (points (now spent)) (now marks) ⌝ }
-    ensures { λ r. ⌜ (told recordsOf (r .answer) (r .held), now (taken .exit), now (refused .exit)) ≡ takeFrom held (recordsOf live) (points (now (cells .entry))) (points (now (picked .entry))) (points (now (spent .entry))) owner (now (taken .entry)) (now (refused .entry)) ⌝ }
-    ensures { λ r. ⌜ (r .answer ≡ Answer.Done → r .held .count ≤ 256) ⌝ }
-{
-    let mut kinds = [0u8; MOST_PICKS];
-    let known = pick_kinds::sort_out(cells, picked, spent, &mut kinds);
-    take_known(
-        held,
-        live,
-        cells,
-        picked,
-        spent,
-        marks,
-        &kinds,
-        known,
-        owner,
-        taken,
-        refused,
-    )
-}
-
-// The same. More picks than two lists hold are refused, and a few are looked up one by one.
-fn take_free(
-    held: Held,
-    live: Held,
-    cells: &[u8],
-    picked: &[u8],
-    spent: &[u8],
-    marks: &[u8],
-    owner: Owner,
-    taken: &mut [u8],
-    refused: &mut [u8],
-) -> HeldAnswer
-    requires { ⌜ Marks (points (now cells)) (points (now spent)) (now marks) ⌝ }
-    ensures { λ r. ⌜ (told recordsOf (r .answer) (r .held), now (taken .exit), now (refused .exit)) ≡ takeFrom held (recordsOf live) (points (now (cells .entry))) (points (now (picked .entry))) (points (now (spent .entry))) owner (now (taken .entry)) (now (refused .entry)) ⌝ }
-    ensures { λ r. ⌜ (r .answer ≡ Answer.Done → r .held .count ≤ 256) ⌝ }
-{
-    let n = molecule::fix_count(picked) as usize;
-    if MOST_PICKS < n {
-        return hold_records::refuse(held, Refusal::BufferTooShort);
-    }
-    if n <= FEW_PICKS {
-        return take_known(
-            held,
-            live,
-            cells,
-            picked,
-            spent,
-            marks,
-            marks,
-            0,
-            owner,
-            taken,
-            refused,
-        );
-    }
-    take_indexed(
-        held,
-        live,
-        cells,
-        picked,
-        spent,
-        marks,
-        owner,
-        taken,
-        refused,
-    )
-}
-
-// Takes the picks that no record of `live` holds; a refusal hands back `held`.
+// Takes the picks that no record of `live` holds; a refusal hands back `held`. More picks than two lists hold are refused.
 pub fn take_from(
     held: Held,
     live: Held,
@@ -485,19 +161,13 @@ pub fn take_from(
     ensures { λ r. ⌜ (told recordsOf (r .answer) (r .held), now (taken .exit), now (refused .exit)) ≡ takeFrom held (recordsOf live) (cellsOf (recordsOf live)) (points (now (picked .entry))) (points (now (spent .entry))) owner (now (taken .entry)) (now (refused .entry)) ⌝ }
     ensures { λ r. ⌜ (r .answer ≡ Answer.Done → r .held .count ≤ 256) ⌝ }
 {
+    let n = molecule::fix_count(picked) as usize;
+    if MOST_PICKS < n {
+        return hold_records::refuse(held, Refusal::BufferTooShort);
+    }
     let mut cells = [0u8; CELLS_BYTES];
     hold_records::list_cells(live, &mut cells);
-    let mut marks = [0u8; MARKS];
-    mark_both(&cells, spent, &mut marks);
-    take_free(
-        held,
-        live,
-        &cells,
-        picked,
-        spent,
-        &marks,
-        owner,
-        taken,
-        refused,
-    )
+    let mut kinds = [0u8; MOST_PICKS];
+    unavailable_picks::put_kinds(&cells, picked, spent, &mut kinds);
+    take_free(held, live, picked, &kinds, owner, taken, refused)
 }

@@ -1,19 +1,14 @@
 use Prim.Native.Nat.{_-_}
-use mathlib.Core.Bool.{true, false}
-use Rattle.molecule.specs.Layout.{fixCount}
-use Rattle.out_points.specs.OutPoints.{pointOf, points}
-use Rattle.pick_kinds.specs.Kinds.{isAmong}
-use Rattle.picks.specs.Places.{asked}
 use Rattle.picks.proofs.TakeLaws.{Tallying}
 use Rattle.picks.proofs.Ways.{ways}
 use Rattle.picks.proofs.tally.Statement.{statement}
 use Rattle.picks.proofs.tally.Tie as tie
 
 abbrev Inv-loop : tie.InvT-loop
-Inv-loop cells picked spent marks kinds known owner n from g₀ count₀ i₀ g count i = Tallying owner (λ p. asked false (isAmong (points cells) (points spent) p)) (pointOf picked) (fixCount picked) g₀ g n i count
+Inv-loop picked kinds owner n from g₀ count₀ i₀ g count i = Tallying owner picked kinds g₀ g n i count
 
 abbrev μ-loop : tie.MeasureT-loop
-μ-loop cells picked spent marks kinds known owner n from g₀ count₀ i₀ g count i = n - i
+μ-loop picked kinds owner n from g₀ count₀ i₀ g count i = n - i
 
 pub tally-spec : {M : Type 1} → statement M
 tally-spec =
@@ -26,10 +21,10 @@ tally-spec =
     (λ c κs. search ways)  -- used-requires
     (λ c. search ways)  -- loop-holds
     (λ c. search ways)  -- add-i
-    (λ c κs. search ways)  -- is-first-requires
+    (λ c κs. search ways)  -- is-free-requires
     (λ c. search ways)  -- add-count
     (λ c κs. search ways)  -- point-of-requires
-    (λ c. search ways)  -- mul-t22
+    (λ c. search ways)  -- mul-t18
     (λ c. search ways)  -- element-set-from-g
     (λ c. search ways)  -- add-g
     (λ c. search ways)  -- loop-less

@@ -1,0 +1,4 @@
+pub mod FirstLaws
+pub mod MarkLaws
+pub mod PickLaws
+pub mod Ways
