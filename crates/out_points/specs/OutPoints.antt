@@ -32,8 +32,8 @@ has p (q ∷ l) = cond (eqPoint p q) true (has p l)
 
 -- ---- slots
 
--- one of 4,093 slots: the sum of an out point's words, modulo a prime, so that each bit moves it. A table with an entry for each slot says of most out points
--- that they are not in a list
+-- one of 4,093 slots: the sum of an out point's words, modulo a prime, so that each bit moves it. Marks of a short list's slots tell of most out points that
+-- they are not in it
 unfoldable pub slotOf : OutPoint → ℕ
 slotOf p = ((((p .hash .a + p .hash .b) % 2 ^ 64 + p .hash .c) % 2 ^ 64 + p .hash .d) % 2 ^ 64 + p .index) % 2 ^ 64 % 4093
 

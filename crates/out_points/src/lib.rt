@@ -59,7 +59,7 @@ pub fn same_point(p: OutPoint, q: OutPoint) -> bool
 // How many slots there are for marks and hints by which a search is spared.
 pub const SLOTS: usize = 4093;
 
-// The slot of an out point. Every word of it counts, so that out points that begin alike don't share one.
+// The slot of an out point. Every word of it counts, so that out points do not share one because they begin alike.
 pub fn slot(p: OutPoint) -> usize
     ensures { λ r. ⌜ r ≡ slotOf p ⌝ }
     ensures { λ r. ⌜ r < 4093 ⌝ }
