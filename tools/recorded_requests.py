@@ -8,8 +8,9 @@ ORACLE is a program that runs the original Rust behind stand-ins for its crates;
 its collector giving the token cells one by one, two at a time and all at once, and `cell`. Where it and tools/request_model.py differ, nothing
 is written. Whose word an answer is goes by its number:
 
-    0, 7 and 9 to 12  the Rust was asked and answers the same: the number, or the transaction with its cell deps in any order, since it keeps a hash
-           set. 12 is where it panics
+    0, 7 and 9 to 11  the Rust was asked and answers the same: the number, or the transaction with its cell deps in any order, since it keeps a hash
+           set
+    12     the Rust was asked and panics over a token cell's short data (ORACLE prints `panic` behind a tab, and stops where the cause is another)
     13     the Rust does not know it: it was asked, and gives the transaction that is too long for the buffer, or over 133,116 bytes
     1, 3   the model's word alone: they are about bytes that the Rust is handed as values. The order of cell deps is the model's word always
 
@@ -38,7 +39,7 @@ CRATE = 'recorded_requests'
 ROOM = 600_000  # bytes of a part at most with the first one in front, which the program has room for
 BATCHES = 1, 2, 10 ** 6  # cells that the Rust's collector gives at once
 NUMBERS = range(14)
-RUST, LONGER, MODEL = range(3)  # whose word an answer is
+RUST, PANICS, LONGER, MODEL = range(4)  # whose word an answer is
 
 
 class Asked:
@@ -50,7 +51,7 @@ class Asked:
         self.whole = model.answer(model.base_of_any_length, r)[1]
         self.cell_number, self.cell = model.answer(model.funding_cell, r)
         self.pick_number, self.pick = model.answer(model.udt_inputs_outputs, r)
-        self.source = MODEL if self.number in (1, 3) else LONGER if self.number == 13 else RUST
+        self.source = MODEL if self.number in (1, 3) else {12: PANICS, 13: LONGER}.get(self.number, RUST)
 
     def present(self):
         return model.read_present(self.r.ours)
@@ -80,7 +81,7 @@ def asks_base(r, batch):
 def said_base(a):
     """The transaction, whatever its length, with its cell deps sorted."""
     if a.number not in (0, 13):
-        return str(a.number)
+        return str(a.number) + ('\tpanic' if a.source == PANICS else '')
     tx = read_tx(a.whole)
     tx.deps = sorted(tx.deps)
     return '0 ' + tx.write().hex()
@@ -94,7 +95,7 @@ def ask(oracle, asked):
             lines.append(asks_cell(a.r))
             said.append(said_cell(a))
         if a.source != MODEL:
-            assert a.source == RUST or len(a.whole) > min(a.r.room, LONGEST)
+            assert a.source != LONGER or len(a.whole) > min(a.r.room, LONGEST)
             lines += [asks_base(a.r, n) for n in BATCHES]
             said += [said_base(a)] * len(BATCHES)
     got = subprocess.run([oracle, '--calls'], input='\n'.join(lines).encode() + b'\n', stdout=subprocess.PIPE, stderr=subprocess.DEVNULL)
@@ -306,11 +307,12 @@ def kinds_of(asked):
 
 
 def numbers_of(asked):
-    print('%8s %8s %12s %12s %12s' % ('number', 'requests', 'the Rust', 'longer there', 'the model'))
+    columns = ('number', 'requests', 'the Rust', 'panics there', 'longer there', 'the model')
+    print('%8s %8s %12s %12s %12s %12s' % columns)
     for n in NUMBERS:
         mine = [a for a in asked if a.number == n]
         if mine:
-            print('%8d %8d %12d %12d %12d' % (n, len(mine), *(sum(a.source == w for a in mine) for w in (RUST, LONGER, MODEL))))
+            print('%8d %8d %12d %12d %12d %12d' % (n, len(mine), *(sum(a.source == w for a in mine) for w in (RUST, PANICS, LONGER, MODEL))))
 
 
 def main():

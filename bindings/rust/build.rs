@@ -1,7 +1,9 @@
-//! Links the proved library: the archive of BASINPANTRY_LIB_DIR, or target/staticlib of the repository, which `rt staticlib capi` writes where it is missing.
+//! Links the proved library: the archive of BASINPANTRY_LIB_DIR, or target/staticlib of the repository, which tools/staticlib writes where it is missing.
+use std::fs::{File, OpenOptions};
+use std::io::{BufRead, BufReader, Write};
 use std::path::{Path, PathBuf};
-use std::process::Command;
-use std::time::SystemTime;
+use std::process::{Command, Stdio};
+use std::time::Instant;
 
 const ARCHIVE: &str = "libcapi.a";
 
@@ -42,48 +44,55 @@ fn archive_folder() -> Result<PathBuf, String> {
     }
     let root = canonical(&Path::new(env!("CARGO_MANIFEST_DIR")).join("../.."))?;
     let folder = root.join("target/staticlib");
-    println!("cargo:rerun-if-changed={}", root.join("crates").display());
+    for decides in ["crates", "crates.txt", "tools/staticlib"] {
+        println!("cargo:rerun-if-changed={}", root.join(decides).display());
+    }
     if folder.join(ARCHIVE).is_file() {
-        warn_if_stale(&folder.join(ARCHIVE), &root);
-        return Ok(folder);
+        warn_if_stale(&root);
+    } else {
+        write_archive(&root)?;
     }
-    let status = Command::new("rt").args(["staticlib", "capi"]).current_dir(&root).status();
-    match status {
-        Ok(status) if status.success() && folder.join(ARCHIVE).is_file() => Ok(folder),
-        Ok(status) => Err(format!("`rt staticlib capi` in {} wrote no {ARCHIVE} ({status})", root.display())),
-        Err(why) => Err(format!(
-            "there is no {ARCHIVE} in {}, and `rt staticlib capi`, which writes it, can't be run: {why}. BASINPANTRY_LIB_DIR may name another folder",
-            folder.display()
-        )),
+    Ok(folder)
+}
+
+/// An archive that was made from something else than stands there is linked, since writing it proves the library anew, which may take long; but it is told.
+fn warn_if_stale(root: &Path) {
+    match Command::new(root.join("tools/staticlib")).arg("--check").output() {
+        Ok(said) if said.status.success() => {}
+        Ok(said) => println!("cargo:warning={}: run tools/staticlib", String::from_utf8_lossy(&said.stdout).trim()),
+        Err(why) => println!("cargo:warning=tools/staticlib, which sees whether {ARCHIVE} is up to date, can't be run: {why}"),
     }
 }
 
-/// An archive that is older than code of the library is linked, since writing it proves the library anew, which may take long; but it is told.
-fn warn_if_stale(archive: &Path, root: &Path) {
-    let Some(written) = changed(archive) else { return };
-    let newest = sources(&root.join("crates")).into_iter().filter_map(|path| Some((changed(&path)?, path))).max();
-    if let Some((_, path)) = newest.filter(|(time, _)| *time > written) {
-        let path = path.strip_prefix(root).unwrap_or(&path);
-        println!("cargo:warning=target/staticlib/{ARCHIVE} is older than {}: run `rt staticlib capi`", path.display());
+/// Proves the library and compiles it, which takes minutes. Cargo keeps what a build script prints until it has ended, its warnings too, so the line for each
+/// crate goes to the terminal itself; where there is none, one warning at the end says what took so long.
+fn write_archive(root: &Path) -> Result<(), String> {
+    let began = Instant::now();
+    let mut terminal = OpenOptions::new().write(true).open("/dev/tty").ok();
+    let tool = root.join("tools/staticlib");
+    let mut running = Command::new(&tool)
+        .stdin(Stdio::null())
+        .stderr(Stdio::piped())
+        .spawn()
+        .map_err(|why| format!("there is no {ARCHIVE}, and {}, which writes it, can't be run: {why}", tool.display()))?;
+    for line in BufReader::new(running.stderr.take().expect("a pipe")).lines().map_while(Result::ok) {
+        eprintln!("{line}");
+        show(&mut terminal, &line);
     }
+    let status = running.wait().map_err(|why| format!("{}: {why}", tool.display()))?;
+    if !status.success() {
+        return Err(format!("tools/staticlib wrote no {ARCHIVE} ({status}). BASINPANTRY_LIB_DIR may name a folder that has one"));
+    }
+    if terminal.is_none() {
+        let seconds = began.elapsed().as_secs();
+        println!("cargo:warning=the library was proved and written to target/staticlib/{ARCHIVE} in {seconds} s (target/staticlib/rt.log)");
+    }
+    Ok(())
 }
 
-fn changed(path: &Path) -> Option<SystemTime> {
-    path.metadata().ok()?.modified().ok()
-}
-
-/// The files from which the archive's code is made: specifications and proofs leave no trace in it.
-fn sources(folder: &Path) -> Vec<PathBuf> {
-    let mut found = Vec::new();
-    let mut folders = vec![folder.to_path_buf()];
-    while let Some(folder) = folders.pop() {
-        for path in std::fs::read_dir(folder).into_iter().flatten().flatten().map(|entry| entry.path()) {
-            if path.is_dir() {
-                folders.push(path);
-            } else if path.extension().is_some_and(|extension| extension == "rt") {
-                found.push(path);
-            }
-        }
+/// In the place of cargo's line of progress, which it draws again below.
+fn show(terminal: &mut Option<File>, line: &str) {
+    if let Some(to) = terminal {
+        let _ = writeln!(to, "\r\x1b[K{line}");
     }
-    found
 }

@@ -60,6 +60,7 @@ fn dumped_map(map: &exclusions::Map) -> String {
     v.join(" ")
 }
 
+/// Where the original panics, `panic` stands behind a tab.
 /// cell|base OURS LOCK TYPE SOURCE LOCAL LOCAL_RESERVE REMOTE REMOTE_RESERVE
 ///      [CELLS (point+data, comma between) TOKEN_DEPS (no: not supplied) LOCK_DEP EXTRA AT_ONCE]
 fn request(a: &[&str]) -> String {
@@ -95,7 +96,7 @@ fn request(a: &[&str]) -> String {
     match r.base() {
         Answer::Done(t) => format!("0 {}", hex(t.as_slice())),
         Answer::Refused(e) => e.to_string(),
-        Answer::Panics => "12".into(),
+        Answer::Panics => "12\tpanic".into(),
     }
 }
 

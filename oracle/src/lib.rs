@@ -10,6 +10,8 @@ mod reference {
     include!(concat!(env!("OUT_DIR"), "/reference.rs"));
 }
 pub use reference::SOURCES;
+/// The original's files as they are compiled, to find a line by its number.
+const REFERENCE: &str = include_str!(concat!(env!("OUT_DIR"), "/reference.rs"));
 
 // The original names itself crate::ckb and crate::now_timestamp_as_millis_u64.
 use reference::ckb;

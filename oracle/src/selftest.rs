@@ -1,7 +1,12 @@
 //! The known outcomes of the rules (docs/RULES.md), asked of the original.
 use crate::case::{self, Case};
 use crate::ckb::{funding::funding_tx::*, held_cells as held};
-use crate::original::{update::Verdict, Refusal};
+use crate::original::{
+    panics::{caught, Cause},
+    request::{Answer, Request},
+    update::Verdict,
+    Refusal,
+};
 use crate::standins::{
     bytes,
     chain::DESK,
@@ -212,6 +217,54 @@ pub fn run() {
     t.eq("resolver", external(&[dep(4), dep(5)], Some(dep(6))).resolve(&src), Some(dep(4)));
     t.eq("resolver, no extra dep", external(&[], Some(dep(6))).resolve(&src), Some(dep(6)));
     t.eq("resolver, other lock", external(&[dep(4)], None).resolve(&l), None::<CellDep>);
+    // Panics: the two listed causes are told apart, and another is none of them.
+    let typed = |data: &[packed::Bytes]| tx(0, &[output(1, &l, Some(&ty))], data, 0, &[]);
+    let without = Case {
+        ours: typed(&[]),
+        peer: typed(&[data(&[0; 16])]),
+        lock: l.as_slice().to_vec(),
+        type_: ty.as_slice().to_vec(),
+        source: s.as_slice().to_vec(),
+        rate: 1000,
+        records: vec![],
+    };
+    t.eq("panic of an update", without.judge(), Verdict::Panic);
+    t.eq("no panic with data", Case { ours: typed(&[data(&[0; 16])]), ..without.clone() }.judge(), Verdict::Accept(0, 0));
+    let short = Request {
+        udt: Some(ty.clone()),
+        local: 1,
+        cells: vec![(point(0), vec![1; 15])],
+        at_once: 1,
+        udt_deps: Some(vec![]),
+        lock_dep: Some(dep(1)),
+        ..Default::default()
+    };
+    t.eq("panic of a pick", matches!(short.pick(), Answer::Panics), true);
+    t.eq("panic of a base", matches!(short.base(), Answer::Panics), true);
+    t.eq("no panic", caught(|| 1), Ok::<_, Cause>(1));
+    let usual = std::panic::take_hook();
+    std::panic::set_hook(Box::new(|_| {}));
+    let others: [fn(); 4] = [
+        || panic!("should be ok"),
+        || panic!("range end index 16 out of range for slice of length 15"),
+        || drop(std::hint::black_box(&[0u8; 15][..])[0..16].to_vec()),
+        || drop(FundingTx::from(Transaction::default()).into_inner().unwrap().output_with_data(0).unwrap()),
+    ];
+    for (k, other) in others.into_iter().enumerate() {
+        t.eq(&format!("another panic, {k}"), std::panic::catch_unwind(|| caught(other)).is_err(), true);
+    }
+    std::panic::set_hook(usual);
+    // Without the token's deps the pick alone fails, after the cells sufficed.
+    let picks =
+        |udt_deps, wanted| Request { cells: vec![(point(0), vec![0; 16]), (point(1), vec![1; 16])], udt_deps, local: wanted, ..short.clone() };
+    let said = |r: Request| match r.pick() {
+        Answer::Done((inputs, _)) => format!("{} inputs", inputs.len()),
+        Answer::Refused(r) => r.to_string(),
+        Answer::Panics => "panic".into(),
+    };
+    t.eq("pick without deps", said(picks(None, 1)), hex("11"));
+    t.eq("pick without deps, too few tokens", said(picks(None, u128::MAX)), hex("9"));
+    t.eq("pick with no deps", said(picks(Some(vec![]), 1)), hex("2 inputs"));
     println!("{} right, {} wrong", t.0, t.1);
     if t.1 > 0 {
         std::process::exit(1)

@@ -1,6 +1,7 @@
 //! Calls of the original over plain values: what it fetches is lent by the caller through the stand-ins.
 pub mod exclusions;
 pub mod holds;
+pub mod panics;
 pub mod parsed;
 pub mod request;
 pub mod update;

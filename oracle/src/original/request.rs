@@ -1,10 +1,12 @@
 //! A request of our own side, put to the original: the funding cell, the token pick, the base transaction.
-use super::Refusal;
+use super::{
+    panics::{caught, Cause},
+    Refusal,
+};
 use crate::ckb::funding::funding_tx::{probe, FundingRequest, FundingTx, FundingTxBuilder};
 use crate::standins::{chain::DESK, packed::*, sdk::traits::LiveCell};
-use std::panic::{catch_unwind, AssertUnwindSafe};
 
-/// What the original says: an answer, a refusal, or a panic, where the rules say 12.
+/// What the original says: an answer, a refusal, or a panic since a token cell's data is short, where the rules say 12.
 pub enum Answer<T> {
     Done(T),
     Refused(Refusal),
@@ -65,17 +67,24 @@ impl Request {
             Err(e) => Err(Refusal::from(&e)),
         }
     }
+    /// A panic for another cause is no answer.
+    fn panicked<T>(&self, cause: Cause) -> Answer<T> {
+        let short = self.cells.iter().any(|(_, data)| data.len() < 16);
+        assert!(cause == Cause::ShortTokenData && short, "{cause:?}, and the input has another");
+        Answer::Panics
+    }
+    /// With the token's deps as they are lent: the original looks them up where the cells suffice, and fails without them.
     pub fn pick(&self) -> Answer<Picked> {
-        DESK.with_borrow_mut(|d| d.udt_deps = Some(vec![]));
+        DESK.with_borrow_mut(|d| d.udt_deps = self.udt_deps.clone());
         let (b, mut lent) = (self.builder(), self.lent());
-        match catch_unwind(AssertUnwindSafe(|| probe::pick(&b, &mut lent))) {
+        match caught(|| probe::pick(&b, &mut lent)) {
             Ok(Ok((inputs, outputs, data))) => {
                 assert!(outputs.len() == data.len() && outputs.len() < 2);
                 let data = data.first().map(|d| d.raw_data().to_vec());
                 Answer::Done((inputs, outputs.into_iter().next().zip(data)))
             }
             Ok(Err(e)) => Answer::Refused(Refusal::from(&e)),
-            Err(_) => Answer::Panics,
+            Err(cause) => self.panicked(cause),
         }
     }
     /// The base transaction with its cell deps sorted, since the original keeps them in a hash set.
@@ -90,10 +99,10 @@ impl Request {
         DESK.with_borrow_mut(|d| d.udt_deps = self.udt_deps.clone());
         let (b, mut lent) = (self.builder(), self.lent());
         let resolver = probe::resolver(self.lock_dep.clone(), self.external.then(|| (self.source.clone(), &self.extra_deps[..])));
-        match catch_unwind(AssertUnwindSafe(|| probe::base(&b, &mut lent, &*resolver))) {
+        match caught(|| probe::base(&b, &mut lent, &*resolver)) {
             Ok(Ok(t)) => Answer::Done(t.data()),
             Ok(Err(e)) => Answer::Refused(Refusal::from(&e)),
-            Err(_) => Answer::Panics,
+            Err(cause) => self.panicked(cause),
         }
     }
 }

@@ -1,18 +1,17 @@
 //! A peer's update judged by the original.
-use super::Refusal;
+use super::{panics, Refusal};
 use crate::ckb::funding::funding_tx::{probe, FundingTx};
 use crate::standins::{block_on, bytes::Bytes, chain::DESK, molecule, packed::*, view::TransactionView};
-use std::panic::{catch_unwind, AssertUnwindSafe};
 
 #[derive(Clone, Debug, PartialEq)]
 pub enum Verdict {
-    /// Capacity and token surplus.
+    /// Accepted by the original. The capacity and token surplus are computed beside it, since it returns none.
     Accept(u128, u128),
     /// Decided by the original.
     Refuse(Refusal),
     /// 1, 2 or 3: decided here, since the original is handed values that were read.
     Unreadable(u8),
-    /// The original panics (only: our output 0 without data, in a typed update); the rules say 5 here.
+    /// The original panics since our output 0 has no data in a typed update; the rules say 5 here. A panic for another cause is no verdict.
     Panic,
 }
 impl std::fmt::Display for Verdict {
@@ -90,8 +89,10 @@ impl InForce {
             d.asked = 0;
             d.opened = false;
         });
-        let context = probe::context(lock, udt.flatten(), source, vec![]);
-        let result = catch_unwind(AssertUnwindSafe(|| block_on(self.0.update_for_peer(peer.clone(), context, lent.rate))));
+        let udt = udt.flatten();
+        let without_data = udt.is_some() && ours.output(0).is_some() && ours.outputs_data().is_empty();
+        let context = probe::context(lock, udt, source, vec![]);
+        let result = panics::caught(|| block_on(self.0.update_for_peer(peer.clone(), context, lent.rate)));
         // The original asks for live cells when all checks before them have passed: there the records are looked at.
         let records = match records {
             None if DESK.with_borrow(|d| d.opened) => {
@@ -111,7 +112,10 @@ impl InForce {
                 Verdict::Accept(c, t)
             }
             Ok(Err(e)) => Verdict::Refuse(Refusal::from(&e)),
-            Err(_) => Verdict::Panic,
+            Err(cause) => {
+                assert!(cause == panics::Cause::OutputWithoutData && without_data, "{cause:?}, and the input has another");
+                Verdict::Panic
+            }
         }
     }
 }

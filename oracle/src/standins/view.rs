@@ -49,9 +49,12 @@ impl TransactionView {
     pub fn output(&self, i: usize) -> Option<CellOutput> {
         self.outputs().get(i)
     }
-    /// As in ckb_types: an output without its data is a panic.
+    /// As in ckb_types: an output without its data is a panic, which is told with the place of the caller.
+    #[track_caller]
     pub fn output_with_data(&self, i: usize) -> Option<(CellOutput, Bytes)> {
-        self.output(i).map(|o| (o, self.outputs_data().get(i).expect("should be ok").raw_data()))
+        let output = self.output(i)?;
+        let Some(data) = self.outputs_data().get(i) else { panic!("should be ok") };
+        Some((output, data.raw_data()))
     }
     pub fn outputs_data(&self) -> List<super::packed::Bytes> {
         self.data.raw().outputs_data()

@@ -93,7 +93,7 @@ fn main() {
         eprintln!("compare [--faults] [--calls N] [--seed S] [--kind {}]", NAMES.join("|"));
         std::process::exit(2);
     };
-    // Panics of the original are answers; our own are not.
+    // Panics of the original are answers, or shown with the input; our own are not.
     std::panic::set_hook(Box::new(|p| {
         if p.location().is_some_and(|l| l.file().contains("compare")) {
             eprintln!("{p}");

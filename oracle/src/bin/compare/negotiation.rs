@@ -114,7 +114,8 @@ impl Input {
                     left[5 * k + 1..][..values.len()].copy_from_slice(&values);
                 }
                 let accepted = verdicts.iter().filter(|v| matches!(v, Verdict::Accept(..))).count();
-                ((0, vec![count as u64, accepted as u64, at as u64]), Source::Original)
+                let source = if accepted == 0 { Source::Original } else { Source::Acceptance };
+                ((0, vec![count as u64, accepted as u64, at as u64]), source)
             }
         };
         let differs = (number, values) != (wanted.0, library::values(&wanted.1)) || words != left;

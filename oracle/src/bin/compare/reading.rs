@@ -215,7 +215,8 @@ impl Kind for CaseFile {
         let source = match verdict {
             Verdict::Panic => Source::Intended(crate::update::PANICS),
             Verdict::Unreadable(_) => Source::Reader,
-            _ => Source::Original,
+            Verdict::Accept(..) => Source::Acceptance,
+            Verdict::Refuse(_) => Source::Original,
         };
         let number = line.iter().take_while(|b| b.is_ascii_digit()).fold(0, |k, d| 10 * k + (d - b'0') as u32);
         let said = String::from_utf8_lossy(&line[..long]).to_string();

@@ -6,6 +6,9 @@ use std::collections::BTreeMap;
 pub enum Source {
     /// The original said so.
     Original,
+    /// The original accepted the update, or some of a list of updates: the verdict is its own. It returns no surplus: the one that is expected is computed
+    /// beside it, by the rules of this library, over the original's readers of capacities and tokens.
+    Acceptance,
     /// The stand-ins' strict reader: the original can't be asked, since it is handed values that were read.
     Reader,
     /// The original says something else, or panics, and a rule of docs/DIFFERENCES.md says what is expected instead.
@@ -29,6 +32,7 @@ pub struct Tally {
     pub calls: u64,
     pub wrong: u64,
     original: u64,
+    acceptance: u64,
     reader: u64,
     numbers: BTreeMap<u32, u64>,
     intended: BTreeMap<&'static str, u64>,
@@ -45,6 +49,7 @@ impl Tally {
         *self.numbers.entry(o.number).or_default() += 1;
         match o.source {
             Source::Original => self.original += 1,
+            Source::Acceptance => self.acceptance += 1,
             Source::Reader => self.reader += 1,
             Source::Intended(name) => *self.intended.entry(name).or_default() += 1,
             Source::Unknown(name) => *self.unknown.entry(name).or_default() += 1,
@@ -55,20 +60,22 @@ impl Tally {
         self.calls += other.calls;
         self.wrong += other.wrong;
         self.original += other.original;
+        self.acceptance += other.acceptance;
         self.reader += other.reader;
         other.numbers.iter().for_each(|(k, n)| *self.numbers.entry(*k).or_default() += n);
         other.intended.iter().for_each(|(k, n)| *self.intended.entry(k).or_default() += n);
         other.unknown.iter().for_each(|(k, n)| *self.unknown.entry(k).or_default() += n);
     }
     pub fn head() {
-        let of = ["calls", "agree", "original", "reader", "intended", "unknown", "disagree"];
+        let of = ["calls", "agree", "original", "accepted", "reader", "intended", "unknown", "disagree"];
         print!("{:<17}", "kind");
         of.iter().for_each(|name| print!(" {name:>9}"));
         println!();
     }
     pub fn line(&self, kind: &str) {
         let (intended, unknown) = (self.intended.values().sum(), self.unknown.values().sum());
-        let counts = [self.calls, self.original + self.reader, self.original, self.reader, intended, unknown, self.wrong];
+        let agree = self.original + self.acceptance + self.reader;
+        let counts = [self.calls, agree, self.original, self.acceptance, self.reader, intended, unknown, self.wrong];
         print!("{kind:<17}");
         counts.iter().for_each(|n: &u64| print!(" {n:>9}"));
         println!();

@@ -5,11 +5,13 @@ use crate::report::{Outcome, Source};
 use crate::updates::read_amount;
 use oracle::calls::hex;
 use oracle::original::request::{sorted_deps, Answer, Request};
+use oracle::original::Refusal;
 use oracle::standins::molecule::{readable, CELL_DEPS, SCRIPT, TOKEN_CELLS, TRANSACTION};
 use oracle::standins::packed::{CellDep, OutPoint, Script, Transaction};
 
 const PANICS: &str = "12 where the original panics: a token cell with data under 16 bytes";
 const ROOM: &str = "13 where the original has no such bound: the lent buffer, or 133,116 bytes";
+const NO_DEPS: &str = "0 where the original's build_udt_inputs_outputs fails: the token's deps are not supplied, which only build_base asks for";
 const EXTRA: &str = "the lock's dep is lent apart: the original's resolver prefers the first extra dep";
 
 /// What is lent.
@@ -132,7 +134,12 @@ impl Input {
             Expected::unreadable(3)
         } else {
             let request = self.request();
-            match request.pick() {
+            // without the token's deps the original fails after the pick: with an empty list of them it is to say what is said here
+            let (request, fails) = match request.pick() {
+                Answer::Refused(Refusal(11, _)) if request.udt_deps.is_none() => (Request { udt_deps: Some(vec![]), ..request }, true),
+                _ => (request, false),
+            };
+            let expected = match request.pick() {
                 Answer::Done((inputs, change)) => {
                     use oracle::standins::view::prelude::Unpack;
                     // the cells in their order, with since 0
@@ -151,6 +158,10 @@ impl Input {
                 }
                 Answer::Refused(e) => Expected::refused(e.0 as u32, Source::Original),
                 Answer::Panics => Expected::refused(12, Source::Intended(PANICS)),
+            };
+            match expected.source {
+                Source::Original if fails => Expected { source: Source::Intended(NO_DEPS), ..expected },
+                _ => expected,
             }
         };
         let mut buffer = vec![BYTE; self.room];

@@ -14,7 +14,7 @@ pub const PANICS: &str = "5 where the original panics: typed, and our output 0 h
 pub fn expected(v: &Verdict) -> (u32, Vec<u64>, Source) {
     let halves = |n: u128| [n as u64, (n >> 64) as u64];
     match v {
-        Verdict::Accept(c, t) => (0, [halves(*c), halves(*t)].concat(), Source::Original),
+        Verdict::Accept(c, t) => (0, [halves(*c), halves(*t)].concat(), Source::Acceptance),
         Verdict::Refuse(r) => (r.0 as u32, r.1.to_vec(), Source::Original),
         Verdict::Unreadable(n) => (*n as u32, vec![], Source::Reader),
         Verdict::Panic => (5, vec![], Source::Intended(PANICS)),
