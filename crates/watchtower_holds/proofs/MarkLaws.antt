@@ -18,7 +18,7 @@ use Rattle.out_points.proofs.EqualLaws.{point-same, point-refl, has-last}
 use Rattle.hold_records.specs.declared.{Owner.Owner, Hold.Hold, Held.Held}
 use Rattle.hold_records.specs.Holds.{byOwner, isTowerOn, isUnnamed}
 use Rattle.hold_records.proofs.LoopLaws.{Keeping, keep-yes, keep-no}
-use Rattle.watchtower_holds.specs.Places.{Hints, marked, Marked, Marks}
+use Rattle.watchtower_holds.specs.Places.{Hints, marked, Marks}
 use Rattle.watchtower_holds.proofs.RenewLaws.{tower}
 use Rattle.watchtower_holds.proofs.HintLaws.{same-default}
 
@@ -50,134 +50,47 @@ unfolding marked
 marked-other m at j true h = getD-set-other m at j 1 0 h
 marked-other m at j false h = refl
 
--- ---- the records from a place on
-
-pub record Marking (p : OutPoint) (h : Held) (from n i : ℕ) (m₀ m : List ℕ) : Type 0 where
-  pub most : n ≡ min (h .count) 256
-  pub whole : length (h .records) ≡ 256
-  pub start : length m₀ ≡ 256
-  pub later : from ≤ i
-  pub marks : Marked p (h .records) from i m₀ m
-  pub left : (j : ℕ) → i ≤ j → getD m j 0 ≡ getD m₀ j 0
-
-pub mark-start : (p : OutPoint) (h : Held) (from : ℕ) {n : ℕ} {m : List ℕ} → length m ≡ 256 → n ≡ min (h .count) 256 → length (h .records) ≡ 256 → Marking p h from n from m m
-mark-start p h from w e l = record {
-  most = e;
-  whole = l;
-  start = w;
-  later = omega arith;
-  marks = record { long = refl; before = λ j b. refl; each = λ j d b c. absurd (omega arith) };
-  left = λ j b. refl;
-}
-
--- nothing is marked where none stands from there on
-pub mark-nothing : (p : OutPoint) (l : List Hold) {from n : ℕ} (m : List ℕ) → n ≤ from → Marked p l from n m m
-mark-nothing p l m h = record { long = refl; before = λ j b. refl; each = λ j d b c. absurd (omega arith) }
-
-module _ {p : OutPoint} {h : Held} {from n i : ℕ} {m₀ m : List ℕ} (k : Marking p h from n i m₀ m) where
-  pub mark-in : i < n → i < 256
-  mark-in l = let a = k .most in omega arith
-
-  pub mark-room : i < n → i < length m
-  mark-room l = let a = k .most in let b = k .marks .long in let c = k .start in omega arith
-
-  pub mark-long : length m ≡ length m₀
-  mark-long = k .marks .long
-
-  pub mark-more : (d : Hold) {b : Bool} {m' : List ℕ} → i < n → b ≡ isTowerOn p (getD (h .records) i d) → m' ≡ marked m i b → Marking p h from n (i + 1) m₀ m'
-  mark-more d {b} {m'} l e em = record {
-    most = k .most;
-    whole = k .whole;
-    start = k .start;
-    later = let a = k .later in omega arith;
-    marks = rw em (record { long = marked-long m i b ∙ k .marks .long; before = before; each = each });
-    left = rw em left;
-  }
-    where
-      left : (j : ℕ) → i + 1 ≤ j → getD (marked m i b) j 0 ≡ getD m₀ j 0
-      left j q = marked-other m i j b (λ z. omega arith) ∙ k .left j (omega arith)
-
-      before : (j : ℕ) → j < from → getD (marked m i b) j 0 ≡ getD m₀ j 0
-      before j q = let a = k .later in marked-other m i j b (λ z. omega arith) ∙ k .marks .before j q
-
-      each : (j : ℕ) (d' : Hold) → from ≤ j → j < i + 1 → getD (marked m i b) j 0 ≡ cond (isTowerOn p (getD (h .records) j d')) 1 (getD m₀ j 0)
-      each j d' u v = by (ltb j i) refl
-        where
-          by : (c : Bool) → ltb j i ≡ c → getD (marked m i b) j 0 ≡ cond (isTowerOn p (getD (h .records) j d')) 1 (getD m₀ j 0)
-          by true z = let y : j < i = ltb-true _ _ z in marked-other m i j b (λ q. omega arith) ∙ k .marks .each j d' u y
-          by false z =
-              let y : i ≤ j = ltb-false _ _ z in
-              let x : j ≡ i = omega arith in
-              let a = k .most in
-              let w = k .whole in
-              let o : b ≡ isTowerOn p (getD (h .records) i d') = e ∙ ap (isTowerOn p) (same-default (h .records) i d d' (omega arith)) in
-              rw (x, ← o, ← k .left i (omega arith)) (marked-here m i b (mark-room l))
-
-  pub mark-end : n ≤ i → Marked p (h .records) from (min (h .count) 256) m₀ m
-  mark-end l = record { long = k .marks .long; before = k .marks .before; each = λ j d u v. (let a = k .most in k .marks .each j d u (omega arith)) }
-
--- ---- one cell marks all the watchtower's records on it
-
--- m' is m with them marked
-record Swept (p : OutPoint) (l : List Hold) (n : ℕ) (m m' : List ℕ) : Type 0 where
-  long : length m' ≡ length m
-  each : (j : ℕ) (d : Hold) → j < n → getD m' j 0 ≡ cond (isTowerOn p (getD l j d)) 1 (getD m j 0)
+-- ---- one cell marks the first record of its slot, and those from the second hint on
 
 module _ {hm : List ℕ} {l : List Hold} {n : ℕ} (k : Hints hm l n) (w : n ≤ length l) (p : OutPoint) (m : List ℕ) {at : ℕ} (ea : at ≡ getD hm (2 * slotOf p) 0) where
-  -- a record that is not at the first hint, and before the second
-  missed : (j : ℕ) (d : Hold) → j < n → (at ≤ j → at < j → getD hm (2 * slotOf p + 1) 0 < j → ⊥) → (j ≡ at → ⊥) → isTowerOn p (getD l j d) ≡ false
+  -- no record is on p where it would be missed
+  missed : (j : ℕ) (d : Hold) → j < n → (at < j → getD hm (2 * slotOf p + 1) 0 < j → ⊥) → (j ≡ at → ⊥) → isTowerOn p (getD l j d) ≡ false
   missed j d b f z = not-so (isTowerOn p (getD l j d)) (λ t. by t (ltb at j) refl)
     where
       by : isTowerOn p (getD l j d) ≡ true → (c : Bool) → ltb at j ≡ c → ⊥
-      by t true y =
-          let u : at < j = ltb-true _ _ y in
-          let v = k .each p j d b t in
-          f (omega arith) u (v .behind (omega arith))
+      by t true y = let u : at < j = ltb-true _ _ y in f u (k .each p j d b t .behind (omega arith))
       by t false y =
           let u : j ≤ at = ltb-false _ _ y in
           let v = k .each p j d b t .least in
           z (omega arith)
 
-  sweep-none : n ≤ at → Swept p l n m m
-  sweep-none h = record { long = refl; each = λ j d b. sym (rw (missed j d b (λ u v y. omega arith) (λ q. omega arith))) }
+  sweep-none : n ≤ at → (j : ℕ) (d : Hold) → j < n → isTowerOn p (getD l j d) ≡ false
+  sweep-none h j d b = missed j d b (λ u v. omega arith) (λ q. omega arith)
 
-  module _ (d : Hold) {b : Bool} {m₁ m₂ : List ℕ} {from : ℕ} (c : at < n) (r : n ≤ length m) (eb : b ≡ isTowerOn p (getD l at d)) (e₁ : m₁ ≡ marked m at b)
-      (ef : from ≡ getD hm (2 * slotOf p + 1) 0 + 1) (g : Marked p l from n m₁ m₂) where
-    sweep-first : (j : ℕ) (d' : Hold) → j < n → j < from → getD m₁ j 0 ≡ cond (isTowerOn p (getD l j d')) 1 (getD m j 0)
+  module _ (d : Hold) {b : Bool} {m' : List ℕ} {from : ℕ} (c : at < n) (r : n ≤ length m) (eb : b ≡ isTowerOn p (getD l at d)) (em : m' ≡ marked m at b)
+      (ef : from ≡ getD hm (2 * slotOf p + 1) 0 + 1) where
+    on-first : (d' : Hold) → b ≡ isTowerOn p (getD l at d')
+    on-first d' = eb ∙ ap (isTowerOn p) (same-default l at d d' (omega arith))
+
+    sweep-first : (j : ℕ) (d' : Hold) → j < n → j < from → getD m' j 0 ≡ cond (isTowerOn p (getD l j d')) 1 (getD m j 0)
     sweep-first j d' u v = by (eqb j at) refl
       where
-        by : (q : Bool) → eqb j at ≡ q → getD m₁ j 0 ≡ cond (isTowerOn p (getD l j d')) 1 (getD m j 0)
-        by true z =
-            let y : j ≡ at = eqb-true _ _ z in
-            let o : b ≡ isTowerOn p (getD l at d') = eb ∙ ap (isTowerOn p) (same-default l at d d' (omega arith)) in
-            rw (e₁, y, ← o) (marked-here m at b (omega arith))
+        by : (q : Bool) → eqb j at ≡ q → getD m' j 0 ≡ cond (isTowerOn p (getD l j d')) 1 (getD m j 0)
+        by true z = let y : j ≡ at = eqb-true _ _ z in rw (em, y, ← on-first d') (marked-here m at b (omega arith))
         by false z =
-            let y : isTowerOn p (getD l j d') ≡ false = missed j d' u (λ s t q. omega arith) (eqb-false _ _ z) in
-            rw (e₁, y) (marked-other m at j b (eqb-false _ _ z))
+            let y : isTowerOn p (getD l j d') ≡ false = missed j d' u (λ s t. omega arith) (eqb-false _ _ z) in
+            rw (em, y) (marked-other m at j b (eqb-false _ _ z))
 
-    sweep-rest : (j : ℕ) (d' : Hold) → j < n → cond (isTowerOn p (getD l j d')) 1 (getD m₁ j 0) ≡ cond (isTowerOn p (getD l j d')) 1 (getD m j 0)
+    sweep-rest : (j : ℕ) (d' : Hold) → j < n → cond (isTowerOn p (getD l j d')) 1 (getD m' j 0) ≡ cond (isTowerOn p (getD l j d')) 1 (getD m j 0)
     sweep-rest j d' u = by (eqb j at) refl
       where
         again : (t : Bool) (v : ℕ) → cond t 1 (cond t 1 v) ≡ cond t 1 v
         again true v = refl
         again false v = refl
 
-        by : (q : Bool) → eqb j at ≡ q → cond (isTowerOn p (getD l j d')) 1 (getD m₁ j 0) ≡ cond (isTowerOn p (getD l j d')) 1 (getD m j 0)
-        by true z =
-            let y : j ≡ at = eqb-true _ _ z in
-            let o : b ≡ isTowerOn p (getD l at d') = eb ∙ ap (isTowerOn p) (same-default l at d d' (omega arith)) in
-            rw (e₁, y, marked-here m at b (omega arith), ← o) (again b (getD m at 0))
-        by false z = rw (e₁, marked-other m at j b (eqb-false _ _ z))
-
-    sweep-on : Swept p l n m m₂
-    sweep-on = record { long = g .long ∙ rw e₁ (marked-long m at b); each = each }
-      where
-        each : (j : ℕ) (d' : Hold) → j < n → getD m₂ j 0 ≡ cond (isTowerOn p (getD l j d')) 1 (getD m j 0)
-        each j d' u = by (ltb j from) refl
-          where
-            by : (q : Bool) → ltb j from ≡ q → getD m₂ j 0 ≡ cond (isTowerOn p (getD l j d')) 1 (getD m j 0)
-            by true z = let y : j < from = ltb-true _ _ z in g .before j y ∙ sweep-first j d' u y
-            by false z = let y : from ≤ j = ltb-false _ _ z in g .each j d' y u ∙ sweep-rest j d' u
+        by : (q : Bool) → eqb j at ≡ q → cond (isTowerOn p (getD l j d')) 1 (getD m' j 0) ≡ cond (isTowerOn p (getD l j d')) 1 (getD m j 0)
+        by true z = let y : j ≡ at = eqb-true _ _ z in rw (em, y, marked-here m at b (omega arith), ← on-first d') (again b (getD m at 0))
+        by false z = rw (em, marked-other m at j b (eqb-false _ _ z))
 
 -- ---- all cells
 
@@ -220,80 +133,128 @@ unnamed-more s i r = by (r .owner)
     by (Owner.Funding n) = refl
     by (Owner.Watchtower t) = has-more
 
-pub record Releasing (s : List ℕ) (h : Held) (hm : List ℕ) (c n i : ℕ) (m₀ m : List ℕ) : Type 0 where
-  pub count : c ≡ min (h .count) 256
+-- what i cells have marked: of the last one, p, the records from j on are still to be looked at
+pub record Releasing (s : List ℕ) (h : Held) (hm : List ℕ) (c n : ℕ) (p : OutPoint) (i j : ℕ) (m₀ m : List ℕ) : Type 0 where
+  pub most : c ≡ min (h .count) 256
   pub whole : length (h .records) ≡ 256
   pub hints : Hints hm (h .records) c
   pub all : n ≡ fixCount s
   pub within : i ≤ n
   pub start : length m₀ ≡ 256
-  pub marks : Marks (span (pointOf s) 0 i) (h .records) c m
+  pub room : length m ≡ 256
+  pub before : (y : ℕ) (d : Hold) → y < c → y < j → eqb (getD m y 0) 0 ≡ isUnnamed (span (pointOf s) 0 i) (getD (h .records) y d)
+  pub after : (y : ℕ) (d : Hold) → y < c → j ≤ y → eqb (cond (isTowerOn p (getD (h .records) y d)) 1 (getD m y 0)) 0 ≡ isUnnamed (span (pointOf s) 0 i) (getD (h .records) y d)
 
-pub free-start : (s : List ℕ) (h : Held) {hm m : List ℕ} {c n : ℕ} → Hints hm (h .records) (min (h .count) 256) → Marks [] (h .records) (min (h .count) 256) m → c ≡ min (h .count) 256 → n ≡ fixCount s
-    → length (h .records) ≡ 256 → Releasing s h hm c n 0 m m
+pub free-start : (s : List ℕ) (h : Held) (p : OutPoint) {hm m : List ℕ} {c n : ℕ} → Hints hm (h .records) (min (h .count) 256) → Marks [] (h .records) (min (h .count) 256) m → c ≡ min (h .count) 256 → n ≡ fixCount s
+    → length (h .records) ≡ 256 → Releasing s h hm c n p 0 c m m
 unfolding span
-free-start s h k q e f l = record { count = e; whole = l; hints = rw e k; all = f; within = omega arith; start = q .room; marks = rw e q }
+free-start s h p k q e f l = record {
+  most = e;
+  whole = l;
+  hints = rw e k;
+  all = f;
+  within = omega arith;
+  start = q .room;
+  room = q .room;
+  before = λ y d u v. q .each y d (omega arith);
+  after = λ y d u v. absurd (omega arith);
+}
 
-module _ {s : List ℕ} {h : Held} {hm : List ℕ} {c n i : ℕ} {m₀ m : List ℕ} (k : Releasing s h hm c n i m₀ m) where
-  pub free-in : {j : ℕ} → j < c → j < 256
-  free-in l = let a = k .count in omega arith
+module _ {s : List ℕ} {h : Held} {hm : List ℕ} {c n : ℕ} {p : OutPoint} {i j : ℕ} {m₀ m : List ℕ} (k : Releasing s h hm c n p i j m₀ m) where
+  pub free-in : {y : ℕ} → y < c → y < 256
+  free-in l = let a = k .most in omega arith
 
-  pub free-room : {j : ℕ} → j < c → j < length m
-  free-room l = let a = k .count in let b = k .marks .room in omega arith
-
-  pub free-enough : length m ≡ 256
-  free-enough = k .marks .room
+  pub free-room : {y : ℕ} → y < c → y < length m
+  free-room l = let a = k .most in let b = k .room in omega arith
 
   pub free-long : length m ≡ length m₀
-  free-long = k .marks .room ∙ sym (k .start)
+  free-long = k .room ∙ sym (k .start)
 
-  -- a cell whose records are marked
-  free-more : {p : OutPoint} {m' : List ℕ} → i < n → p ≡ pointOf s i → Swept p (h .records) c m m' → Releasing s h hm c n (i + 1) m₀ m'
-  free-more {p} {m'} l ep w = record {
-    count = k .count;
+  -- one of the others
+  pub free-other : (d : Hold) {b : Bool} {m' : List ℕ} → j < c → b ≡ isTowerOn p (getD (h .records) j d) → m' ≡ marked m j b → Releasing s h hm c n p i (j + 1) m₀ m'
+  free-other d {b} {m'} l eb em = record {
+    most = k .most;
     whole = k .whole;
     hints = k .hints;
     all = k .all;
-    within = omega arith;
+    within = k .within;
     start = k .start;
-    marks = record { room = w .long ∙ k .marks .room; each = each };
+    room = rw em (marked-long m j b ∙ k .room);
+    before = λ y d' u v. by y d' u v (ltb y j) refl;
+    after = λ y d' u v. (let z : getD m' y 0 ≡ getD m y 0 = ap (λ (x : List ℕ). getD x y 0) em ∙ marked-other m j y b (λ q. omega arith) in rw z (k .after y d' u (omega arith)));
   }
     where
-      by : (t u : Bool) (v : ℕ) → eqb v 0 ≡ u → eqb (cond t 1 v) 0 ≡ cond t false u
-      by true u v e = refl
-      by false u v e = e
-
-      each : (j : ℕ) (d : Hold) → j < c → eqb (getD m' j 0) 0 ≡ isUnnamed (span (pointOf s) 0 (i + 1)) (getD (h .records) j d)
-      each j d b =
-          rw (w .each j d b, unnamed-more s i (getD (h .records) j d), ← ep)
-          (by (isTowerOn p (getD (h .records) j d)) (isUnnamed (span (pointOf s) 0 i) (getD (h .records) j d)) (getD m j 0) (k .marks .each j d b))
-
-  module _ {p : OutPoint} {at : ℕ} (l : i < n) (ep : p ≡ pointOf s i) (ea : at ≡ getD hm (2 * slotOf p) 0) where
-    pub free-none : c ≤ at → Releasing s h hm c n (i + 1) m₀ m
-    free-none b = let a = k .count in let w = k .whole in free-more l ep (sweep-none (k .hints) (omega arith) p m ea b)
-
-    module _ (d : Hold) {b : Bool} {m₁ : List ℕ} {from : ℕ} (q : at < c) (eb : b ≡ isTowerOn p (getD (h .records) at d)) (e₁ : m₁ ≡ marked m at b) (ef : from ≡ getD hm (2 * slotOf p + 1) 0 + 1) where
-      pub free-one : c ≤ from → Releasing s h hm c n (i + 1) m₀ m₁
-      free-one f =
-          let a = k .count in
+      by : (y : ℕ) (d' : Hold) → y < c → y < j + 1 → (q : Bool) → ltb y j ≡ q → eqb (getD m' y 0) 0 ≡ isUnnamed (span (pointOf s) 0 i) (getD (h .records) y d')
+      by y d' u v true z =
+          let x : y < j = ltb-true _ _ z in
+          let e : getD m' y 0 ≡ getD m y 0 = ap (λ (x : List ℕ). getD x y 0) em ∙ marked-other m j y b (λ q. omega arith) in
+          rw e (k .before y d' u x)
+      by y d' u v false z =
+          let x : j ≤ y = ltb-false _ _ z in
+          let at : y ≡ j = omega arith in
+          let a = k .most in
           let w = k .whole in
-          let r = k .marks .room in
-          free-more l ep (sweep-on (k .hints) (omega arith) p m ea d q (omega arith) eb e₁ ef (mark-nothing p (h .records) m₁ f))
+          let o : b ≡ isTowerOn p (getD (h .records) j d') = eb ∙ ap (isTowerOn p) (same-default (h .records) j d d' (omega arith)) in
+          let e : getD m' j 0 ≡ cond (isTowerOn p (getD (h .records) j d')) 1 (getD m j 0) = ap (λ (x : List ℕ). getD x j 0) em ∙ marked-here m j b (free-room l) ∙ ap (λ (t : Bool). cond t 1 (getD m j 0)) o in
+          rw (at, e) (k .after j d' l (omega arith))
 
-      pub free-all : {m₂ : List ℕ} → Marked p (h .records) from (min (h .count) 256) m₁ m₂ → Releasing s h hm c n (i + 1) m₀ m₂
-      free-all {m₂} g =
-          let a = k .count in
-          let w = k .whole in
-          let r = k .marks .room in
-          free-more l ep (sweep-on (k .hints) (omega arith) p m ea d q (omega arith) eb e₁ ef (rw (← a) at g))
+  -- a mark that stands, or comes, with one more cell
+  module _ (q : c ≤ j) (y : ℕ) (d : Hold) (u : y < c) where
+    next-cell : eqb (cond (isTowerOn (pointOf s i) (getD (h .records) y d)) 1 (getD m y 0)) 0 ≡ isUnnamed (span (pointOf s) 0 (i + 1)) (getD (h .records) y d)
+    next-cell = by (isTowerOn (pointOf s i) (getD (h .records) y d)) (isUnnamed (span (pointOf s) 0 i) (getD (h .records) y d)) (getD m y 0) (k .before y d u (omega arith))
+        ∙ sym (unnamed-more s i (getD (h .records) y d))
+      where
+        by : (t o : Bool) (v : ℕ) → eqb v 0 ≡ o → eqb (cond t 1 v) 0 ≡ cond t false o
+        by true o v e = refl
+        by false o v e = e
 
-  pub free-end : n ≤ i → Marks (points s) (h .records) (min (h .count) 256) m
-  free-end l =
-      let a = k .count in
+  -- the next cell
+  module _ {p' : OutPoint} {at : ℕ} (q : c ≤ j) (l : i < n) (ep : p' ≡ pointOf s i) (ea : at ≡ getD hm (2 * slotOf p') 0) where
+    long-enough : c ≤ length (h .records)
+    long-enough = let a = k .most in let w = k .whole in omega arith
+
+    pub free-none : c ≤ at → Releasing s h hm c n p' (i + 1) j m₀ m
+    free-none b = record {
+      most = k .most;
+      whole = k .whole;
+      hints = k .hints;
+      all = k .all;
+      within = omega arith;
+      start = k .start;
+      room = k .room;
+      before = λ y d u v. before y d u;
+      after = λ y d u v. absurd (omega arith);
+    }
+      where
+        before : (y : ℕ) (d : Hold) → y < c → eqb (getD m y 0) 0 ≡ isUnnamed (span (pointOf s) 0 (i + 1)) (getD (h .records) y d)
+        before y d u =
+            let z : isTowerOn (pointOf s i) (getD (h .records) y d) ≡ false = rw ep at (sweep-none (k .hints) long-enough p' m ea b y d u) in
+            sym (ap (λ (t : Bool). eqb (cond t 1 (getD m y 0)) 0) z) ∙ next-cell q y d u
+
+    pub free-first : (d : Hold) {b : Bool} {m' : List ℕ} {from : ℕ} → at < c → b ≡ isTowerOn p' (getD (h .records) at d) → m' ≡ marked m at b → from ≡ getD hm (2 * slotOf p' + 1) 0 + 1
+        → Releasing s h hm c n p' (i + 1) from m₀ m'
+    free-first d {b} {m'} {from} f eb em ef = record {
+      most = k .most;
+      whole = k .whole;
+      hints = k .hints;
+      all = k .all;
+      within = omega arith;
+      start = k .start;
+      room = rw em (marked-long m at b ∙ k .room);
+      before = λ y d' u v. ap (λ (x : ℕ). eqb x 0) (sweep-first (k .hints) long-enough p' m ea d f marks-enough eb em ef y d' u v) ∙ rw ep (next-cell q y d' u);
+      after = λ y d' u v. ap (λ (x : ℕ). eqb x 0) (sweep-rest (k .hints) long-enough p' m ea d f marks-enough eb em ef y d' u) ∙ rw ep (next-cell q y d' u);
+    }
+      where
+        marks-enough : c ≤ length m
+        marks-enough = let a = k .most in let w = k .room in omega arith
+
+  pub free-end : c ≤ j → n ≤ i → Marks (points s) (h .records) (min (h .count) 256) m
+  free-end q l =
+      let a = k .most in
       let b = k .all in
       let w = k .within in
       let z : i ≡ fixCount s = omega arith in
-      rw (← a, ← z) (k .marks)
+      rw (← z) (record { room = k .room; each = λ y d u. k .before y d (omega arith) (omega arith) })
 
 -- ---- the records without a mark stay
 

@@ -38,12 +38,6 @@ pub record Hints (m : List ℕ) (l : List Hold) (n : ℕ) : Type 0 where
 unfoldable pub marked : List ℕ → ℕ → Bool → List ℕ
 marked m at on = cond on (set m at 1) m
 
--- m' is m with the watchtower's on p marked, of the first n records in l those from a place on
-pub record Marked (p : OutPoint) (l : List Hold) (from n : ℕ) (m m' : List ℕ) : Type 0 where
-  pub long : length m' ≡ length m
-  pub before : (j : ℕ) → j < from → getD m' j 0 ≡ getD m j 0
-  pub each : (j : ℕ) (d : Hold) → from ≤ j → j < n → getD m' j 0 ≡ cond (isTowerOn p (getD l j d)) 1 (getD m j 0)
-
 -- of the first n records in l those have no mark that stay when the watchtower's holds on the cells go
 pub record Marks (cells : List OutPoint) (l : List Hold) (n : ℕ) (m : List ℕ) : Type 0 where
   pub room : length m ≡ 256

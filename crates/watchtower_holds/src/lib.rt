@@ -20,7 +20,7 @@ ghost use Rattle.out_points.specs.OutPoints.{points, slotOf};
 ghost use Rattle.out_points.specs.Tables.{keep, told};
 ghost use Rattle.hold_records.specs.declared.{Owner.Owner};
 ghost use Rattle.hold_records.specs.Holds.{recordsOf, isUnnamed, isTowerOn, renewAll, atMost256, releaseForWatchtower, holdForWatchtower};
-ghost use Rattle.watchtower_holds.specs.Places.{placeOf, noted, Hints, marked, Marked, Marks};
+ghost use Rattle.watchtower_holds.specs.Places.{placeOf, noted, Hints, marked, Marks};
 
 // How long the watchtower's cells stay held: a transaction of its not committed by then has left the pool, and its cells are free again.
 pub const WATCHTOWER_HOLD_MS: u64 = 1_800_000;
@@ -166,6 +166,7 @@ fn renew_from(h: Held, from: Held, cells: &[u8], end: Millis, hints: &mut [u8]) 
     while i < n {
         let point = out_points::point_of(cells, i);
         let owner = Owner::Watchtower(end);
+        let hold = Hold { point, owner };
         let last = g.count;
         let k = first(hints, point);
         i += 1;
@@ -173,20 +174,20 @@ fn renew_from(h: Held, from: Held, cells: &[u8], end: Millis, hints: &mut [u8]) 
             if MOST_RECORDS <= last {
                 return hold_records::refuse(h, Refusal::TooManyHolds);
             }
-            g.records[last] = Hold { point, owner };
+            g.records[last] = hold;
             g.count = last + 1;
             note(hints, point, last);
         } else {
             let x = g.records[k];
             if tower_on(x, point) {
-                g.records[k] = Hold { point, owner };
+                g.records[k] = hold;
             } else {
                 let others = next(hints, point);
                 let at = tower_place(g, point, others);
                 if MOST_RECORDS <= at {
                     return hold_records::refuse(h, Refusal::TooManyHolds);
                 }
-                g.records[at] = Hold { point, owner };
+                g.records[at] = hold;
                 g.count = counted(last, at);
                 note(hints, point, at);
             }
@@ -215,40 +216,36 @@ fn mark(marks: &mut [u8], at: usize, on: bool)
     }
 }
 
-// Marks the watchtower's records on p from `from` on.
-fn mark_from(h: Held, p: OutPoint, from: usize, marks: &mut [u8])
-    requires { ⌜ length (now marks) ≡ 256 ⌝ }
-    ensures { λ _. ⌜ Marked p (h .records) from (min (h .count) 256) (now (marks .entry)) (now (marks .exit)) ⌝ }
-{
-    let n = hold_records::used(h.count);
-    let mut i = from;
-    while i < n {
-        let x = h.records[i];
-        let on = tower_on(x, p);
-        mark(marks, i, on);
-        i += 1;
-    }
-}
-
-// Marks the watchtower's records on the cells. More than one is looked at only where a slot has more than one.
+// Marks the watchtower's records on the cells: for each cell the first of its slot, and from j on the others, which are looked at only where a slot has more than
+// one. It is one loop, since a function for the others would be handed a copy of the table for each cell.
 fn mark_all(h: Held, cells: &[u8], hints: &[u8], marks: &mut [u8])
     requires { ⌜ Hints (now hints) (h .records) (min (h .count) 256) × Marks [] (h .records) (min (h .count) 256) (now marks) ⌝ }
     ensures { λ _. ⌜ Marks (points (now (cells .entry))) (h .records) (min (h .count) 256) (now (marks .exit)) ⌝ }
 {
     let count = hold_records::used(h.count);
     let n = molecule::fix_count(cells) as usize;
+    let mut p = out_points::point_of(cells, 0);
     let mut i: usize = 0;
-    while i < n {
-        let p = out_points::point_of(cells, i);
-        let k = first(hints, p);
-        i += 1;
-        if k < count {
-            let x = h.records[k];
+    let mut j = count;
+    loop {
+        if j < count {
+            let x = h.records[j];
             let on = tower_on(x, p);
-            mark(marks, k, on);
-            let others = next(hints, p);
-            if others < count {
-                mark_from(h, p, others, marks);
+            mark(marks, j, on);
+            j += 1;
+        } else {
+            if n <= i {
+                return;
+            }
+            p = out_points::point_of(cells, i);
+            i += 1;
+            let k = first(hints, p);
+            if k < count {
+                let x = h.records[k];
+                let on = tower_on(x, p);
+                mark(marks, k, on);
+                let others = next(hints, p);
+                j = others;
             }
         }
     }

@@ -26,8 +26,8 @@ renew-from-spec =
     (λ c κs. search ways)  -- refuse-requires
     (λ c. search ways)  -- same-length
     (λ c. search ways)  -- returns
-    (λ c. search ways)  -- mul-t23
-    (λ c. search ways)  -- element-set-from-g
+    (λ c. search ways)  -- mul-hold
+    (λ c. search ways)  -- element-set-from-hold
     (λ c. search ways)  -- add-g
     (λ c κs. search ways)  -- note-requires
     (λ c. search ways)  -- loop-less
@@ -35,8 +35,8 @@ renew-from-spec =
     (λ c. search ways)  -- mul-x
     (λ c. search ways)  -- element-copy-out-x
     (λ c κs. search ways)  -- tower-on-requires
-    (λ c. search ways)  -- mul-t35
-    (λ c. search ways)  -- element-set-from-g-2
+    (λ c. search ways)  -- mul-hold-2
+    (λ c. search ways)  -- element-set-from-hold-2
     (λ c. search ways)  -- loop-less-2
     (λ c. search ways)  -- loop-again-2
     (λ c κs. search ways)  -- next-requires
@@ -44,8 +44,8 @@ renew-from-spec =
     (λ c κs. search ways)  -- refuse-requires-2
     (λ c. search ways)  -- same-length-2
     (λ c. search ways)  -- returns-2
-    (λ c. search ways)  -- mul-t44
-    (λ c. search ways)  -- element-set-from-g-3
+    (λ c. search ways)  -- mul-hold-3
+    (λ c. search ways)  -- element-set-from-hold-3
     (λ c κs. search ways)  -- counted-requires
     (λ c κs. search ways)  -- note-requires-2
     (λ c. search ways)  -- loop-less-3
