@@ -5,7 +5,7 @@ use crate::library;
 use crate::parts::{bytes, damaged, list, one_less, parts, smaller_bytes, Output, Tx};
 use crate::random::Rng;
 use crate::report::{Outcome, Source};
-use crate::update::expected;
+use crate::update::{expected, PANICS};
 use crate::updates::{channel, good, in_force, read_amount, Update};
 use oracle::calls::hex;
 use oracle::original::update::{InForce, Verdict};
@@ -56,6 +56,20 @@ fn sums(m: Measure, start: &Tx, end: &Tx, surpluses: &[u128], kept: &[(Output, V
     let remains = surpluses.iter().copied().chain([growth]).chain(added).fold(Wide::default(), Wide::add);
     let brought = kept.iter().map(|(o, d)| m.0(o, d)).fold(Wide::default(), Wide::add);
     remains == brought
+}
+
+/// Of a list of answers: it is the original's only where all of them are.
+fn source_of(verdicts: &[Verdict]) -> Source {
+    let has = |kind: fn(&Verdict) -> bool| verdicts.iter().any(kind);
+    if has(|v| *v == Verdict::Panic) {
+        Source::Intended(PANICS)
+    } else if has(|v| matches!(v, Verdict::Unreadable(_))) {
+        Source::Reader
+    } else if has(|v| matches!(v, Verdict::Accept(..))) {
+        Source::Acceptance
+    } else {
+        Source::Original
+    }
 }
 
 impl Input {
@@ -114,8 +128,7 @@ impl Input {
                     left[5 * k + 1..][..values.len()].copy_from_slice(&values);
                 }
                 let accepted = verdicts.iter().filter(|v| matches!(v, Verdict::Accept(..))).count();
-                let source = if accepted == 0 { Source::Original } else { Source::Acceptance };
-                ((0, vec![count as u64, accepted as u64, at as u64]), source)
+                ((0, vec![count as u64, accepted as u64, at as u64]), source_of(&verdicts))
             }
         };
         let differs = (number, values) != (wanted.0, library::values(&wanted.1)) || words != left;
