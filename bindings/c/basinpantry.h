@@ -1,5 +1,5 @@
 /* Basinpantry: judges the funding transactions that a peer proposes when a CKB payment channel is opened. Every function here is a thin one over the
-   proved library; link target/staticlib/libcapi.a (`rt staticlib capi`).
+   proved library; link target/staticlib/libcapi.a (`tools/staticlib`).
 
    Lent bytes are a pointer and a length, and the caller answers for both: nothing can be proved of them here. The pointer may be NULL where the length is 0. A
    buffer that is written to overlaps nothing else that is lent to the same call.
