@@ -316,6 +316,11 @@ pub(crate) fn record(output: &[u8], data: &[u8]) -> Vec<u8> {
     molecule::table(&[output, &molecule::bytes(data)])
 }
 
+/// How many bytes [`record`] has.
+pub(crate) fn record_size(output: &[u8], data: &[u8]) -> usize {
+    16 + output.len() + data.len()
+}
+
 /// A list of out points, as the tables' calls read and write it.
 pub(crate) fn write_out_points(points: &[OutPoint]) -> Vec<u8> {
     molecule::fixvec(points.iter().map(OutPoint::to_bytes))

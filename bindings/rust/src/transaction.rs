@@ -107,8 +107,8 @@ impl Transaction {
             molecule::fixvec(&self.header_deps),
             molecule::fixvec(self.inputs.iter().map(CellInput::to_bytes)),
             molecule::table(&outputs),
-            bytes_vec(&self.outputs_data),
-            bytes_vec(&self.witnesses),
+            molecule::bytes_vec(&self.outputs_data),
+            molecule::bytes_vec(&self.witnesses),
         ]
     }
 
@@ -142,12 +142,6 @@ impl Transaction {
     pub fn amount(&self, i: usize) -> Option<u128> {
         amount_of(self.outputs_data.get(i)?)
     }
-}
-
-/// A list of byte strings, each with its count.
-fn bytes_vec(entries: &[Vec<u8>]) -> Vec<u8> {
-    let items: Vec<Vec<u8>> = entries.iter().map(|entry| molecule::bytes(entry)).collect();
-    molecule::table(&items)
 }
 
 /// A list of a transaction, by the number that the library has for it.

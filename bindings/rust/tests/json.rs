@@ -193,7 +193,7 @@ fn bad_json() {
             "end",
             "\"witnesses\": [\"0x\", \"0xff\"]\n}\n",
             "\"witnesses\": [\"0x\", \"0xff\"",
-            "line 18, column 29: a comma or ] is expected, and the file ends",
+            "line 18, column 29: a comma or ] is expected, and the text ends",
         ),
     ] {
         let text = SMALL.replacen(from, to, 1);
@@ -295,7 +295,11 @@ const NODE_ERROR: &str = "\"error\": {\"code\": -301, \"message\": \"Database: c
 fn bad_records() {
     let entry = read("records.json");
     for (name, text, why) in [
-        ("object", "{}".to_string(), "line 1, column 1: a list is expected, not an object"),
+        (
+            "object",
+            "{}".to_string(),
+            "line 1, column 1: a list of records, or an answer of get_live_cell or get_cells, is expected, not an object",
+        ),
         ("number", "[1]".to_string(), "line 1, column 2: an object is expected, not a number without quotes"),
         ("no_cell", "[{\"status\": \"live\"}]".to_string(), "line 1, column 2: the cell is live, and the field \"cell\" is missing"),
         ("status", "[{\"status\": \"lost\"}]".to_string(), "line 1, column 13: status is one of live, dead, unknown, not \"lost\""),

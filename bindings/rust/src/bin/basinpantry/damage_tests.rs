@@ -1,6 +1,6 @@
 //! No file stops the program: the examples, each with some bytes changed, moved or cut off.
 use crate::files::Input;
-use crate::make_case::{Parts, make};
+use crate::make_case::{Parts, make_file};
 use crate::replay_cases::replay_cases;
 use crate::show::show;
 use std::path::Path;
@@ -88,7 +88,7 @@ fn made_or_complained_of() {
             rate: 1000,
             records: Some(file(5)),
         };
-        match make(&parts) {
+        match make_file(&parts) {
             Ok((bytes, _)) => {
                 let case = basinpantry::CaseFile::from_bytes(&bytes).expect("a case file");
                 let _ = case.judge();

@@ -9,6 +9,8 @@ basinpantry judges the funding transactions that a peer proposes when a CKB paym
   basinpantry replay CASE...      judge a list of updates, and add up what they leave over
 
 basinpantry COMMAND --help says more. A FILE of - is standard input. After -- no word is an option.
+Of a file or of standard input at most 8 MiB are read; --max-bytes N, with every command, sets another bound, up to 1 GiB.
+JSON is nested over 64 levels at most.
 A case file may have any length; only check --line, as the proved program check_update, answers 3 to one of more than 65,536 bytes.
 Exit status: 0 accepted or done, 1 refused, 2 bad usage or a bad file.
 ";

@@ -1,14 +1,12 @@
 //! The program `basinpantry`: judges, makes and shows case files.
 #![deny(unsafe_code)]
 mod arguments;
+mod case_parts;
 #[cfg(test)]
 mod damage_tests;
 mod files;
 mod help;
-mod json;
 mod make_case;
-mod node;
-mod reason;
 mod repeats;
 mod replay_cases;
 mod show;
@@ -17,7 +15,7 @@ mod words;
 
 use arguments::{Arguments, usage};
 use basinpantry::{CaseFile, MAX_CASE_BYTES, check_case};
-use files::{Failure, Input};
+use files::Failure;
 use make_case::Parts;
 use std::ffi::{OsStr, OsString};
 use std::io::Write;
@@ -51,14 +49,6 @@ fn check(words: &[OsString]) -> Result<Done, Failure> {
     Ok(printed(words::verdict(&case, &answer) + "\n", u8::from(answer.is_err())))
 }
 
-fn rate(text: &str) -> Option<u64> {
-    match text.strip_prefix("0x") {
-        Some(digits) if digits.bytes().all(|b| b.is_ascii_hexdigit()) => u64::from_str_radix(digits, 16).ok(),
-        None if text.bytes().all(|b| b.is_ascii_digit()) => text.parse().ok(),
-        _ => None,
-    }
-}
-
 /// Whether a file that is read is the one that is written to, whatever names the two have.
 fn is_same(input: &OsStr, output: Option<&OsStr>) -> bool {
     let place = |path: &OsStr| if path == "-" { None } else { std::fs::canonicalize(path).ok() };
@@ -71,13 +61,7 @@ fn make(words: &[OsString]) -> Result<Done, Failure> {
     if let Some(word) = arguments.rest.first() {
         return usage("case", format!("{} belongs to no option", word.to_string_lossy()));
     }
-    let rate = match arguments.option("--rate").map(|text| text.to_string_lossy()) {
-        None => return usage("case", "--rate is missing"),
-        Some(text) => match rate(&text) {
-            Some(rate) => rate,
-            None => return usage("case", format!("--rate is a number below 2^64, not {text}")),
-        },
-    };
+    let Some(rate) = arguments.number("--rate")? else { return usage("case", "--rate is missing") };
     if let Some((name, _)) = arguments.inputs().find(|(_, path)| is_same(path, arguments.option("-o"))) {
         return usage("case", format!("-o is the file of {name}, which would be overwritten"));
     }
@@ -90,7 +74,7 @@ fn make(words: &[OsString]) -> Result<Done, Failure> {
         rate,
         records: arguments.file("--records")?,
     };
-    let (bytes, notes) = make_case::make(&parts)?;
+    let (bytes, notes) = make_case::make_file(&parts)?;
     match arguments.option("-o").filter(|path| *path != "-") {
         None => Ok(Done { out: bytes, notes, status: 0 }),
         Some(path) => {
@@ -108,11 +92,7 @@ fn show(words: &[OsString]) -> Result<Done, Failure> {
 
 fn replay(words: &[OsString]) -> Result<Done, Failure> {
     let arguments = Arguments::read("replay", words, &[], &[])?;
-    if arguments.rest.is_empty() {
-        return usage("replay", "no case file is named");
-    }
-    let files: Vec<Input> = arguments.rest.iter().map(|path| Input::read(path)).collect::<Result<_, _>>()?;
-    let (text, all) = replay_cases::replay_cases(&files)?;
+    let (text, all) = replay_cases::replay_cases(&arguments.files()?)?;
     Ok(printed(text, u8::from(!all)))
 }
 

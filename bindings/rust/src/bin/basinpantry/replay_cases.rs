@@ -23,22 +23,23 @@ pub fn replay_cases(files: &[Input]) -> Result<(String, bool), Failure> {
         Ok(replayed) => replayed,
         Err(why) => return Err(Failure(format!("the list of updates is refused ({}): {why}", why.number()))),
     };
+    drop(updates);
+    drop(records);
+    let (started, typed) = (first.ours.is_some(), first.udt.is_some());
     let mut out = String::new();
     let mut in_force = first.ours.clone();
-    for ((file, case), answer) in files.iter().zip(&cases).zip(&replayed.answers) {
+    for ((file, mut case), answer) in files.iter().zip(cases).zip(&replayed.answers) {
         // judged against what was then in force, whatever the file has
-        let case = CaseFile { ours: in_force.clone(), ..case.clone() };
+        case.ours = in_force;
         out += &format!("{}: {}\n", file.name, words::verdict(&case, answer));
-        if answer.is_ok() {
-            in_force = Some(case.peer);
-        }
+        in_force = if answer.is_ok() { Some(case.peer) } else { case.ours };
     }
     let accepted = replayed.answers.iter().filter(|answer| answer.is_ok()).count();
     out += &format!("\naccepted: {accepted} of {}\n", replayed.answers.len());
-    out += &format!("sum of their surpluses: {}", words::surplus(replayed.capacity, replayed.token, first.udt.is_some()));
+    out += &format!("sum of their surpluses: {}", words::surplus(replayed.capacity, replayed.token, typed));
     out += &match replayed.in_force.and_then(|k| files.get(k)) {
         Some(file) => format!("\nin force: the peer's transaction of {}\n", file.name),
-        None if first.ours.is_none() => "\nin force: none, as at the start\n".to_string(),
+        None if !started => "\nin force: none, as at the start\n".to_string(),
         None => "\nin force: the transaction at the start\n".to_string(),
     };
     Ok((out, accepted == replayed.answers.len()))
