@@ -123,13 +123,20 @@ fn what_stands_around_a_transaction() {
     }
 }
 
+/// What a failure ends with where the case was there before.
+fn still_there(out: &str) -> String {
+    format!("basinpantry: note: the old {out} is still there\n")
+}
+
 /// The complaint about a peer's transaction, without the file's name.
 fn complaint(name: &str, text: &[u8]) -> String {
     let path = file(&format!("bad_{name}.json"), text);
-    let made = make(&file("bad.case", ""), &[("--peer", &path)]);
+    let out = file("bad.case", "");
+    let made = make(&out, &[("--peer", &path)]);
     assert_eq!((made.status, made.out.as_str()), (2, ""), "{name}");
     let start = format!("basinpantry: {path}: ");
-    made.err.strip_prefix(&start).unwrap_or_else(|| panic!("{name}: {}", made.err)).trim_end().to_string()
+    let why = made.err.strip_prefix(&start).unwrap_or_else(|| panic!("{name}: {}", made.err));
+    why.strip_suffix(&still_there(&out)).unwrap_or_else(|| panic!("{name}: {}", made.err)).trim_end().to_string()
 }
 
 #[test]
@@ -333,7 +340,7 @@ fn bad_records() {
     ] {
         let made = with_records(name, &text);
         assert_eq!((made.status, made.out.as_str()), (2, ""), "{name}");
-        assert!(made.err.ends_with(&format!("records_{name}.json: {why}\n")), "{name}: {}", made.err);
+        assert!(made.err.contains(&format!("records_{name}.json: {why}\n")), "{name}: {}", made.err);
     }
 }
 
@@ -357,8 +364,10 @@ fn another_kind_of_file() {
 #[test]
 fn scripts() {
     let path = file("script.json", "{\"code_hash\": \"0x00\", \"hash_type\": \"type\", \"args\": \"0x\"}");
-    let made = make(&file("script.case", ""), &[("--lock", &path)]);
-    assert_eq!(made.err, format!("basinpantry: {path}: line 1, column 15: a hash has 32 bytes, and this has 1\n"));
-    let made = make(&file("script.case", ""), &[("--source", &file("script.bin", [1, 2, 3]))]);
-    assert!(made.err.ends_with("script.bin: neither the bytes of a script nor JSON\n"), "{}", made.err);
+    let out = file("script.case", "");
+    let made = make(&out, &[("--lock", &path)]);
+    let why = format!("basinpantry: {path}: line 1, column 15: a hash has 32 bytes, and this has 1\n");
+    assert_eq!(made.err, why + &still_there(&out));
+    let made = make(&out, &[("--source", &file("script.bin", [1, 2, 3]))]);
+    assert!(made.err.contains("script.bin: neither the bytes of a script nor JSON\n"), "{}", made.err);
 }

@@ -58,6 +58,10 @@ The answer of the RPC's get_live_cell with data may stand for an entry too. One 
 A note names an added input whose out point stands earlier among the peer's inputs: it is not refused, and its
 record is counted again.
 
+The file of -o is written beside and then given its name, so that the old one or the new one stands at any time;
+the old one's permissions stay. A run that is killed may leave a file .basinpantry-*.tmp there. A pipe or a device
+is written to as it is.
+
 A case file may have any length. The proved program check_update and check --line answer 3 to one of more than
 65,536 bytes, which a note then says.
 ";

@@ -7,6 +7,7 @@ mod damage_tests;
 mod files;
 mod help;
 mod make_case;
+mod output;
 mod repeats;
 mod replay_cases;
 mod show;
@@ -17,6 +18,7 @@ use arguments::{Arguments, usage};
 use basinpantry::{CaseFile, MAX_CASE_BYTES, check_case};
 use files::Failure;
 use make_case::Parts;
+use output::Output;
 use std::ffi::{OsStr, OsString};
 use std::io::Write;
 use std::process::ExitCode;
@@ -49,23 +51,16 @@ fn check(words: &[OsString]) -> Result<Done, Failure> {
     Ok(printed(words::verdict(&case, &answer) + "\n", u8::from(answer.is_err())))
 }
 
-/// Whether a file that is read is the one that is written to, whatever names the two have.
-fn is_same(input: &OsStr, output: Option<&OsStr>) -> bool {
-    let place = |path: &OsStr| if path == "-" { None } else { std::fs::canonicalize(path).ok() };
-    output.and_then(place).is_some_and(|output| place(input) == Some(output))
-}
+/// The options that name the parts of a case.
+const PARTS: [&str; 7] = ["--ours", "--peer", "--lock", "--type", "--source", "--rate", "--records"];
 
-fn make(words: &[OsString]) -> Result<Done, Failure> {
-    let options = ["--ours", "--peer", "--lock", "--type", "--source", "--rate", "--records", "-o"];
-    let arguments = Arguments::read("case", words, &[], &options)?;
+/// The parts of a case that the arguments name.
+fn parts(command: &str, arguments: &Arguments) -> Result<Parts, Failure> {
     if let Some(word) = arguments.rest.first() {
-        return usage("case", format!("{} belongs to no option", word.to_string_lossy()));
+        return usage(command, format!("{} belongs to no option", word.to_string_lossy()));
     }
-    let Some(rate) = arguments.number("--rate")? else { return usage("case", "--rate is missing") };
-    if let Some((name, _)) = arguments.inputs().find(|(_, path)| is_same(path, arguments.option("-o"))) {
-        return usage("case", format!("-o is the file of {name}, which would be overwritten"));
-    }
-    let parts = Parts {
+    let Some(rate) = arguments.number("--rate")? else { return usage(command, "--rate is missing") };
+    Ok(Parts {
         ours: arguments.file("--ours")?,
         peer: arguments.needed("--peer")?,
         lock: arguments.needed("--lock")?,
@@ -73,15 +68,31 @@ fn make(words: &[OsString]) -> Result<Done, Failure> {
         source: arguments.needed("--source")?,
         rate,
         records: arguments.file("--records")?,
+    })
+}
+
+fn make(words: &[OsString]) -> Result<Done, Failure> {
+    let arguments = Arguments::read("case", words, &[], &[&PARTS[..], &["-o"]].concat())?;
+    let name = arguments.option("-o").unwrap_or(OsStr::new("-")).to_string_lossy();
+    let output = Output::of(arguments.option("-o")).map_err(|why| Failure(format!("{name}: {why}")))?;
+    if let Some((option, _)) = arguments.inputs().find(|(_, path)| output.is_file_of(path)) {
+        return usage("case", format!("-o is the file of {option}, which would be overwritten"));
+    }
+    if output.is_terminal() {
+        return usage("case", "a case file is no text for a terminal: name a file with -o, or send it into a pipe");
+    }
+    // whoever goes on with the file after a failure goes on with an old one
+    let still_there = |Failure(why)| match output.is_old_file() {
+        true => Failure(format!("{why}\nbasinpantry: note: the old {name} is still there")),
+        false => Failure(why),
     };
-    let (bytes, notes) = make_case::make_file(&parts)?;
-    match arguments.option("-o").filter(|path| *path != "-") {
-        None => Ok(Done { out: bytes, notes, status: 0 }),
-        Some(path) => {
-            let name = path.to_string_lossy();
-            std::fs::write(path, &bytes).map_err(|why| Failure(format!("{name}: {why}")))?;
-            Ok(Done { out: format!("{name}: {} bytes\n", bytes.len()).into_bytes(), notes, status: 0 })
-        }
+    let (bytes, mut notes) = parts("case", &arguments).and_then(|parts| make_case::make_file(&parts)).map_err(still_there)?;
+    if let Some(why) = output.write(&bytes).map_err(|why| output::not_written(&name, &why, &output))? {
+        notes.push(format!("{name} is written, and may not outlast a power cut: {why}"));
+    }
+    match output {
+        Output::Standard => Ok(Done { out: bytes, notes, status: 0 }),
+        _ => Ok(Done { out: format!("{name}: {} bytes\n", bytes.len()).into_bytes(), notes, status: 0 }),
     }
 }
 
