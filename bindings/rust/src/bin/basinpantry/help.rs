@@ -40,7 +40,7 @@ Makes a case file: an update with everything that decides it.
   --type FILE      the expected token type, a script; without it: untyped
   --source FILE    our source lock, a script
   --rate N         the fee rate in shannons per 1000 bytes, decimal or 0x and hex digits
-  --records FILE   the cells that the peer's added inputs spend, in their order; without it: none
+  --records FILE   the cells that the peer's added inputs spend; without it: none
   -o CASE          where the case file goes, none of the files above; without it, or with -: standard output
 
 A transaction is JSON as CKB's RPC and ckb-cli print it (version, cell_deps, header_deps, inputs, outputs,
@@ -48,12 +48,17 @@ outputs_data, witnesses; numbers and bytes as 0x and hex digits), also inside of
 ({\"transaction\": {...}, ...}), or its Molecule bytes. A script is JSON with code_hash, hash_type (data, type,
 data1, data2) and args, or its Molecule bytes.
 
-The records are a list in JSON. An entry is null for a cell that is not live, or has an output, its data,
-and, if it is to be compared with the input's, the out_point:
-
-  [{\"output\": {\"capacity\": \"0x2540be4cd\", \"lock\": {...}, \"type\": null}, \"data\": \"0x\"}, null]
-
-The answer of the RPC's get_live_cell with data may stand for an entry too. One in which the node failed is an error.
+The records are JSON, and belong to the added inputs
+  - by place: a list with an entry for each, in the inputs' order. An entry is null for a cell that is not live, or
+    has an output, its data, and, if it is to be compared with the input's, the out_point:
+      [{\"output\": {\"capacity\": \"0x2540be4cd\", \"lock\": {...}, \"type\": null}, \"data\": \"0x\"}, null]
+    An answer of the RPC's get_live_cell with data may be an entry too, or stand alone for one input;
+  - by id: where the entries are answers with an id, as in a batch, they are taken in the order of their ids,
+    whatever order they stand in. An id that stands twice is an error, and so are answers of which only some have
+    one, and a gap between ids where there is not one answer for each added input;
+  - by out point: from an indexer's answer (get_cells with data) each input's cell is looked up. One that is not
+    listed is taken for not live, and a note says so.
+An answer in which the node failed is an error.
 
 A note names an added input whose out point stands earlier among the peer's inputs: it is not refused, and its
 record is counted again.
