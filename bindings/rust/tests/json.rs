@@ -241,6 +241,21 @@ fn bad_files() {
     assert_eq!(complaint("empty", b""), "neither the bytes of a transaction nor JSON");
 }
 
+/// Texts that are nearly JSON, where a transaction, records or a case file is wanted.
+#[test]
+fn texts_of_another_kind() {
+    let mark = "the text begins with a byte order mark, which JSON has not; save it as UTF-8 without one";
+    let yaml = "the text looks like YAML, not JSON; ckb-cli prints JSON with --output-format json";
+    let marked = format!("\u{feff}{SMALL}");
+    for (name, text, why) in [("mark", marked.as_str(), mark), ("yaml", "version: 0x0\ncell_deps: []\n", yaml)] {
+        assert_eq!(complaint(name, text.as_bytes()), format!("line 1, column 1: {why}"));
+        let path = file(&format!("kind_{name}.txt"), text);
+        assert_eq!(run(&["show", &path]).err, format!("basinpantry: {path}: line 1, column 1: {why}\n"));
+        assert_eq!(run(&["check", &path]).err, format!("basinpantry: {path}: no case file: {why}\n"));
+        assert!(with_records(name, text).err.contains(&format!("line 1, column 1: {why}\n")));
+    }
+}
+
 /// Verbosity 1 of `get_transaction` has the status alone.
 #[test]
 fn without_the_transaction() {
@@ -349,7 +364,7 @@ fn bad_records() {
 fn another_kind_of_file() {
     for words in [&["check", "json/peer.json"][..], &["replay", "json/peer.json"], &["replay", "cases/first.case", "json/peer.json"]] {
         let ran = run(words);
-        let why = "basinpantry: json/peer.json: this is JSON; make a case file of it with `basinpantry case`\n";
+        let why = "basinpantry: json/peer.json: this is JSON; make a case file of it with `basinpantry case`, or judge it with `basinpantry judge`\n";
         assert_eq!((ran.status, ran.out.as_str(), ran.err.as_str()), (2, "", why), "{words:?}");
     }
     assert_eq!(run(&["check", "--line", "json/peer.json"]).out, "3\n");

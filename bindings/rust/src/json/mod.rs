@@ -64,6 +64,18 @@ pub fn is_json(text: impl AsRef<[u8]>) -> bool {
     Value::read(text.as_ref()).is_ok()
 }
 
+/// What a text is that was taken for JSON, where it has a byte order mark or looks like YAML.
+///
+/// ```
+/// use basinpantry::json::another_kind;
+///
+/// assert_eq!(another_kind("version: 0x0\n"), Some("the text looks like YAML, not JSON; ckb-cli prints JSON with --output-format json"));
+/// assert_eq!(another_kind("{}"), None);
+/// ```
+pub fn another_kind(text: impl AsRef<[u8]>) -> Option<&'static str> {
+    text::another_kind(text.as_ref())
+}
+
 /// A transaction: its fields, also inside of what `get_transaction` answers (with the hex of verbosity 0 or the fields of verbosity 2) or of a file of ckb-cli.
 ///
 /// ```

@@ -53,8 +53,11 @@ impl Input {
     /// The case that it holds.
     pub fn case(&self) -> Result<CaseFile, Failure> {
         CaseFile::from_bytes(&self.bytes).map_err(|why| match json::is_json(&self.bytes) {
-            true => self.fail("this is JSON; make a case file of it with `basinpantry case`"),
-            false => self.fail(format!("no case file: {why}")),
+            true => self.fail("this is JSON; make a case file of it with `basinpantry case`, or judge it with `basinpantry judge`"),
+            false => match json::another_kind(&self.bytes) {
+                Some(what) => self.fail(format!("no case file: {what}")),
+                None => self.fail(format!("no case file: {why}")),
+            },
         })
     }
 
@@ -63,10 +66,15 @@ impl Input {
         Failure(format!("{}: {why}", self.name))
     }
 
-    /// Whether it begins as JSON does. A transaction's or script's bytes may begin so too, as their first byte is the low one of their size: whether they are
-    /// one is asked before.
-    pub fn looks_like_json(&self) -> bool {
+    /// What it is instead of bytes that it was looked at as: JSON to be read, or nothing, with the complaint that it is then.
+    ///
+    /// It begins as JSON does, or as what is taken for JSON. A transaction's or script's bytes may begin so too, as their first byte is the low one of their size:
+    /// whether they are one is asked before.
+    pub fn json_or(&self, why: impl std::fmt::Display) -> Result<&[u8], Failure> {
         let start = self.bytes.iter().find(|b| !b.is_ascii_whitespace());
-        matches!(start, Some(b'{' | b'[' | b'"' | b'n'))
+        match matches!(start, Some(b'{' | b'[' | b'"' | b'n')) || json::another_kind(&self.bytes).is_some() {
+            true => Ok(&self.bytes),
+            false => Err(self.fail(why)),
+        }
     }
 }

@@ -8,7 +8,8 @@ basinpantry judges the funding transactions that a peer proposes when a CKB paym
   basinpantry show FILE           show a transaction or a case as a table
   basinpantry replay CASE...      judge a list of updates, and add up what they leave over
 
-basinpantry COMMAND --help says more. A FILE of - is standard input. After -- no word is an option.
+basinpantry COMMAND --help, or basinpantry help COMMAND, says more; basinpantry --version (-V) the version.
+A FILE of - is standard input. An option's value follows it, or stands behind a =. After -- no word is an option.
 Of a file or of standard input at most 8 MiB are read; --max-bytes N, with every command, sets another bound, up to 1 GiB.
 JSON is nested over 64 levels at most.
 A case file may have any length; only check --line, as the proved program check_update, answers 3 to one of more than 65,536 bytes.
@@ -60,8 +61,8 @@ The records are JSON, and belong to the added inputs
     listed is taken for not live, and a note says so.
 An answer in which the node failed is an error.
 
-A note names an added input whose out point stands earlier among the peer's inputs: it is not refused, and its
-record is counted again.
+A note names what is not refused and what the chain refuses: an added input whose out point stands earlier among
+the peer's inputs (its record is counted again), and data entries that are not one for each output.
 
 The file of -o is written beside and then given its name, so that the old one or the new one stands at any time;
 the old one's permissions stay. A run that is killed may leave a file .basinpantry-*.tmp there. A pipe or a device
@@ -80,8 +81,9 @@ the verdict. An input or output is shared (ours has the same), changed, or added
 
   --full    whole hashes and args, not only their first and last bytes
 
-A note names an added input whose out point stands earlier among the peer's inputs: it is not refused, and its
-record is counted again. A case file may have any length.
+A note names what is not refused and what the chain refuses: an added input whose out point stands earlier among
+the peer's inputs (its record is counted again), and data entries that are not one for each output.
+A case file may have any length.
 
 Exit status: 0 where it could be shown, whatever the verdict is; 2 bad usage or a bad file.
 ";

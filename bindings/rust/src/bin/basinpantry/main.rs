@@ -7,8 +7,8 @@ mod damage_tests;
 mod files;
 mod help;
 mod make_case;
+mod notes;
 mod output;
-mod repeats;
 mod replay_cases;
 mod show;
 mod table;
@@ -107,18 +107,28 @@ fn replay(words: &[OsString]) -> Result<Done, Failure> {
     Ok(printed(text, u8::from(!all)))
 }
 
+/// A command by its name, with its help.
+fn command_of(name: &OsStr) -> Result<(&'static str, Command), Failure> {
+    match &*name.to_string_lossy() {
+        "check" => Ok((help::CHECK, check)),
+        "case" => Ok((help::CASE, make)),
+        "show" => Ok((help::SHOW, show)),
+        "replay" => Ok((help::REPLAY, replay)),
+        other => Err(Failure(format!("there is no command {other}; try: basinpantry --help"))),
+    }
+}
+
 fn run(command: &OsStr, rest: &[OsString]) -> Result<Done, Failure> {
     let asks_for_help = rest.iter().take_while(|word| *word != "--").any(|word| word == "--help" || word == "-h");
-    let (help, command_of): (&str, Command) = match &*command.to_string_lossy() {
-        "check" => (help::CHECK, check),
-        "case" => (help::CASE, make),
-        "show" => (help::SHOW, show),
-        "replay" => (help::REPLAY, replay),
-        "--help" | "-h" | "help" => return Ok(printed(help::HELP, 0)),
-        "--version" => return Ok(printed(concat!("basinpantry ", env!("CARGO_PKG_VERSION"), "\n"), 0)),
-        other => return Err(Failure(format!("there is no command {other}; try: basinpantry --help"))),
-    };
-    if asks_for_help { Ok(printed(help, 0)) } else { command_of(rest) }
+    match (&*command.to_string_lossy(), rest) {
+        ("help", [name, ..]) => Ok(printed(command_of(name)?.0, 0)),
+        ("--help" | "-h" | "help", _) => Ok(printed(help::HELP, 0)),
+        ("--version" | "-V", _) => Ok(printed(concat!("basinpantry ", env!("CARGO_PKG_VERSION"), "\n"), 0)),
+        _ => {
+            let (help, command) = command_of(command)?;
+            if asks_for_help { Ok(printed(help, 0)) } else { command(rest) }
+        }
+    }
 }
 
 fn main() -> ExitCode {
@@ -141,6 +151,8 @@ fn main() -> ExitCode {
             let mut stdout = std::io::stdout().lock();
             match stdout.write_all(&done.out).and_then(|()| stdout.flush()) {
                 Ok(()) => ExitCode::from(done.status),
+                // whoever reads has seen enough
+                Err(why) if why.kind() == std::io::ErrorKind::BrokenPipe => ExitCode::from(done.status),
                 Err(why) => complain(&format!("standard output: {why}")),
             }
         }

@@ -1,7 +1,7 @@
 //! `case`: a case file from what a node prints.
 use crate::case_parts::ours_of;
 use crate::files::{Failure, Input};
-use crate::repeats::repeats;
+use crate::notes::{data_entries, repeats};
 use crate::words::was;
 use basinpantry::{CaseFile, CaseRecord, MAX_CASE_BYTES, Transaction, is_script, is_transaction, json};
 
@@ -21,10 +21,7 @@ fn part(file: &Input, what: &str, is: fn(&[u8]) -> bool, read: fn(&[u8]) -> Resu
     if is(&file.bytes) {
         return Ok(file.bytes.clone());
     }
-    if !file.looks_like_json() {
-        return Err(file.fail(format!("neither the bytes of {what} nor JSON")));
-    }
-    read(&file.bytes).map_err(|why| file.fail(why))
+    read(file.json_or(format!("neither the bytes of {what} nor JSON"))?).map_err(|why| file.fail(why))
 }
 
 fn transaction(file: &Input) -> Result<Vec<u8>, Failure> {
@@ -61,6 +58,7 @@ pub fn make(parts: &Parts) -> Result<(CaseFile, Vec<String>), Failure> {
         notes.push(format!("{} added, and {} given", was(added, "inputs"), was(case.records.len(), "records")));
     }
     notes.extend(repeats(&ours, &peer, true));
+    notes.extend(data_entries(&peer));
     Ok((case, notes))
 }
 

@@ -1,7 +1,7 @@
 //! `show`: a transaction or a case as a table.
 use crate::case_parts::{added_outputs, is_of, ours_of};
 use crate::files::{Failure, Input};
-use crate::repeats::repeats;
+use crate::notes::{data_entries, repeats};
 use crate::{table, words};
 use basinpantry::{CaseFile, CaseRecord, CellOutput, ResolvedCell, Script, Total, Transaction, is_script, json};
 
@@ -17,10 +17,8 @@ pub fn show(file: &Input, full: bool) -> Result<String, Failure> {
     if is_script(&file.bytes) {
         return Err(file.fail("this is a script, not a transaction"));
     }
-    if !file.looks_like_json() {
-        return Err(file.fail(format!("neither a transaction nor a case file; for a case file: {not_a_case}")));
-    }
-    let tx = json::transaction(&file.bytes).map_err(|why| file.fail(why))?;
+    let text = file.json_or(format!("neither a transaction nor a case file; for a case file: {not_a_case}"))?;
+    let tx = json::transaction(text).map_err(|why| file.fail(why))?;
     Ok(transaction(&tx, tx.to_bytes().len(), full))
 }
 
@@ -238,6 +236,9 @@ fn outputs(out: &mut String, case: &CaseFile, ours: &Transaction, peer: &Transac
         ]
     });
     list(out, &[">no", "part", ">capacity (CKB)", ">tokens", ">data bytes", "lock", "type"], rows);
+    if let Some(note) = data_entries(peer) {
+        *out += &format!("  note: {note}\n");
+    }
 }
 
 /// A whole number by what is above and what is below zero.
