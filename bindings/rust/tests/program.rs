@@ -7,10 +7,11 @@ use common::{cases, file, run, run_with};
 fn help() {
     for (words, start) in [
         (&["--help"][..], "basinpantry judges the funding transactions"),
-        (&["check", "--help"], "basinpantry check [--line] CASE\n"),
+        (&["check", "--help"], "basinpantry check [--line | --json] CASE\n"),
         (&["case", "--help"], "basinpantry case --peer FILE"),
-        (&["show", "-h"], "basinpantry show [--full] FILE\n"),
-        (&["replay", "--help"], "basinpantry replay CASE...\n"),
+        (&["judge", "--help"], "basinpantry judge --peer FILE"),
+        (&["show", "-h"], "basinpantry show [--full | --json] FILE\n"),
+        (&["replay", "--help"], "basinpantry replay [--json] CASE...\n"),
     ] {
         let ran = run(words);
         assert_eq!((ran.status, ran.err.as_str()), (0, ""), "{words:?}");
@@ -20,7 +21,7 @@ fn help() {
 
 #[test]
 fn help_by_name() {
-    for name in ["check", "case", "show", "replay"] {
+    for name in ["judge", "check", "case", "show", "replay"] {
         assert_eq!(run(&["help", name]), run(&[name, "--help"]), "{name}");
     }
     assert_eq!(run(&["help"]), run(&["--help"]));
@@ -56,7 +57,7 @@ fn values_behind_a_sign() {
 #[test]
 fn bad_usage() {
     for (words, why) in [
-        (&["judge"][..], "basinpantry: there is no command judge; try: basinpantry --help\n"),
+        (&["jugde"][..], "basinpantry: there is no command jugde; try: basinpantry --help\n"),
         (&["check"], "basinpantry: no file is named; try: basinpantry check --help\n"),
         (&["check", "a", "b"], "basinpantry: only one file is looked at, not also b; try: basinpantry check --help\n"),
         (&["check", "--lines", "a"], "basinpantry: there is no option --lines; try: basinpantry check --help\n"),

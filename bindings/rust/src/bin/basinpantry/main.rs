@@ -6,6 +6,7 @@ mod case_parts;
 mod damage_tests;
 mod files;
 mod help;
+mod json_output;
 mod make_case;
 mod notes;
 mod output;
@@ -19,6 +20,8 @@ use basinpantry::{CaseFile, MAX_CASE_BYTES, check_case};
 use files::Failure;
 use make_case::Parts;
 use output::Output;
+use replay_cases::Replayed;
+use show::Shown;
 use std::ffi::{OsStr, OsString};
 use std::io::Write;
 use std::process::ExitCode;
@@ -37,8 +40,18 @@ fn printed(text: impl Into<String>, status: u8) -> Done {
     Done { out: text.into().into_bytes(), notes: Vec::new(), status }
 }
 
+/// The verdict on a case, in a sentence or in JSON.
+fn judged(case: &CaseFile, json: bool, notes: Vec<String>) -> Done {
+    let answer = case.judge();
+    let text = if json { json_output::verdict(case, &answer) } else { words::verdict(case, &answer) };
+    Done { out: (text + "\n").into_bytes(), notes, status: u8::from(answer.is_err()) }
+}
+
 fn check(words: &[OsString]) -> Result<Done, Failure> {
-    let arguments = Arguments::read("check", words, &["--line"], &[])?;
+    let arguments = Arguments::read("check", words, &["--line", "--json"], &[])?;
+    if arguments.has("--line") && arguments.has("--json") {
+        return usage("check", "--line and --json can't both be printed");
+    }
     let file = arguments.one_file()?;
     if arguments.has("--line") {
         let line = check_case(&file.bytes);
@@ -46,9 +59,13 @@ fn check(words: &[OsString]) -> Result<Done, Failure> {
         let status = if judged { u8::from(!line.starts_with("0 ")) } else { 2 };
         return Ok(printed(line, status));
     }
-    let case = file.case()?;
-    let answer = case.judge();
-    Ok(printed(words::verdict(&case, &answer) + "\n", u8::from(answer.is_err())))
+    Ok(judged(&file.case()?, arguments.has("--json"), Vec::new()))
+}
+
+fn judge(words: &[OsString]) -> Result<Done, Failure> {
+    let arguments = Arguments::read("judge", words, &["--json"], &PARTS)?;
+    let (case, notes) = make_case::make(&parts("judge", &arguments)?)?;
+    Ok(judged(&case, arguments.has("--json"), notes))
 }
 
 /// The options that name the parts of a case.
@@ -97,20 +114,25 @@ fn make(words: &[OsString]) -> Result<Done, Failure> {
 }
 
 fn show(words: &[OsString]) -> Result<Done, Failure> {
-    let arguments = Arguments::read("show", words, &["--full"], &[])?;
-    Ok(printed(show::show(&arguments.one_file()?, arguments.has("--full"))?, 0))
+    let arguments = Arguments::read("show", words, &["--full", "--json"], &[])?;
+    let shown = Shown::of(&arguments.one_file()?)?;
+    Ok(printed(if arguments.has("--json") { json_output::shown(&shown) + "\n" } else { shown.tables(arguments.has("--full")) }, 0))
 }
 
 fn replay(words: &[OsString]) -> Result<Done, Failure> {
-    let arguments = Arguments::read("replay", words, &[], &[])?;
-    let (text, all) = replay_cases::replay_cases(&arguments.files()?)?;
-    Ok(printed(text, u8::from(!all)))
+    let arguments = Arguments::read("replay", words, &["--json"], &[])?;
+    let files = arguments.files()?;
+    let replayed = Replayed::of(&files)?;
+    let json = arguments.has("--json");
+    let text = if json { json_output::replayed(&files, &replayed) + "\n" } else { replayed.sentences(&files) };
+    Ok(printed(text, u8::from(!replayed.all_accepted())))
 }
 
 /// A command by its name, with its help.
 fn command_of(name: &OsStr) -> Result<(&'static str, Command), Failure> {
     match &*name.to_string_lossy() {
         "check" => Ok((help::CHECK, check)),
+        "judge" => Ok((help::JUDGE, judge)),
         "case" => Ok((help::CASE, make)),
         "show" => Ok((help::SHOW, show)),
         "replay" => Ok((help::REPLAY, replay)),

@@ -1,25 +1,43 @@
 //! `show`: a transaction or a case as a table.
-use crate::case_parts::{added_outputs, is_of, ours_of};
+use crate::case_parts::{Figures, Record, input_part, is_of, ours_of, output_part, record};
 use crate::files::{Failure, Input};
 use crate::notes::{data_entries, repeats};
 use crate::{table, words};
-use basinpantry::{CaseFile, CaseRecord, CellOutput, ResolvedCell, Script, Total, Transaction, is_script, json};
+use basinpantry::{CaseFile, CellOutput, Script, Total, Transaction, is_script, json};
 
-/// What `show` prints of a file: of a transaction in Molecule or JSON, or of a case.
-pub fn show(file: &Input, full: bool) -> Result<String, Failure> {
-    if let Some(tx) = Transaction::from_bytes(&file.bytes) {
-        return Ok(transaction(&tx, file.bytes.len(), full));
+/// What is to be shown.
+pub enum Shown {
+    /// A transaction and how many bytes it has.
+    Transaction(Transaction, usize),
+    Case(CaseFile),
+}
+
+impl Shown {
+    /// What a file holds: a transaction in Molecule or JSON, or a case.
+    pub fn of(file: &Input) -> Result<Shown, Failure> {
+        if let Some(tx) = Transaction::from_bytes(&file.bytes) {
+            return Ok(Shown::Transaction(tx, file.bytes.len()));
+        }
+        let not_a_case = match CaseFile::from_bytes(&file.bytes) {
+            Ok(case) => return Ok(Shown::Case(case)),
+            Err(why) => why,
+        };
+        if is_script(&file.bytes) {
+            return Err(file.fail("this is a script, not a transaction"));
+        }
+        let text = file.json_or(format!("neither a transaction nor a case file; for a case file: {not_a_case}"))?;
+        let tx = json::transaction(text).map_err(|why| file.fail(why))?;
+        let size = tx.to_bytes().len();
+        Ok(Shown::Transaction(tx, size))
     }
-    let not_a_case = match CaseFile::from_bytes(&file.bytes) {
-        Ok(case) => return Ok(show_case(&case, full)),
-        Err(why) => why,
-    };
-    if is_script(&file.bytes) {
-        return Err(file.fail("this is a script, not a transaction"));
+
+    /// As tables, with whole hashes where they are asked for.
+    pub fn tables(&self, full: bool) -> String {
+        match self {
+            Shown::Transaction(tx, size) => transaction(tx, *size, full),
+            Shown::Case(case) => show_case(case, full),
+        }
     }
-    let text = file.json_or(format!("neither a transaction nor a case file; for a case file: {not_a_case}"))?;
-    let tx = json::transaction(text).map_err(|why| file.fail(why))?;
-    Ok(transaction(&tx, tx.to_bytes().len(), full))
 }
 
 fn none_if_empty(text: String) -> String {
@@ -138,22 +156,6 @@ fn counts(bytes: usize, tx: &Transaction) -> String {
     format!("version {}, {}", tx.version, counts.join(", "))
 }
 
-enum Record {
-    Live(ResolvedCell),
-    NotLive,
-    Unreadable,
-    Missing,
-}
-
-/// A record of a case.
-fn record(case: &CaseFile, k: usize) -> Record {
-    match case.records.get(k) {
-        None => Record::Missing,
-        Some(None) => Record::NotLive,
-        Some(Some(record)) => record.cell().map_or(Record::Unreadable, Record::Live),
-    }
-}
-
 fn script(bytes: &[u8], full: bool) -> String {
     Script::from_bytes(bytes).map_or(format!("{} bytes, which are no script", bytes.len()), |script| words::script(&script, full))
 }
@@ -183,11 +185,7 @@ fn inputs(out: &mut String, case: &CaseFile, ours: &Transaction, peer: &Transact
     let added = peer.inputs.len().saturating_sub(shared);
     *out += &format!("\ninputs: {}, added {added}\n", peer.inputs.len());
     let rows = peer.inputs.iter().enumerate().map(|(i, input)| {
-        let part = match ours.inputs.get(i) {
-            Some(same) if same == input => "shared",
-            Some(_) => "changed",
-            None => "added",
-        };
+        let part = input_part(ours, peer, i);
         let mut row = vec![i.to_string(), part.to_string(), words::out_point(&input.previous_output, full), format!("{:#x}", input.since)];
         row.extend(match i.checked_sub(shared).map(|k| record(case, k)) {
             // what a shared input spends is not in the case
@@ -219,12 +217,7 @@ fn outputs(out: &mut String, case: &CaseFile, ours: &Transaction, peer: &Transac
     let funding = if ours.outputs.is_empty() && added > 0 { " (output 0 is the funding cell)" } else { "" };
     *out += &format!("\noutputs: {}, added {added}{funding}\n", peer.outputs.len());
     let rows = peer.outputs.iter().enumerate().map(|(i, output)| {
-        let part = match ours.outputs.get(i) {
-            _ if i == 0 => "funding",
-            Some(same) if same == output && ours.outputs_data.get(i).is_none_or(|data| Some(data) == peer.outputs_data.get(i)) => "shared",
-            Some(_) => "changed",
-            None => "added",
-        };
+        let part = output_part(ours, peer, i);
         vec![
             i.to_string(),
             part.to_string(),
@@ -241,75 +234,19 @@ fn outputs(out: &mut String, case: &CaseFile, ours: &Transaction, peer: &Transac
     }
 }
 
-/// A whole number by what is above and what is below zero.
-struct Difference {
-    plus: Total,
-    minus: Total,
-}
-
-impl Difference {
-    /// As written by `write`, with the sign in front.
-    fn signed(&self, write: impl Fn(Total) -> String) -> String {
-        match self.plus.checked_sub(self.minus) {
-            Some(left) => write(left),
-            None => format!("-{}", write(self.minus.checked_sub(self.plus).unwrap_or_default())),
-        }
-    }
-}
-
-/// One account: what came in, output 0 before and after, and the added outputs.
-struct Account {
-    put_in: Total,
-    before: u128,
-    after: u128,
-    back: Total,
-}
-
-impl Account {
-    fn lines(&self) -> [Difference; 4] {
-        let (before, after) = (Total::from(self.before), Total::from(self.after));
-        [
-            Difference { plus: self.put_in, minus: Total::ZERO },
-            Difference { plus: after, minus: before },
-            Difference { plus: self.back, minus: Total::ZERO },
-            Difference { plus: self.put_in.saturating_add(before), minus: after.saturating_add(self.back) },
-        ]
-    }
-}
-
 fn figures(out: &mut String, case: &CaseFile, ours: &Transaction, peer: &Transaction) {
-    let live = || case.records.iter().flatten().filter_map(CaseRecord::cell);
-    let added = added_outputs(ours, peer);
-    let first = |tx: &Transaction| tx.outputs.first().map_or(0, |output| u128::from(output.capacity));
-    let shannons = Account {
-        put_in: live().map(|cell| u128::from(cell.output.capacity)).sum(),
-        before: first(ours),
-        after: first(peer),
-        back: peer.outputs[added.clone()].iter().map(|output| u128::from(output.capacity)).sum(),
-    };
-    let amount = |tx: &Transaction| if tx.outputs.is_empty() { 0 } else { tx.amount(0).unwrap_or(0) };
-    // a missing or short amount counts 0
-    let token = Account {
-        put_in: live().filter(|cell| is_of(&cell.output, case)).map(|cell| cell.amount().unwrap_or(0)).sum(),
-        before: amount(ours),
-        after: amount(peer),
-        back: added.filter(|i| is_of(&peer.outputs[*i], case)).map(|i| peer.amount(i).unwrap_or(0)).sum(),
-    };
-    let typed = case.udt.is_some();
+    let Figures { capacity, token, required_fee } = Figures::of(case, ours, peer);
+    let (capacity, token) = (capacity.lines(), token.map(|token| token.lines()));
     let names = ["put in by added inputs", "growth of output 0", "taken back by added outputs", "surplus"];
-    let (shannons, token) = (shannons.lines(), token.lines());
-    let rows = names.iter().zip(&shannons).zip(&token).map(|((name, shannons), token)| {
+    let rows = names.iter().zip(&capacity).enumerate().map(|(i, (name, shannons))| {
         let mut row = vec![name.to_string(), shannons.signed(|x| x.to_string()), shannons.signed(words::ckb)];
-        if typed {
-            row.push(token.signed(|x| x.to_string()));
-        }
+        row.extend(token.as_ref().map(|token| token[i].signed(|x| x.to_string())));
         row
     });
     out.push('\n');
     let head = ["what the peer brings", ">shannons", ">CKB", ">tokens"];
-    list(out, &head[..if typed { 4 } else { 3 }], rows);
-    if ours.inputs.is_empty() && ours.outputs.is_empty() {
-        let size = u64::try_from(case.peer.len() + 4).expect("a length has 64 bits at most");
-        *out += &format!("  an opening: the surplus pays the fee, and {} shannons are required\n", case.rate.saturating_mul(size) / 1000);
+    list(out, &head[..if token.is_some() { 4 } else { 3 }], rows);
+    if let Some(fee) = required_fee {
+        *out += &format!("  an opening: the surplus pays the fee, and {fee} shannons are required\n");
     }
 }
