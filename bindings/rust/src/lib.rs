@@ -9,7 +9,7 @@
 //! - [`HeldCells`] and [`LiveCellsExclusionMap`] keep which cells of ours are in use.
 //! - [`build_base`] writes the base transaction of our own side.
 //! - [`json`] reads what a node prints.
-//! - [`Transaction`], [`Script`] and the like are the lent bytes as Rust values.
+//! - [`Transaction`], [`Script`], [`H256`] and the like are the lent bytes as Rust values.
 //!
 //! Transactions and scripts are lent as their bytes, and one that may be missing as an `Option` of them. One of no bytes is not missing, but unreadable.
 //!
@@ -35,6 +35,7 @@ mod funding;
 mod held_cells;
 pub mod json;
 mod molecule;
+mod names;
 mod reason;
 mod refusal;
 mod replay;
@@ -49,6 +50,7 @@ pub use funding::{
     BaseRequest, FundingCell, FundingRequest, TokenCell, TokenPick, build_base, build_funding_cell, build_udt_inputs_outputs,
 };
 pub use held_cells::{HELD_BYTES, HeldCells, Hold, Owner, Taken, Taker};
+pub use names::{DepType, H256, HashType, ParseNameError};
 pub use reason::reason;
 pub use refusal::Refusal;
 pub use replay::{Replay, replay};

@@ -16,7 +16,7 @@ fn verdict(case: &CaseFile, answer: &Result<Accepted, Refusal>) -> String {
 }
 
 fn script(b: u8) -> Script {
-    Script { code_hash: [b; 32], hash_type: 0, args: vec![] }
+    Script { code_hash: H256([b; 32]), hash_type: HashType::DATA, args: vec![] }
 }
 
 fn output(lock: u8, udt: Option<u8>, capacity: u64) -> CellOutput {
@@ -32,7 +32,7 @@ fn token(capacity: u64) -> CellOutput {
 }
 
 fn point(index: u32) -> OutPoint {
-    OutPoint { tx_hash: [0; 32], index }
+    OutPoint { tx_hash: H256([0; 32]), index }
 }
 
 fn inputs(from: u32, to: u32) -> Vec<CellInput> {
@@ -84,12 +84,12 @@ fn typed(ours: Option<Transaction>, peer: Transaction, records: Vec<Option<CaseR
 }
 
 fn deps(indices: &[u32]) -> Transaction {
-    let cell_deps = indices.iter().map(|i| CellDep { out_point: point(*i), dep_type: 0 }).collect();
+    let cell_deps = indices.iter().map(|i| CellDep { out_point: point(*i), dep_type: DepType::CODE }).collect();
     Transaction { cell_deps, ..usual() }
 }
 
 fn headers(hashes: &[u8]) -> Transaction {
-    Transaction { header_deps: hashes.iter().map(|b| [*b; 32]).collect(), ..usual() }
+    Transaction { header_deps: hashes.iter().map(|b| H256([*b; 32])).collect(), ..usual() }
 }
 
 /// A line of the table, a case in which it alone fails, and what is said of it.

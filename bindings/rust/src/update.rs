@@ -47,7 +47,7 @@ pub(crate) fn whole(low: u64, high: u64) -> u128 {
 /// use basinpantry::*;
 ///
 /// let lock = Script::default();
-/// let source = Script { code_hash: [1; 32], ..Script::default() };
+/// let source = Script { code_hash: H256([1; 32]), ..Script::default() };
 /// let output = CellOutput { capacity: 10_000_000_000, lock: lock.clone(), type_: None };
 /// let peer = Transaction {
 ///     inputs: vec![CellInput::default()],
@@ -99,7 +99,7 @@ pub struct PeerUpdate<'a> {
 /// use basinpantry::*;
 ///
 /// let lock = Script::default();
-/// let source = Script { code_hash: [1; 32], ..Script::default() }.to_bytes();
+/// let source = Script { code_hash: H256([1; 32]), ..Script::default() }.to_bytes();
 /// let output = CellOutput { capacity: 10_000_000_000, lock: lock.clone(), type_: None };
 /// let peer = Transaction {
 ///     inputs: vec![CellInput::default()],

@@ -1,7 +1,7 @@
 //! From a node's JSON to a case, and what is said of bad JSON.
 mod common;
 
-use basinpantry::{CaseFile, CellDep, CellInput, CellOutput, OutPoint, Script, Transaction};
+use basinpantry::{CaseFile, CellDep, CellInput, CellOutput, DepType, H256, HashType, OutPoint, Script, Transaction};
 use common::{Ran, file, make, read, run};
 
 #[test]
@@ -80,13 +80,13 @@ const SMALL: &str = r#"{
 fn small() -> Transaction {
     Transaction {
         version: 1,
-        cell_deps: vec![CellDep { out_point: OutPoint { tx_hash: [0x11; 32], index: 2 }, dep_type: 1 }],
-        header_deps: vec![[0x22; 32]],
-        inputs: vec![CellInput { since: u64::MAX - 1, previous_output: OutPoint { tx_hash: [0x33; 32], index: u32::MAX } }],
+        cell_deps: vec![CellDep { out_point: OutPoint { tx_hash: H256([0x11; 32]), index: 2 }, dep_type: DepType::DEP_GROUP }],
+        header_deps: vec![H256([0x22; 32])],
+        inputs: vec![CellInput { since: u64::MAX - 1, previous_output: OutPoint { tx_hash: H256([0x33; 32]), index: u32::MAX } }],
         outputs: vec![CellOutput {
             capacity: 100_000_000_000,
-            lock: Script { code_hash: [0x44; 32], hash_type: 4, args: vec![0xab, 0xcd] },
-            type_: Some(Script { code_hash: [0x55; 32], hash_type: 2, args: vec![] }),
+            lock: Script { code_hash: H256([0x44; 32]), hash_type: HashType::DATA2, args: vec![0xab, 0xcd] },
+            type_: Some(Script { code_hash: H256([0x55; 32]), hash_type: HashType::DATA1, args: vec![] }),
         }],
         outputs_data: vec![vec![1, 2]],
         witnesses: vec![vec![], vec![0xff]],

@@ -2,11 +2,11 @@
 mod common;
 
 use basinpantry::json::{self, Records};
-use basinpantry::{CellInput, OutPoint, Transaction};
+use basinpantry::{CellInput, H256, OutPoint, Transaction};
 use common::{file, make, read};
 
 fn point(index: u32) -> OutPoint {
-    OutPoint { tx_hash: [7; 32], index }
+    OutPoint { tx_hash: H256([7; 32]), index }
 }
 
 fn spending(indexes: &[u32]) -> Transaction {

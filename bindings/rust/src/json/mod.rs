@@ -8,11 +8,11 @@
 //! nested over at most [`MAX_DEPTH`] levels. How long a text may be is for the caller to say.
 //!
 //! ```
-//! use basinpantry::{Script, json};
+//! use basinpantry::{H256, HashType, Script, json};
 //!
 //! let text = format!(r#"{{"code_hash": "0x{}", "hash_type": "type", "args": "0x0102"}}"#, "ab".repeat(32));
 //! let lock = json::script(&text).unwrap();
-//! assert_eq!(lock, Script { code_hash: [0xab; 32], hash_type: 1, args: vec![1, 2] });
+//! assert_eq!(lock, Script { code_hash: H256([0xab; 32]), hash_type: HashType::TYPE, args: vec![1, 2] });
 //!
 //! let why = json::script(text.replace("\"type\"", "\"typ\"")).unwrap_err();
 //! assert_eq!(why.to_string(), "line 1, column 98: hash_type is one of data, type, data1, data2, not \"typ\"");

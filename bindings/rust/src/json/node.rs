@@ -2,10 +2,8 @@
 use super::Error;
 use super::text::{Kind, Value, quoted};
 use crate::cells::{CellDep, CellInput, CellOutput, OutPoint, Script};
+use crate::names::{DepType, HashType};
 use crate::transaction::Transaction;
-
-pub(super) const HASH_TYPES: [(&str, u8); 4] = [("data", 0), ("type", 1), ("data1", 2), ("data2", 4)];
-const DEP_TYPES: [(&str, u8); 2] = [("code", 0), ("dep_group", 1)];
 
 pub(super) fn out_point(value: Value) -> Result<OutPoint, Error> {
     let ([tx_hash, index], []) = value.these_fields(["tx_hash", "index"], [])?;
@@ -14,7 +12,7 @@ pub(super) fn out_point(value: Value) -> Result<OutPoint, Error> {
 
 fn cell_dep(value: Value) -> Result<CellDep, Error> {
     let ([point, dep_type], []) = value.these_fields(["out_point", "dep_type"], [])?;
-    Ok(CellDep { out_point: out_point(point)?, dep_type: dep_type.named("dep_type", &DEP_TYPES)? })
+    Ok(CellDep { out_point: out_point(point)?, dep_type: dep_type.named("dep_type", DepType::NAMES)? })
 }
 
 fn input(value: Value) -> Result<CellInput, Error> {
@@ -24,7 +22,7 @@ fn input(value: Value) -> Result<CellInput, Error> {
 
 pub(super) fn script(value: Value) -> Result<Script, Error> {
     let ([code_hash, hash_type, args], []) = value.these_fields(["code_hash", "hash_type", "args"], [])?;
-    Ok(Script { code_hash: code_hash.hash()?, hash_type: hash_type.named("hash_type", &HASH_TYPES)?, args: args.bytes()? })
+    Ok(Script { code_hash: code_hash.hash()?, hash_type: hash_type.named("hash_type", HashType::NAMES)?, args: args.bytes()? })
 }
 
 pub(super) fn output(value: Value) -> Result<CellOutput, Error> {

@@ -1,6 +1,7 @@
 //! What a value of JSON is taken for.
 use super::Error;
 use super::text::{Kind, Value, quoted};
+use crate::names::H256;
 use std::borrow::Cow;
 
 impl<'a> Value<'a> {
@@ -79,10 +80,9 @@ impl<'a> Value<'a> {
         Ok(digits.as_bytes().chunks_exact(2).map(|pair| digit(&pair[0]) << 4 | digit(&pair[1])).collect())
     }
 
-    pub fn hash(&self) -> Result<[u8; 32], Error> {
+    pub fn hash(&self) -> Result<H256, Error> {
         let bytes = self.bytes()?;
-        let count = bytes.len();
-        bytes.try_into().map_err(|_| self.error(format!("a hash has 32 bytes, and this has {count}")))
+        H256::from_bytes(&bytes).ok_or_else(|| self.error(format!("a hash has 32 bytes, and this has {}", bytes.len())))
     }
 
     /// A number as 0x and hex digits, of at most so many bits.
@@ -109,11 +109,11 @@ impl<'a> Value<'a> {
         u32::try_from(number).map_err(|_| self.error("the number is over 32 bits"))
     }
 
-    /// The byte that one of these names stands for.
-    pub fn named(&self, what: &str, names: &[(&str, u8)]) -> Result<u8, Error> {
+    /// What one of these names stands for. CKB's JSON has names alone.
+    pub fn named<T: Copy>(&self, what: &str, names: &[(&str, T)]) -> Result<T, Error> {
         let text = self.string()?;
         match names.iter().find(|(name, _)| *name == text) {
-            Some((_, byte)) => Ok(*byte),
+            Some((_, found)) => Ok(*found),
             None => {
                 let names: Vec<&str> = names.iter().map(|(name, _)| *name).collect();
                 Err(self.error(format!("{what} is one of {}, not {}", names.join(", "), quoted(&text))))

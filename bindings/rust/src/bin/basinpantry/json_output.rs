@@ -66,13 +66,13 @@ fn or_null(value: Option<String>) -> String {
 }
 
 fn out_point(point: &OutPoint) -> String {
-    object([("tx_hash", bytes(&point.tx_hash)), ("index", hex(point.index))])
+    object([("tx_hash", bytes(point.tx_hash.as_ref())), ("index", hex(point.index))])
 }
 
 fn script(script: &Script) -> String {
     object([
-        ("code_hash", bytes(&script.code_hash)),
-        ("hash_type", text(&words::hash_type(script.hash_type))),
+        ("code_hash", bytes(script.code_hash.as_ref())),
+        ("hash_type", text(&script.hash_type.to_string())),
         ("args", bytes(&script.args)),
     ])
 }
@@ -86,7 +86,7 @@ fn input(input: &CellInput) -> String {
 }
 
 fn cell_dep(dep: &CellDep) -> String {
-    object([("out_point", out_point(&dep.out_point)), ("dep_type", text(&words::dep_type(dep.dep_type)))])
+    object([("out_point", out_point(&dep.out_point)), ("dep_type", text(&dep.dep_type.to_string()))])
 }
 
 /// A transaction as CKB's RPC prints it.
@@ -94,7 +94,7 @@ fn transaction(tx: &Transaction) -> String {
     object([
         ("version", hex(tx.version)),
         ("cell_deps", list(tx.cell_deps.iter().map(cell_dep))),
-        ("header_deps", list(tx.header_deps.iter().map(|hash| bytes(hash)))),
+        ("header_deps", list(tx.header_deps.iter().map(|hash| bytes(hash.as_ref())))),
         ("inputs", list(tx.inputs.iter().map(input))),
         ("outputs", list(tx.outputs.iter().map(output))),
         ("outputs_data", list(tx.outputs_data.iter().map(|data| bytes(data)))),

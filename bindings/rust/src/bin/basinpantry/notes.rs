@@ -30,10 +30,10 @@ pub fn data_entries(peer: &Transaction) -> Option<String> {
 #[cfg(test)]
 mod tests {
     use super::*;
-    use basinpantry::{CellInput, OutPoint};
+    use basinpantry::{CellInput, H256, OutPoint};
 
     fn spending(indexes: &[u32]) -> Transaction {
-        let input = |index| CellInput { since: u64::from(index), previous_output: OutPoint { tx_hash: [0; 32], index } };
+        let input = |index| CellInput { since: u64::from(index), previous_output: OutPoint { tx_hash: H256([0; 32]), index } };
         Transaction { inputs: indexes.iter().map(|index| input(*index)).collect(), ..Transaction::default() }
     }
 

@@ -100,10 +100,10 @@ fn others(tx: &Transaction, full: bool) -> String {
         .cell_deps
         .iter()
         .enumerate()
-        .map(|(i, dep)| vec![i.to_string(), words::out_point(&dep.out_point, full), words::dep_type(dep.dep_type)]);
+        .map(|(i, dep)| vec![i.to_string(), words::out_point(&dep.out_point, full), dep.dep_type.to_string()]);
     list(&mut out, &[">no", "out point", "dep type"], rows);
     out += &format!("\nheader deps: {}\n", tx.header_deps.len());
-    let rows = tx.header_deps.iter().enumerate().map(|(i, hash)| vec![i.to_string(), words::hex(hash, full)]);
+    let rows = tx.header_deps.iter().enumerate().map(|(i, hash)| vec![i.to_string(), words::hex(hash.as_ref(), full)]);
     list(&mut out, &[">no", "block hash"], rows);
     out += &format!("\nwitnesses: {}\n", tx.witnesses.len());
     let rows =

@@ -79,31 +79,12 @@ pub fn hex(bytes: &[u8], full: bool) -> String {
 }
 
 pub fn out_point(point: &OutPoint, full: bool) -> String {
-    format!("{}:{}", hex(&point.tx_hash, full), point.index)
+    format!("{}:{}", hex(point.tx_hash.as_ref(), full), point.index)
 }
 
 /// A script's code hash, hash type and args.
 pub fn script(script: &Script, full: bool) -> String {
-    let hash_type = hash_type(script.hash_type);
-    format!("{} {hash_type} {}", hex(&script.code_hash, full), hex(&script.args, full))
-}
-
-pub fn hash_type(byte: u8) -> String {
-    match byte {
-        0 => "data".to_string(),
-        1 => "type".to_string(),
-        2 => "data1".to_string(),
-        4 => "data2".to_string(),
-        other => format!("{other:#04x}"),
-    }
-}
-
-pub fn dep_type(byte: u8) -> String {
-    match byte {
-        0 => "code".to_string(),
-        1 => "dep_group".to_string(),
-        other => format!("{other:#04x}"),
-    }
+    format!("{} {} {}", hex(script.code_hash.as_ref(), full), script.hash_type, hex(&script.args, full))
 }
 
 #[cfg(test)]
