@@ -4,8 +4,9 @@
 //! field that CKB doesn't have is refused, since it may be `type` misspelt, and so are a field that stands twice and a number with zeros in front, which CKB refuses
 //! too. An answer in which the node failed is an error with the node's code and message.
 //!
-//! Reading takes no memory for the text beyond the caller's own; what is made of it takes at most eight times the text's length, and lists and objects are
-//! nested over at most [`MAX_DEPTH`] levels. How long a text may be is for the caller to say.
+//! Reading takes no memory beyond the caller's text. What is made of it takes at most eight times the text's length, and a record 160 bytes at least, of which there
+//! are at most 4,096 or one for each added input. Lists and objects are nested over at most [`MAX_DEPTH`] levels, and an object has at most [`MAX_FIELDS`] fields.
+//! How long a text may be is for the caller to say.
 //!
 //! ```
 //! use basinpantry::{H256, HashType, Script, json};
