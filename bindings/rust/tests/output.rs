@@ -116,7 +116,7 @@ fn a_write_that_fails() {
     assert_eq!(fs::read(&path).unwrap(), b"old");
     assert_eq!(names(&folder), ["a.case"]);
     let (ran, _) = run("$P -o /dev/full", &path);
-    assert_eq!((ran.status, ran.err.as_str()), (2, "basinpantry: /dev/full: No space left on device (os error 28); nothing was written\n"));
+    assert_eq!((ran.status, ran.err.as_str()), (2, "basinpantry: /dev/full: No space left on device (os error 28)\n"));
     let (ran, _) = run("$P > /dev/full", &path);
     assert_eq!((ran.status, ran.err.as_str()), (2, "basinpantry: standard output: No space left on device (os error 28)\n"));
     let (ran, _) = run("$P -o \"$O\"/b.case", &path);

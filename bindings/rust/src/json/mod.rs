@@ -47,6 +47,17 @@ pub struct Error {
     message: String,
 }
 
+impl Error {
+    /// What is wrong, without the place.
+    ///
+    /// ```
+    /// assert_eq!(basinpantry::json::script("[]").unwrap_err().message(), "an object is expected, not a list");
+    /// ```
+    pub fn message(&self) -> &str {
+        &self.message
+    }
+}
+
 impl fmt::Display for Error {
     fn fmt(&self, f: &mut fmt::Formatter<'_>) -> fmt::Result {
         write!(f, "line {}, column {}: {}", self.line, self.column, self.message)

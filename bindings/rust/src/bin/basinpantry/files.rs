@@ -66,10 +66,8 @@ impl Input {
         Failure(format!("{}: {why}", self.name))
     }
 
-    /// What it is instead of bytes that it was looked at as: JSON to be read, or nothing, with the complaint that it is then.
-    ///
-    /// It begins as JSON does, or as what is taken for JSON. A transaction's or script's bytes may begin so too, as their first byte is the low one of their size:
-    /// whether they are one is asked before.
+    /// The text to be read as JSON, where it begins as JSON does or as what is taken for JSON; else this complaint. A transaction's or script's bytes may begin
+    /// so too, as their first byte is the low one of their size: whether they are one is asked before.
     pub fn json_or(&self, why: impl std::fmt::Display) -> Result<&[u8], Failure> {
         let start = self.bytes.iter().find(|b| !b.is_ascii_whitespace());
         match matches!(start, Some(b'{' | b'[' | b'"' | b'n')) || json::another_kind(&self.bytes).is_some() {

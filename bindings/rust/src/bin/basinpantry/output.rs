@@ -129,6 +129,10 @@ fn fill(mut file: File, old: Option<&Metadata>, bytes: &[u8]) -> io::Result<()> 
 
 /// Why nothing was written under a name, and what stands there.
 pub fn not_written(name: &str, why: &io::Error, output: &Output) -> Failure {
-    let left = if output.is_old_file() { format!("the old {name} is still there") } else { "nothing was written".to_string() };
-    Failure(format!("{name}: {why}; {left}"))
+    match output {
+        Output::File { old: Some(_), .. } => Failure(format!("{name}: {why}; the old {name} is still there")),
+        Output::File { old: None, .. } => Failure(format!("{name}: {why}; nothing was written")),
+        // a part may have gone through
+        _ => Failure(format!("{name}: {why}")),
+    }
 }
