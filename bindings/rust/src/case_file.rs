@@ -1,7 +1,8 @@
 //! Case files: an update with everything that decides it.
-use crate::cells::{ResolvedCell, record};
+use crate::cells::{CellOutput, ResolvedCell, record, record_size};
 use crate::ffi;
 use crate::molecule;
+use crate::reason::reason;
 use crate::refusal::Refusal;
 use crate::update::{Accepted, PeerUpdate, update_for_peer};
 use std::fmt;
@@ -24,6 +25,21 @@ pub struct CaseRecord {
     pub output: Vec<u8>,
     /// The data.
     pub data: Vec<u8>,
+}
+
+impl CaseRecord {
+    /// The cell, if the bytes of its output are one.
+    ///
+    /// ```
+    /// use basinpantry::{CaseRecord, ResolvedCell};
+    ///
+    /// let cell = ResolvedCell { data: vec![7], ..ResolvedCell::default() };
+    /// assert_eq!(CaseRecord::from(cell.clone()).cell(), Some(cell));
+    /// assert_eq!(CaseRecord::default().cell(), None);
+    /// ```
+    pub fn cell(&self) -> Option<ResolvedCell> {
+        Some(ResolvedCell { output: CellOutput::from_bytes(&self.output)?, data: self.data.clone() })
+    }
 }
 
 /// A readable cell as the record that a case file has.
@@ -197,6 +213,22 @@ impl<'a> Items<'a> {
     }
 }
 
+impl<'a> Items<'a> {
+    /// The next record, output and data, or none where the cell is not live; nothing at the end of the file.
+    #[allow(clippy::type_complexity)]
+    fn record(&mut self) -> Result<Option<Option<(&'a [u8], &'a [u8])>>, CaseError> {
+        let at = self.at;
+        if at == self.file.len() {
+            return Ok(None);
+        }
+        match self.optional(kind::NOT_LIVE)? {
+            Some([]) => Ok(Some(None)),
+            Some(_) => self.fail(at, "a cell that is not live has no bytes"),
+            None => Ok(Some(Some((self.required(kind::OUTPUT)?, self.required(kind::DATA)?)))),
+        }
+    }
+}
+
 impl CaseFile {
     /// What a case file of any length holds. [`check_case`] answers 3 to one of more than 65,536 bytes, though it is read and judged here.
     ///
@@ -213,19 +245,15 @@ impl CaseFile {
         let source = items.required(kind::SOURCE)?.to_vec();
         let at = items.at;
         let Ok(rate) = items.required(kind::RATE)?.try_into() else { return items.fail(at, "the fee rate is 8 bytes") };
-        let mut records = Vec::new();
-        while items.at < file.len() {
-            let at = items.at;
-            if let Some(body) = items.optional(kind::NOT_LIVE)? {
-                if !body.is_empty() {
-                    return items.fail(at, "a cell that is not live has no bytes");
-                }
-                records.push(None);
-            } else {
-                let output = items.required(kind::OUTPUT)?.to_vec();
-                let data = items.required(kind::DATA)?.to_vec();
-                records.push(Some(CaseRecord { output, data }));
-            }
+        // a record may have 4 bytes in the file, and takes many more here: room is made for as many as there are
+        let mut ahead = Items { ..items };
+        let mut count = 0;
+        while ahead.record()?.is_some() {
+            count += 1;
+        }
+        let mut records = Vec::with_capacity(count);
+        while let Some(record) = items.record()? {
+            records.push(record.map(|(output, data)| CaseRecord { output: output.to_vec(), data: data.to_vec() }));
         }
         Ok(CaseFile { ours, peer, lock, udt, source, rate: u64::from_le_bytes(rate), records })
     }
@@ -279,15 +307,13 @@ impl CaseFile {
     /// assert_eq!(basinpantry::CaseFile::default().records_bytes(), [4, 0, 0, 0]);
     /// ```
     pub fn records_bytes(&self) -> Vec<u8> {
-        let items: Vec<Vec<u8>> = self
-            .records
-            .iter()
-            .map(|cell| match cell {
-                Some(cell) => record(&cell.output, &cell.data),
-                None => Vec::new(),
-            })
-            .collect();
-        molecule::table(&items)
+        // written in one go, since there may be many that are not live
+        let size = |cell: &Option<CaseRecord>| cell.as_ref().map_or(0, |cell| record_size(&cell.output, &cell.data));
+        let mut out = molecule::head(self.records.iter().map(size));
+        for cell in self.records.iter().flatten() {
+            out.extend(record(&cell.output, &cell.data));
+        }
+        out
     }
 
     /// Judges the update that it holds ([`update_for_peer`]), however long the file is.
@@ -297,6 +323,19 @@ impl CaseFile {
     /// ```
     pub fn judge(&self) -> Result<Accepted, Refusal> {
         update_for_peer(self.ours.as_deref(), &self.lock, self.udt.as_deref(), &self.update(&self.records_bytes()))
+    }
+
+    /// Which of the checks under its number refused the update that it holds ([`reason()`](crate::reason())).
+    ///
+    /// ```
+    /// use basinpantry::{CaseFile, Script, Transaction};
+    ///
+    /// let case = CaseFile { peer: Transaction::default().to_bytes(), lock: Script::default().to_bytes(), ..CaseFile::default() };
+    /// let why = case.judge().unwrap_err();
+    /// assert_eq!(case.reason(&why).unwrap(), "our source lock is no script");
+    /// ```
+    pub fn reason(&self, why: &Refusal) -> Option<String> {
+        reason(self.ours.as_deref(), &self.lock, self.udt.as_deref(), &self.update(&self.records_bytes()), why)
     }
 
     /// The update that it holds, over its list of records.

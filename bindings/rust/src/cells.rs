@@ -1,13 +1,14 @@
 //! Cells and the parts of a transaction (RFC 0019), as Rust values.
+use crate::names::{DepType, H256, HashType};
 use crate::{ffi, molecule};
 use std::fmt;
 
 /// Which output of which transaction: the name of a cell.
 ///
 /// ```
-/// use basinpantry::OutPoint;
+/// use basinpantry::{H256, OutPoint};
 ///
-/// let point = OutPoint { tx_hash: [0xab; 32], index: 3 };
+/// let point = OutPoint { tx_hash: H256([0xab; 32]), index: 3 };
 /// assert_eq!(point.to_string(), format!("0x{}:3", "ab".repeat(32)));
 /// assert_eq!(point.to_string().parse(), Ok(point));
 /// assert_eq!(OutPoint::from_bytes(&point.to_bytes()), Some(point));
@@ -15,7 +16,7 @@ use std::fmt;
 #[derive(Clone, Copy, Debug, Default, PartialEq, Eq, PartialOrd, Ord, Hash)]
 pub struct OutPoint {
     /// The hash of the transaction.
-    pub tx_hash: [u8; 32],
+    pub tx_hash: H256,
     /// The place among its outputs.
     pub index: u32,
 }
@@ -24,11 +25,11 @@ impl OutPoint {
     /// Its 36 bytes.
     ///
     /// ```
-    /// assert_eq!(basinpantry::OutPoint { tx_hash: [7; 32], index: 258 }.to_bytes()[31..], [7, 2, 1, 0, 0]);
+    /// assert_eq!(basinpantry::OutPoint { tx_hash: [7; 32].into(), index: 258 }.to_bytes()[31..], [7, 2, 1, 0, 0]);
     /// ```
     pub fn to_bytes(&self) -> [u8; 36] {
         let mut out = [0; 36];
-        out[..32].copy_from_slice(&self.tx_hash);
+        out[..32].copy_from_slice(self.tx_hash.as_ref());
         out[32..].copy_from_slice(&self.index.to_le_bytes());
         out
     }
@@ -42,17 +43,13 @@ impl OutPoint {
     pub fn from_bytes(s: &[u8]) -> Option<OutPoint> {
         let s: &[u8; 36] = s.try_into().ok()?;
         let (tx_hash, index) = s.split_at(32);
-        Some(OutPoint { tx_hash: tx_hash.try_into().ok()?, index: u32::from_le_bytes(index.try_into().ok()?) })
+        Some(OutPoint { tx_hash: H256::from_bytes(tx_hash)?, index: u32::from_le_bytes(index.try_into().ok()?) })
     }
 }
 
 impl fmt::Display for OutPoint {
     fn fmt(&self, f: &mut fmt::Formatter<'_>) -> fmt::Result {
-        f.write_str("0x")?;
-        for b in self.tx_hash {
-            write!(f, "{b:02x}")?;
-        }
-        write!(f, ":{}", self.index)
+        write!(f, "{}:{}", self.tx_hash, self.index)
     }
 }
 
@@ -80,16 +77,11 @@ impl std::str::FromStr for OutPoint {
 
     fn from_str(s: &str) -> Result<OutPoint, ParseOutPointError> {
         let read = || {
-            let (digits, index) = s.strip_prefix("0x")?.split_once(':')?;
-            if digits.len() != 64 || !index.bytes().all(|b| b.is_ascii_digit()) {
+            let (hash, index) = s.split_once(':')?;
+            if !index.bytes().all(|b| b.is_ascii_digit()) {
                 return None;
             }
-            let mut tx_hash = [0; 32];
-            for (byte, pair) in tx_hash.iter_mut().zip(digits.as_bytes().chunks_exact(2)) {
-                let digit = |b: u8| char::from(b).to_digit(16);
-                *byte = u8::try_from(digit(pair[0])? << 4 | digit(pair[1])?).ok()?;
-            }
-            Some(OutPoint { tx_hash, index: index.parse().ok()? })
+            Some(OutPoint { tx_hash: hash.parse().ok()?, index: index.parse().ok()? })
         };
         read().ok_or(ParseOutPointError)
     }
@@ -98,18 +90,18 @@ impl std::str::FromStr for OutPoint {
 /// A script: a cell's lock, or its type.
 ///
 /// ```
-/// use basinpantry::{Script, is_script};
+/// use basinpantry::{H256, HashType, Script, is_script};
 ///
-/// let lock = Script { code_hash: [1; 32], hash_type: 1, args: vec![2; 20] };
+/// let lock = Script { code_hash: H256([1; 32]), hash_type: HashType::TYPE, args: vec![2; 20] };
 /// assert!(is_script(&lock.to_bytes()));
 /// assert_eq!(Script::from_bytes(&lock.to_bytes()), Some(lock));
 /// ```
 #[derive(Clone, Debug, Default, PartialEq, Eq, Hash)]
 pub struct Script {
     /// The hash by which the code is found.
-    pub code_hash: [u8; 32],
-    /// How it is found: in CKB data is 0, type 1, data1 2 and data2 4. Any byte is read and written.
-    pub hash_type: u8,
+    pub code_hash: H256,
+    /// How it is found.
+    pub hash_type: HashType,
     /// What the script is run on.
     pub args: Vec<u8>,
 }
@@ -121,7 +113,7 @@ impl Script {
     /// assert_eq!(basinpantry::Script::default().to_bytes().len(), 53);
     /// ```
     pub fn to_bytes(&self) -> Vec<u8> {
-        molecule::table(&[&self.code_hash[..], &[self.hash_type], &molecule::bytes(&self.args)])
+        molecule::table(&[self.code_hash.as_ref(), &[self.hash_type.byte()], &molecule::bytes(&self.args)])
     }
 
     /// The script of these bytes, if they are one.
@@ -131,8 +123,8 @@ impl Script {
     /// ```
     pub fn from_bytes(s: &[u8]) -> Option<Script> {
         let [code_hash, hash_type, args] = molecule::parts(s)?.try_into().ok()?;
-        let [hash_type] = hash_type.try_into().ok()?;
-        Some(Script { code_hash: code_hash.try_into().ok()?, hash_type, args: molecule::content(args)?.to_vec() })
+        let [hash_type]: [u8; 1] = hash_type.try_into().ok()?;
+        Some(Script { code_hash: H256::from_bytes(code_hash)?, hash_type: hash_type.into(), args: molecule::content(args)?.to_vec() })
     }
 }
 
@@ -221,29 +213,29 @@ impl CellInput {
 /// A cell dep: a cell whose data a script needs.
 ///
 /// ```
-/// use basinpantry::CellDep;
+/// use basinpantry::{CellDep, DepType};
 ///
-/// let dep = CellDep { dep_type: 1, ..CellDep::default() };
+/// let dep = CellDep { dep_type: DepType::DEP_GROUP, ..CellDep::default() };
 /// assert_eq!(CellDep::from_bytes(&dep.to_bytes()), Some(dep));
 /// ```
 #[derive(Clone, Copy, Debug, Default, PartialEq, Eq, PartialOrd, Ord, Hash)]
 pub struct CellDep {
     /// The cell.
     pub out_point: OutPoint,
-    /// In CKB code is 0 and dep_group 1. Any byte is read and written.
-    pub dep_type: u8,
+    /// Whether it is that cell, or the cells that it lists.
+    pub dep_type: DepType,
 }
 
 impl CellDep {
     /// Its 37 bytes.
     ///
     /// ```
-    /// assert_eq!(basinpantry::CellDep { dep_type: 1, ..Default::default() }.to_bytes()[36], 1);
+    /// assert_eq!(basinpantry::CellDep { dep_type: basinpantry::DepType::DEP_GROUP, ..Default::default() }.to_bytes()[36], 1);
     /// ```
     pub fn to_bytes(&self) -> [u8; 37] {
         let mut out = [0; 37];
         out[..36].copy_from_slice(&self.out_point.to_bytes());
-        out[36] = self.dep_type;
+        out[36] = self.dep_type.byte();
         out
     }
 
@@ -254,7 +246,7 @@ impl CellDep {
     /// ```
     pub fn from_bytes(s: &[u8]) -> Option<CellDep> {
         let (dep_type, point) = s.split_last()?;
-        Some(CellDep { out_point: OutPoint::from_bytes(point)?, dep_type: *dep_type })
+        Some(CellDep { out_point: OutPoint::from_bytes(point)?, dep_type: (*dep_type).into() })
     }
 }
 
@@ -316,6 +308,11 @@ pub(crate) fn record(output: &[u8], data: &[u8]) -> Vec<u8> {
     molecule::table(&[output, &molecule::bytes(data)])
 }
 
+/// How many bytes [`record`] has.
+pub(crate) fn record_size(output: &[u8], data: &[u8]) -> usize {
+    16 + output.len() + data.len()
+}
+
 /// A list of out points, as the tables' calls read and write it.
 pub(crate) fn write_out_points(points: &[OutPoint]) -> Vec<u8> {
     molecule::fixvec(points.iter().map(OutPoint::to_bytes))
@@ -337,7 +334,7 @@ pub(crate) fn read_out_points(buffer: &[u8]) -> Vec<OutPoint> {
 
 #[cfg(test)]
 mod tests {
-    use super::{OutPoint, ParseOutPointError};
+    use super::{H256, OutPoint, ParseOutPointError};
 
     #[test]
     fn out_points_as_text() {
@@ -346,7 +343,7 @@ mod tests {
             *byte = (i as u8).wrapping_mul(37);
         }
         for index in [0, 9, 10, u32::MAX] {
-            let point = OutPoint { tx_hash, index };
+            let point = OutPoint { tx_hash: H256(tx_hash), index };
             assert_eq!(point.to_string().parse(), Ok(point));
             assert_eq!(point.to_string().replace('a', "A").parse(), Ok(point));
         }

@@ -1,5 +1,6 @@
 //! Cells that transactions of ours spend, and that are not to be collected for others.
 use crate::cells::{OutPoint, count_of, read_out_points};
+use crate::names::H256;
 use crate::refusal::Refusal;
 use crate::{ffi, molecule};
 
@@ -13,17 +14,17 @@ pub const EXCLUSIONS_BYTES: usize = 4 + 48 * TRANSACTIONS + 36 * OUT_POINTS;
 /// An entry of the exclusion map: a transaction of ours.
 ///
 /// ```
-/// use basinpantry::{LiveCellsExclusion, LiveCellsExclusionMap, Transaction};
+/// use basinpantry::{H256, LiveCellsExclusion, LiveCellsExclusionMap, Transaction};
 ///
 /// let mut map = LiveCellsExclusionMap::new();
-/// map.add(&[9; 32], Some(&Transaction::default().to_bytes())).unwrap();
-/// map.commit(&[9; 32], 100);
-/// assert!(map.entries().eq([LiveCellsExclusion { tx_hash: [9; 32], committed_block_number: Some(100), input_out_points: vec![] }]));
+/// map.add(&H256([9; 32]), Some(&Transaction::default().to_bytes())).unwrap();
+/// map.commit(&H256([9; 32]), 100);
+/// assert!(map.entries().eq([LiveCellsExclusion { tx_hash: H256([9; 32]), committed_block_number: Some(100), input_out_points: vec![] }]));
 /// ```
 #[derive(Clone, Debug, PartialEq, Eq, Hash)]
 pub struct LiveCellsExclusion {
     /// The hash of the transaction.
-    pub tx_hash: [u8; 32],
+    pub tx_hash: H256,
     /// The block that it was committed in; none while it is pending.
     pub committed_block_number: Option<u64>,
     /// The cells that it spends.
@@ -38,13 +39,13 @@ pub struct LiveCellsExclusion {
 /// Two maps are equal where the same entries stand in them in the same order; bytes behind the last entry mean nothing.
 ///
 /// ```
-/// use basinpantry::{CellInput, LiveCellsExclusionMap, OutPoint, Transaction};
+/// use basinpantry::{CellInput, H256, LiveCellsExclusionMap, OutPoint, Transaction};
 ///
-/// let cell = OutPoint { tx_hash: [1; 32], index: 0 };
+/// let cell = OutPoint { tx_hash: H256([1; 32]), index: 0 };
 /// let tx = Transaction { inputs: vec![CellInput { since: 0, previous_output: cell }], ..Transaction::default() };
 /// let mut map = LiveCellsExclusionMap::new();
-/// map.add(&[9; 32], Some(&tx.to_bytes())).unwrap();
-/// map.commit(&[9; 32], 100);
+/// map.add(&H256([9; 32]), Some(&tx.to_bytes())).unwrap();
+/// map.commit(&H256([9; 32]), 100);
 /// map.truncate(112);
 /// assert_eq!(map.apply(), [cell]);
 /// map.truncate(113);
@@ -93,11 +94,11 @@ impl LiveCellsExclusionMap {
     /// The entries that stand in the map, in their order. Nothing changes. They are read from the map's bytes in plain Rust.
     ///
     /// ```
-    /// use basinpantry::{LiveCellsExclusionMap, Transaction};
+    /// use basinpantry::{H256, LiveCellsExclusionMap, Transaction};
     ///
     /// let mut map = LiveCellsExclusionMap::new();
-    /// map.add(&[9; 32], Some(&Transaction::default().to_bytes())).unwrap();
-    /// assert!(map.entries().map(|entry| entry.tx_hash).eq([[9; 32]]));
+    /// map.add(&H256([9; 32]), Some(&Transaction::default().to_bytes())).unwrap();
+    /// assert!(map.entries().map(|entry| entry.tx_hash).eq([H256([9; 32])]));
     /// ```
     pub fn entries(&self) -> impl ExactSizeIterator<Item = LiveCellsExclusion> + '_ {
         let mut rest = &self.table[4..];
@@ -108,7 +109,7 @@ impl LiveCellsExclusionMap {
         };
         // what is kept was read by the library as a map, so that each part is there
         (0..self.len()).map(move |_| {
-            let tx_hash = next(32).try_into().expect("32 bytes");
+            let tx_hash = H256::from_bytes(next(32)).expect("32 bytes");
             let is_committed = next(4) != [0; 4];
             let block = u64::from_le_bytes(next(8).try_into().expect("8 bytes"));
             let count = count_of(next(4));
@@ -140,70 +141,70 @@ impl LiveCellsExclusionMap {
     /// bytes are no transaction), 15 (over 64 transactions or 512 out points).
     ///
     /// ```
-    /// use basinpantry::{LiveCellsExclusionMap, Refusal};
+    /// use basinpantry::{H256, LiveCellsExclusionMap, Refusal};
     ///
     /// let mut map = LiveCellsExclusionMap::new();
-    /// assert_eq!(map.add(&[9; 32], Some(b"no transaction")), Err(Refusal::OurTransactionUnreadable));
-    /// assert_eq!(map.add(&[9; 32], Some(&[])), Err(Refusal::OurTransactionUnreadable));
-    /// assert_eq!(map.add(&[9; 32], None), Ok(()));
+    /// assert_eq!(map.add(&H256([9; 32]), Some(b"no transaction")), Err(Refusal::OurTransactionUnreadable));
+    /// assert_eq!(map.add(&H256([9; 32]), Some(&[])), Err(Refusal::OurTransactionUnreadable));
+    /// assert_eq!(map.add(&H256([9; 32]), None), Ok(()));
     /// ```
-    pub fn add(&mut self, hash: &[u8; 32], tx: Option<&[u8]>) -> Result<(), Refusal> {
-        ffi::exclusions_add(&mut self.table, hash, molecule::option(tx))
+    pub fn add(&mut self, hash: &H256, tx: Option<&[u8]>) -> Result<(), Refusal> {
+        ffi::exclusions_add(&mut self.table, &hash.0, molecule::option(tx))
     }
 
     /// The transaction of this hash was committed in this block. An unknown hash changes nothing. Never refused.
     ///
     /// ```
     /// let mut map = basinpantry::LiveCellsExclusionMap::new();
-    /// map.commit(&[9; 32], 100);
+    /// map.commit(&[9; 32].into(), 100);
     /// assert!(map == basinpantry::LiveCellsExclusionMap::new());
     /// ```
-    pub fn commit(&mut self, hash: &[u8; 32], block: u64) {
-        ffi::unrefused(ffi::exclusions_commit(&mut self.table, hash, block));
+    pub fn commit(&mut self, hash: &H256, block: u64) {
+        ffi::unrefused(ffi::exclusions_commit(&mut self.table, &hash.0, block));
     }
 
     /// Removes the transaction of this hash. An unknown hash changes nothing. Never refused.
     ///
     /// ```
-    /// use basinpantry::{CellInput, LiveCellsExclusionMap, Transaction};
+    /// use basinpantry::{CellInput, H256, LiveCellsExclusionMap, Transaction};
     ///
     /// let tx = Transaction { inputs: vec![CellInput::default()], ..Transaction::default() };
     /// let mut map = LiveCellsExclusionMap::new();
-    /// map.add(&[9; 32], Some(&tx.to_bytes())).unwrap();
-    /// map.remove(&[9; 32]);
+    /// map.add(&H256([9; 32]), Some(&tx.to_bytes())).unwrap();
+    /// map.remove(&H256([9; 32]));
     /// assert!(map.apply().is_empty());
     /// ```
-    pub fn remove(&mut self, hash: &[u8; 32]) {
-        ffi::unrefused(ffi::exclusions_remove(&mut self.table, hash));
+    pub fn remove(&mut self, hash: &H256) {
+        ffi::unrefused(ffi::exclusions_remove(&mut self.table, &hash.0));
     }
 
     /// Moves an entry to the transaction that replaces it (none: it is only removed). An unknown old hash changes nothing. Refused: 1 and 15, as
     /// [`add`](LiveCellsExclusionMap::add) is; 1 also where the old hash is unknown.
     ///
     /// ```
-    /// use basinpantry::{CellInput, LiveCellsExclusionMap, OutPoint, Transaction};
+    /// use basinpantry::{CellInput, H256, LiveCellsExclusionMap, OutPoint, Transaction};
     ///
     /// let spends = |index| {
-    ///     let input = CellInput { since: 0, previous_output: OutPoint { tx_hash: [1; 32], index } };
+    ///     let input = CellInput { since: 0, previous_output: OutPoint { tx_hash: H256([1; 32]), index } };
     ///     Transaction { inputs: vec![input], ..Transaction::default() }.to_bytes()
     /// };
     /// let mut map = LiveCellsExclusionMap::new();
-    /// map.add(&[8; 32], Some(&spends(0))).unwrap();
-    /// map.migrate_funding_tx(&[8; 32], &[9; 32], Some(&spends(1))).unwrap();
-    /// assert_eq!(map.apply(), [OutPoint { tx_hash: [1; 32], index: 1 }]);
+    /// map.add(&H256([8; 32]), Some(&spends(0))).unwrap();
+    /// map.migrate_funding_tx(&H256([8; 32]), &H256([9; 32]), Some(&spends(1))).unwrap();
+    /// assert_eq!(map.apply(), [OutPoint { tx_hash: H256([1; 32]), index: 1 }]);
     /// ```
-    pub fn migrate_funding_tx(&mut self, old_hash: &[u8; 32], new_hash: &[u8; 32], tx: Option<&[u8]>) -> Result<(), Refusal> {
-        ffi::exclusions_migrate_funding_tx(&mut self.table, old_hash, new_hash, molecule::option(tx))
+    pub fn migrate_funding_tx(&mut self, old_hash: &H256, new_hash: &H256, tx: Option<&[u8]>) -> Result<(), Refusal> {
+        ffi::exclusions_migrate_funding_tx(&mut self.table, &old_hash.0, &new_hash.0, molecule::option(tx))
     }
 
     /// Drops what was committed 13 blocks before the tip, or earlier. Never refused.
     ///
     /// ```
-    /// use basinpantry::{CellInput, LiveCellsExclusionMap, Transaction};
+    /// use basinpantry::{CellInput, H256, LiveCellsExclusionMap, Transaction};
     ///
     /// let tx = Transaction { inputs: vec![CellInput::default()], ..Transaction::default() };
     /// let mut map = LiveCellsExclusionMap::new();
-    /// map.add(&[9; 32], Some(&tx.to_bytes())).unwrap();
+    /// map.add(&H256([9; 32]), Some(&tx.to_bytes())).unwrap();
     /// // what is pending stays
     /// map.truncate(u64::MAX);
     /// assert_eq!(map.apply().len(), 1);

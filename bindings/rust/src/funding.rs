@@ -110,8 +110,8 @@ pub struct TokenPick {
 /// ```
 /// use basinpantry::*;
 ///
-/// let udt = Script { code_hash: [2; 32], hash_type: 1, args: vec![0; 32] };
-/// let source = Script { code_hash: [1; 32], hash_type: 1, args: vec![0; 20] };
+/// let udt = Script { code_hash: H256([2; 32]), hash_type: HashType::TYPE, args: vec![0; 32] };
+/// let source = Script { code_hash: H256([1; 32]), hash_type: HashType::TYPE, args: vec![0; 20] };
 /// let cell = |n: u128| TokenCell { out_point: OutPoint::default(), data: n.to_le_bytes().to_vec() };
 /// let cells = [cell(30), cell(50), cell(40)];
 /// let pick = |wanted| build_udt_inputs_outputs(&cells, Some(&udt.to_bytes()), &source.to_bytes(), wanted);
@@ -169,7 +169,7 @@ pub struct BaseRequest<'a> {
 /// use basinpantry::*;
 ///
 /// let lock = Script::default();
-/// let source = Script { code_hash: [1; 32], ..Script::default() };
+/// let source = Script { code_hash: H256([1; 32]), ..Script::default() };
 /// let request = FundingRequest { local_amount: 5, local_reserved_ckb_amount: 7, ..FundingRequest::default() };
 /// let base =
 ///     build_base(&BaseRequest { lock: &lock.to_bytes(), source: &source.to_bytes(), request, ..BaseRequest::default() }).unwrap();

@@ -98,10 +98,10 @@ pub struct Taken {
 /// Two tables are equal where the same records stand in them in the same order; bytes behind the last record mean nothing.
 ///
 /// ```
-/// use basinpantry::{HeldCells, OutPoint, Taken, Taker};
+/// use basinpantry::{H256, HeldCells, OutPoint, Taken, Taker};
 ///
-/// let a = OutPoint { tx_hash: [1; 32], index: 0 };
-/// let b = OutPoint { tx_hash: [1; 32], index: 1 };
+/// let a = OutPoint { tx_hash: H256([1; 32]), index: 0 };
+/// let b = OutPoint { tx_hash: H256([1; 32]), index: 1 };
 /// let mut held = HeldCells::new();
 /// let taken = held.take(&[a, a, b], &[], Taker::Funding(7), 0).unwrap();
 /// assert_eq!(taken, Taken { taken: vec![a, b], refused: vec![a] });
@@ -180,9 +180,9 @@ impl HeldCells {
     /// long a list), 14 (over 256 records).
     ///
     /// ```
-    /// use basinpantry::{HeldCells, OutPoint, Refusal};
+    /// use basinpantry::{H256, HeldCells, OutPoint, Refusal};
     ///
-    /// let point = |index| OutPoint { tx_hash: [0; 32], index };
+    /// let point = |index| OutPoint { tx_hash: H256([0; 32]), index };
     /// let mut held = HeldCells::new();
     /// held.hold_funding(7, &[point(1), point(2)]).unwrap();
     /// held.hold_funding(7, &[point(3)]).unwrap();

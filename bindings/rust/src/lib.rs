@@ -3,11 +3,13 @@
 //! nothing.
 //!
 //! - [`update_for_peer`] judges one [`PeerUpdate`], [`Negotiation`] keeps the transaction in force.
+//! - [`reason()`] says which of the checks under a refusal's number failed.
 //! - [`CaseFile`] is an update in one file; the program `basinpantry` makes, judges and shows such files.
 //! - [`replay`] judges a list of updates in one call.
 //! - [`HeldCells`] and [`LiveCellsExclusionMap`] keep which cells of ours are in use.
 //! - [`build_base`] writes the base transaction of our own side.
-//! - [`Transaction`], [`Script`] and the like are the lent bytes as Rust values.
+//! - [`json`] reads what a node prints.
+//! - [`Transaction`], [`Script`], [`H256`] and the like are the lent bytes as Rust values.
 //!
 //! Transactions and scripts are lent as their bytes, and one that may be missing as an `Option` of them. One of no bytes is not missing, but unreadable.
 //!
@@ -31,7 +33,10 @@ mod exclusions;
 mod ffi;
 mod funding;
 mod held_cells;
+pub mod json;
 mod molecule;
+mod names;
+mod reason;
 mod refusal;
 mod replay;
 mod total;
@@ -45,6 +50,8 @@ pub use funding::{
     BaseRequest, FundingCell, FundingRequest, TokenCell, TokenPick, build_base, build_funding_cell, build_udt_inputs_outputs,
 };
 pub use held_cells::{HELD_BYTES, HeldCells, Hold, Owner, Taken, Taker};
+pub use names::{DepType, H256, HashType, ParseNameError};
+pub use reason::reason;
 pub use refusal::Refusal;
 pub use replay::{Replay, replay};
 pub use total::{Total, TotalTooWide};

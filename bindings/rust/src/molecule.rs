@@ -25,19 +25,35 @@ pub(crate) fn fixvec<T: AsRef<[u8]>>(items: impl IntoIterator<Item = T>) -> Vec<
     out
 }
 
-/// A table, or a list of unsized items: total size, offsets, items.
-pub(crate) fn table<T: AsRef<[u8]>>(items: &[T]) -> Vec<u8> {
-    let head = 4 * (items.len() + 1);
-    let total = items.iter().fold(head, |sum, item| sum.saturating_add(item.as_ref().len()));
+/// The start of a table, or of a list of unsized items, with room for the items of these sizes that are to stand behind it: total size, offsets.
+pub(crate) fn head(sizes: impl Iterator<Item = usize> + Clone) -> Vec<u8> {
+    let head = 4 * (sizes.clone().count() + 1);
+    let total = sizes.clone().fold(head, usize::saturating_add);
     let mut out = Vec::with_capacity(total);
     out.extend(size(total));
     let mut at = head;
-    for item in items {
+    for n in sizes {
         out.extend(size(at));
-        at += item.as_ref().len();
+        at += n;
     }
+    out
+}
+
+/// A table, or a list of unsized items: total size, offsets, items.
+pub(crate) fn table<T: AsRef<[u8]>>(items: &[T]) -> Vec<u8> {
+    let mut out = head(items.iter().map(|item| item.as_ref().len()));
     for item in items {
         out.extend(item.as_ref());
+    }
+    out
+}
+
+/// A list of byte strings, each with its count. Written in one go, since there may be many short ones.
+pub(crate) fn bytes_vec<T: AsRef<[u8]>>(entries: &[T]) -> Vec<u8> {
+    let mut out = head(entries.iter().map(|entry| 4 + entry.as_ref().len()));
+    for entry in entries {
+        out.extend(size(entry.as_ref().len()));
+        out.extend(entry.as_ref());
     }
     out
 }
@@ -58,25 +74,22 @@ fn number_at(s: &[u8], at: usize) -> Option<usize> {
     usize::try_from(u32::from_le_bytes(part)).ok()
 }
 
-/// The parts of a table or of a list of unsized items.
-pub(crate) fn parts(s: &[u8]) -> Option<Vec<&[u8]>> {
+/// The parts of a table or of a list of unsized items, one after the other; one that does not lie in the bytes is nothing.
+pub(crate) fn each_part(s: &[u8]) -> Option<impl ExactSizeIterator<Item = Option<&[u8]>> + Clone> {
     if number_at(s, 0)? != s.len() {
         return None;
     }
-    if s.len() == 4 {
-        return Some(Vec::new());
-    }
-    let head = number_at(s, 4)?;
-    if head % 4 != 0 || head < 8 || head > s.len() {
-        return None;
-    }
+    let head = if s.len() == 4 { 4 } else { number_at(s, 4).filter(|head| head % 4 == 0 && (8..=s.len()).contains(head))? };
     let count = head / 4 - 1;
-    let mut parts = Vec::with_capacity(count);
-    for i in 1..=count {
+    Some((1..count + 1).map(move |i| {
         let end = if i == count { s.len() } else { number_at(s, 4 * (i + 1))? };
-        parts.push(s.get(number_at(s, 4 * i)?..end)?);
-    }
-    Some(parts)
+        s.get(number_at(s, 4 * i)?..end)
+    }))
+}
+
+/// All of them.
+pub(crate) fn parts(s: &[u8]) -> Option<Vec<&[u8]>> {
+    each_part(s)?.collect()
 }
 
 /// The content of bytes with their count.
@@ -97,6 +110,8 @@ mod tests {
         assert_eq!(fixvec([b"ab", b"cd"]), b"\x02\0\0\0abcd");
         assert_eq!(table::<&[u8]>(&[]), b"\x04\0\0\0");
         assert_eq!(parts(b"\x04\0\0\0"), Some(vec![]));
+        assert_eq!(bytes_vec(&[&b"ab"[..], b""]), table(&[bytes(b"ab"), bytes(b"")]));
+        assert_eq!(bytes_vec::<&[u8]>(&[]), b"\x04\0\0\0");
         let two = table(&[&b"ab"[..], b""]);
         assert_eq!(two, b"\x0e\0\0\0\x0c\0\0\0\x0e\0\0\0ab");
         assert_eq!(parts(&two), Some(vec![&b"ab"[..], b""]));

@@ -126,6 +126,44 @@ impl Refusal {
         }
     }
 
+    /// Its name, as here.
+    ///
+    /// ```
+    /// assert_eq!(basinpantry::Refusal::TooManyHolds.name(), "TooManyHolds");
+    /// ```
+    pub fn name(&self) -> &'static str {
+        match self {
+            Refusal::OurTransactionUnreadable => "OurTransactionUnreadable",
+            Refusal::PeerTransactionUnreadable => "PeerTransactionUnreadable",
+            Refusal::LentBytesUnreadable => "LentBytesUnreadable",
+            Refusal::PeerFundingTxExceedsLimit => "PeerFundingTxExceedsLimit",
+            Refusal::InvalidPeerFundingTx => "InvalidPeerFundingTx",
+            Refusal::PeerInputUsesOurFundingLock { .. } => "PeerInputUsesOurFundingLock",
+            Refusal::OverflowError => "OverflowError",
+            Refusal::PeerFundingFeeTooLow { .. } => "PeerFundingFeeTooLow",
+            Refusal::InsufficientCells => "InsufficientCells",
+            Refusal::TokenTotalOverflow => "TokenTotalOverflow",
+            Refusal::MissingCellDep => "MissingCellDep",
+            Refusal::TokenCellDataTooShort => "TokenCellDataTooShort",
+            Refusal::BufferTooShort => "BufferTooShort",
+            Refusal::TooManyHolds => "TooManyHolds",
+            Refusal::TooManyExclusions => "TooManyExclusions",
+        }
+    }
+
+    /// The names of the values that it carries, in the order of [`values`](Refusal::values).
+    ///
+    /// ```
+    /// assert_eq!(basinpantry::Refusal::PeerInputUsesOurFundingLock { input_index: 2 }.value_names(), ["input_index"]);
+    /// ```
+    pub fn value_names(&self) -> &'static [&'static str] {
+        match self {
+            Refusal::PeerInputUsesOurFundingLock { .. } => &["input_index"],
+            Refusal::PeerFundingFeeTooLow { .. } => &["peer_fee", "required_fee", "funding_fee_rate", "tx_size"],
+            _ => &[],
+        }
+    }
+
     /// Its sentence, which the header for C has too.
     ///
     /// ```
@@ -208,6 +246,10 @@ mod tests {
                 _ => 0,
             };
             assert_eq!(why.values(), [1, 2, 3, 4][..count]);
+            assert_eq!(why.value_names().len(), count);
+            // the names are those of the case
+            let debug = format!("{why:?}");
+            assert!(debug.starts_with(why.name()) && why.value_names().iter().all(|name| debug.contains(&format!(" {name}: "))), "{debug}");
             // the sentence, and after a colon the values
             let text = why.to_string();
             let rest = text.strip_prefix(why.sentence()).expect("the sentence first");

@@ -132,6 +132,21 @@ impl TryFrom<Total> for u128 {
     }
 }
 
+/// As CKB's JSON has numbers, with `{:#x}`.
+///
+/// ```
+/// use basinpantry::Total;
+///
+/// assert_eq!(format!("{:#x}", Total::from(205)), "0xcd");
+/// assert_eq!(format!("{:#x}", [u128::MAX, 2].into_iter().sum::<Total>()), format!("0x1{:032x}", 1));
+/// ```
+impl fmt::LowerHex for Total {
+    fn fmt(&self, f: &mut fmt::Formatter<'_>) -> fmt::Result {
+        let digits = if self.high == 0 { format!("{:x}", self.low) } else { format!("{:x}{:032x}", self.high, self.low) };
+        f.pad_integral(true, "0x", &digits)
+    }
+}
+
 impl fmt::Display for Total {
     fn fmt(&self, f: &mut fmt::Formatter<'_>) -> fmt::Result {
         // 19 decimal digits at a time, from the right

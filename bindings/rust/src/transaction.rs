@@ -1,5 +1,6 @@
 //! Transactions as Rust values.
 use crate::cells::{CellDep, CellInput, CellOutput, amount_of};
+use crate::names::H256;
 use crate::refusal::Refusal;
 use crate::{ffi, molecule};
 
@@ -68,7 +69,7 @@ pub struct Transaction {
     /// The cells whose data the scripts need.
     pub cell_deps: Vec<CellDep>,
     /// The blocks whose headers the scripts need.
-    pub header_deps: Vec<[u8; 32]>,
+    pub header_deps: Vec<H256>,
     /// The cells that are spent.
     pub inputs: Vec<CellInput>,
     /// The cells that are made.
@@ -107,8 +108,8 @@ impl Transaction {
             molecule::fixvec(&self.header_deps),
             molecule::fixvec(self.inputs.iter().map(CellInput::to_bytes)),
             molecule::table(&outputs),
-            bytes_vec(&self.outputs_data),
-            bytes_vec(&self.witnesses),
+            molecule::bytes_vec(&self.outputs_data),
+            molecule::bytes_vec(&self.witnesses),
         ]
     }
 
@@ -123,7 +124,7 @@ impl Transaction {
         Some(Transaction {
             version,
             cell_deps: list(List::CellDeps)?.into_iter().map(CellDep::from_bytes).collect::<Option<_>>()?,
-            header_deps: list(List::HeaderDeps)?.into_iter().map(|hash| hash.try_into().ok()).collect::<Option<_>>()?,
+            header_deps: list(List::HeaderDeps)?.into_iter().map(H256::from_bytes).collect::<Option<_>>()?,
             inputs: list(List::Inputs)?.into_iter().map(CellInput::from_bytes).collect::<Option<_>>()?,
             outputs: list(List::Outputs)?.into_iter().map(CellOutput::from_bytes).collect::<Option<_>>()?,
             outputs_data: list(List::OutputsData)?.into_iter().map(<[u8]>::to_vec).collect(),
@@ -142,12 +143,6 @@ impl Transaction {
     pub fn amount(&self, i: usize) -> Option<u128> {
         amount_of(self.outputs_data.get(i)?)
     }
-}
-
-/// A list of byte strings, each with its count.
-fn bytes_vec(entries: &[Vec<u8>]) -> Vec<u8> {
-    let items: Vec<Vec<u8>> = entries.iter().map(|entry| molecule::bytes(entry)).collect();
-    molecule::table(&items)
 }
 
 /// A list of a transaction, by the number that the library has for it.

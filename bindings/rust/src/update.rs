@@ -1,4 +1,5 @@
 //! A peer's update, and a list of them.
+use crate::reason::reason;
 use crate::refusal::Refusal;
 use crate::total::Total;
 use crate::{ffi, molecule};
@@ -46,7 +47,7 @@ pub(crate) fn whole(low: u64, high: u64) -> u128 {
 /// use basinpantry::*;
 ///
 /// let lock = Script::default();
-/// let source = Script { code_hash: [1; 32], ..Script::default() };
+/// let source = Script { code_hash: H256([1; 32]), ..Script::default() };
 /// let output = CellOutput { capacity: 10_000_000_000, lock: lock.clone(), type_: None };
 /// let peer = Transaction {
 ///     inputs: vec![CellInput::default()],
@@ -98,7 +99,7 @@ pub struct PeerUpdate<'a> {
 /// use basinpantry::*;
 ///
 /// let lock = Script::default();
-/// let source = Script { code_hash: [1; 32], ..Script::default() }.to_bytes();
+/// let source = Script { code_hash: H256([1; 32]), ..Script::default() }.to_bytes();
 /// let output = CellOutput { capacity: 10_000_000_000, lock: lock.clone(), type_: None };
 /// let peer = Transaction {
 ///     inputs: vec![CellInput::default()],
@@ -163,6 +164,22 @@ impl Negotiation {
         self.token += accepted.token;
         self.accepted = self.accepted.saturating_add(1);
         Ok(accepted)
+    }
+
+    /// Which of the checks under its number refused an update that [`update`](Negotiation::update) was called with ([`reason()`](crate::reason())).
+    ///
+    /// ```
+    /// use basinpantry::*;
+    ///
+    /// let script = Script::default().to_bytes();
+    /// let mut negotiation = Negotiation::new(None, &script, None);
+    /// let peer = Transaction { version: 1, ..Transaction::default() }.to_bytes();
+    /// let update = PeerUpdate { peer: &peer, records: &write_records(&[]), source: &script, rate: 1000 };
+    /// let why = negotiation.update(&update).unwrap_err();
+    /// assert_eq!(negotiation.reason(&update, &why).unwrap(), "its version is 1, and ours is 0");
+    /// ```
+    pub fn reason(&self, update: &PeerUpdate, why: &Refusal) -> Option<String> {
+        reason(self.in_force.as_deref(), &self.lock, self.udt.as_deref(), update, why)
     }
 
     /// The transaction in force: the peer's of the last accepted update, or the one at the start, if there was one.

@@ -59,7 +59,7 @@ fn transactions_are_written_as_they_are_read() {
             all.into_iter().map(<[u8]>::to_vec).collect::<Vec<_>>()
         };
         assert_eq!(items(List::CellDeps), tx.cell_deps.iter().map(|dep| dep.to_bytes().to_vec()).collect::<Vec<_>>());
-        assert_eq!(items(List::HeaderDeps), tx.header_deps.iter().map(|hash| hash.to_vec()).collect::<Vec<_>>());
+        assert_eq!(items(List::HeaderDeps), tx.header_deps.iter().map(|hash| hash.as_ref().to_vec()).collect::<Vec<_>>());
         assert_eq!(items(List::Inputs), tx.inputs.iter().map(|input| input.to_bytes().to_vec()).collect::<Vec<_>>());
         assert_eq!(items(List::Outputs), tx.outputs.iter().map(|output| output.to_bytes()).collect::<Vec<_>>());
         assert_eq!(items(List::OutputsData), tx.outputs_data);

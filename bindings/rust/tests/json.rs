@@ -1,7 +1,7 @@
 //! From a node's JSON to a case, and what is said of bad JSON.
 mod common;
 
-use basinpantry::{CaseFile, CellDep, CellInput, CellOutput, OutPoint, Script, Transaction};
+use basinpantry::{CaseFile, CellDep, CellInput, CellOutput, DepType, H256, HashType, OutPoint, Script, Transaction};
 use common::{Ran, file, make, read, run};
 
 #[test]
@@ -80,13 +80,13 @@ const SMALL: &str = r#"{
 fn small() -> Transaction {
     Transaction {
         version: 1,
-        cell_deps: vec![CellDep { out_point: OutPoint { tx_hash: [0x11; 32], index: 2 }, dep_type: 1 }],
-        header_deps: vec![[0x22; 32]],
-        inputs: vec![CellInput { since: u64::MAX - 1, previous_output: OutPoint { tx_hash: [0x33; 32], index: u32::MAX } }],
+        cell_deps: vec![CellDep { out_point: OutPoint { tx_hash: H256([0x11; 32]), index: 2 }, dep_type: DepType::DEP_GROUP }],
+        header_deps: vec![H256([0x22; 32])],
+        inputs: vec![CellInput { since: u64::MAX - 1, previous_output: OutPoint { tx_hash: H256([0x33; 32]), index: u32::MAX } }],
         outputs: vec![CellOutput {
             capacity: 100_000_000_000,
-            lock: Script { code_hash: [0x44; 32], hash_type: 4, args: vec![0xab, 0xcd] },
-            type_: Some(Script { code_hash: [0x55; 32], hash_type: 2, args: vec![] }),
+            lock: Script { code_hash: H256([0x44; 32]), hash_type: HashType::DATA2, args: vec![0xab, 0xcd] },
+            type_: Some(Script { code_hash: H256([0x55; 32]), hash_type: HashType::DATA1, args: vec![] }),
         }],
         outputs_data: vec![vec![1, 2]],
         witnesses: vec![vec![], vec![0xff]],
@@ -123,13 +123,20 @@ fn what_stands_around_a_transaction() {
     }
 }
 
+/// What a failure ends with where the case was there before.
+fn still_there(out: &str) -> String {
+    format!("basinpantry: note: the old {out} is still there\n")
+}
+
 /// The complaint about a peer's transaction, without the file's name.
 fn complaint(name: &str, text: &[u8]) -> String {
     let path = file(&format!("bad_{name}.json"), text);
-    let made = make(&file("bad.case", ""), &[("--peer", &path)]);
+    let out = file("bad.case", "");
+    let made = make(&out, &[("--peer", &path)]);
     assert_eq!((made.status, made.out.as_str()), (2, ""), "{name}");
     let start = format!("basinpantry: {path}: ");
-    made.err.strip_prefix(&start).unwrap_or_else(|| panic!("{name}: {}", made.err)).trim_end().to_string()
+    let why = made.err.strip_prefix(&start).unwrap_or_else(|| panic!("{name}: {}", made.err));
+    why.strip_suffix(&still_there(&out)).unwrap_or_else(|| panic!("{name}: {}", made.err)).trim_end().to_string()
 }
 
 #[test]
@@ -193,7 +200,7 @@ fn bad_json() {
             "end",
             "\"witnesses\": [\"0x\", \"0xff\"]\n}\n",
             "\"witnesses\": [\"0x\", \"0xff\"",
-            "line 18, column 29: a comma or ] is expected, and the file ends",
+            "line 18, column 29: a comma or ] is expected, and the text ends",
         ),
     ] {
         let text = SMALL.replacen(from, to, 1);
@@ -232,6 +239,21 @@ fn bad_files() {
     assert_eq!(complaint("deep", "[".repeat(1_000_000).as_bytes()), "line 1, column 65: nested over 64 levels");
     assert_eq!(complaint("neither", &[4, 0, 0, 0]), "neither the bytes of a transaction nor JSON");
     assert_eq!(complaint("empty", b""), "neither the bytes of a transaction nor JSON");
+}
+
+/// Texts that are nearly JSON, where a transaction, records or a case file is wanted.
+#[test]
+fn texts_of_another_kind() {
+    let mark = "the text begins with a byte order mark, which JSON has not; save it as UTF-8 without one";
+    let yaml = "the text looks like YAML, not JSON; ckb-cli prints JSON with --output-format json";
+    let marked = format!("\u{feff}{SMALL}");
+    for (name, text, why) in [("mark", marked.as_str(), mark), ("yaml", "version: 0x0\ncell_deps: []\n", yaml)] {
+        assert_eq!(complaint(name, text.as_bytes()), format!("line 1, column 1: {why}"));
+        let path = file(&format!("kind_{name}.txt"), text);
+        assert_eq!(run(&["show", &path]).err, format!("basinpantry: {path}: line 1, column 1: {why}\n"));
+        assert_eq!(run(&["check", &path]).err, format!("basinpantry: {path}: no case file: {why}\n"));
+        assert!(with_records(name, text).err.contains(&format!("line 1, column 1: {why}\n")));
+    }
 }
 
 /// Verbosity 1 of `get_transaction` has the status alone.
@@ -295,7 +317,11 @@ const NODE_ERROR: &str = "\"error\": {\"code\": -301, \"message\": \"Database: c
 fn bad_records() {
     let entry = read("records.json");
     for (name, text, why) in [
-        ("object", "{}".to_string(), "line 1, column 1: a list is expected, not an object"),
+        (
+            "object",
+            "{}".to_string(),
+            "line 1, column 1: a list of records, or an answer of get_live_cell or get_cells, is expected, not an object",
+        ),
         ("number", "[1]".to_string(), "line 1, column 2: an object is expected, not a number without quotes"),
         ("no_cell", "[{\"status\": \"live\"}]".to_string(), "line 1, column 2: the cell is live, and the field \"cell\" is missing"),
         ("status", "[{\"status\": \"lost\"}]".to_string(), "line 1, column 13: status is one of live, dead, unknown, not \"lost\""),
@@ -329,7 +355,7 @@ fn bad_records() {
     ] {
         let made = with_records(name, &text);
         assert_eq!((made.status, made.out.as_str()), (2, ""), "{name}");
-        assert!(made.err.ends_with(&format!("records_{name}.json: {why}\n")), "{name}: {}", made.err);
+        assert!(made.err.contains(&format!("records_{name}.json: {why}\n")), "{name}: {}", made.err);
     }
 }
 
@@ -338,7 +364,7 @@ fn bad_records() {
 fn another_kind_of_file() {
     for words in [&["check", "json/peer.json"][..], &["replay", "json/peer.json"], &["replay", "cases/first.case", "json/peer.json"]] {
         let ran = run(words);
-        let why = "basinpantry: json/peer.json: this is JSON; make a case file of it with `basinpantry case`\n";
+        let why = "basinpantry: json/peer.json: this is JSON; make a case file of it with `basinpantry case`, or judge it with `basinpantry judge`\n";
         assert_eq!((ran.status, ran.out.as_str(), ran.err.as_str()), (2, "", why), "{words:?}");
     }
     assert_eq!(run(&["check", "--line", "json/peer.json"]).out, "3\n");
@@ -353,8 +379,10 @@ fn another_kind_of_file() {
 #[test]
 fn scripts() {
     let path = file("script.json", "{\"code_hash\": \"0x00\", \"hash_type\": \"type\", \"args\": \"0x\"}");
-    let made = make(&file("script.case", ""), &[("--lock", &path)]);
-    assert_eq!(made.err, format!("basinpantry: {path}: line 1, column 15: a hash has 32 bytes, and this has 1\n"));
-    let made = make(&file("script.case", ""), &[("--source", &file("script.bin", [1, 2, 3]))]);
-    assert!(made.err.ends_with("script.bin: neither the bytes of a script nor JSON\n"), "{}", made.err);
+    let out = file("script.case", "");
+    let made = make(&out, &[("--lock", &path)]);
+    let why = format!("basinpantry: {path}: line 1, column 15: a hash has 32 bytes, and this has 1\n");
+    assert_eq!(made.err, why + &still_there(&out));
+    let made = make(&out, &[("--source", &file("script.bin", [1, 2, 3]))]);
+    assert!(made.err.contains("script.bin: neither the bytes of a script nor JSON\n"), "{}", made.err);
 }

@@ -73,6 +73,21 @@ fn an_input_listed_twice() {
     assert!(!run(&["show", &out]).out.contains("note:"));
 }
 
+/// Data entries beyond the outputs are judged as in the original, and noted, since the chain refuses the transaction.
+#[test]
+fn an_entry_too_many() {
+    let peer = read("peer.json").replacen("0000\"\n    ],", "0000\",\n      \"0x\"\n    ],", 1);
+    let peer = file("entries.json", peer);
+    let out = file("entries.case", "");
+    let made = make(&out, &[("--peer", &peer)]);
+    let note =
+        "the peer's transaction has 3 outputs and 4 data entries: it is judged all the same, and the chain takes no such transaction\n";
+    assert_eq!((made.status, made.err), (0, format!("basinpantry: note: {note}")));
+    let shown = run(&["show", &out]).out;
+    assert!(shown.contains(&format!("\n  note: {note}")), "{shown}");
+    assert_eq!(run(&["check", &out]).out, VERDICT);
+}
+
 /// A transaction of 123 bytes begins with the byte of `{`, and is none the less read as what it is.
 #[test]
 fn bytes_that_begin_as_json() {

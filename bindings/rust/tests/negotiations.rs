@@ -4,7 +4,7 @@ mod common;
 use basinpantry::*;
 
 fn script(b: u8) -> Script {
-    Script { code_hash: [b; 32], ..Script::default() }
+    Script { code_hash: H256([b; 32]), ..Script::default() }
 }
 
 fn token_output(capacity: u64) -> CellOutput {
@@ -13,7 +13,7 @@ fn token_output(capacity: u64) -> CellOutput {
 
 /// Output 0 with 100 shannons and 5 tokens, over so many inputs.
 fn holding(inputs: u32) -> Vec<u8> {
-    let input = |index| CellInput { since: 0, previous_output: OutPoint { tx_hash: [0; 32], index } };
+    let input = |index| CellInput { since: 0, previous_output: OutPoint { tx_hash: H256([0; 32]), index } };
     Transaction {
         inputs: (0..inputs).map(input).collect(),
         outputs: vec![token_output(100)],

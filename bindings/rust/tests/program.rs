@@ -7,10 +7,11 @@ use common::{cases, file, run, run_with};
 fn help() {
     for (words, start) in [
         (&["--help"][..], "basinpantry judges the funding transactions"),
-        (&["check", "--help"], "basinpantry check [--line] CASE\n"),
+        (&["check", "--help"], "basinpantry check [--line | --json] CASE\n"),
         (&["case", "--help"], "basinpantry case --peer FILE"),
-        (&["show", "-h"], "basinpantry show [--full] FILE\n"),
-        (&["replay", "--help"], "basinpantry replay CASE...\n"),
+        (&["judge", "--help"], "basinpantry judge --peer FILE"),
+        (&["show", "-h"], "basinpantry show [--full | --json] FILE\n"),
+        (&["replay", "--help"], "basinpantry replay [--json] CASE...\n"),
     ] {
         let ran = run(words);
         assert_eq!((ran.status, ran.err.as_str()), (0, ""), "{words:?}");
@@ -19,9 +20,44 @@ fn help() {
 }
 
 #[test]
+fn help_by_name() {
+    for name in ["judge", "check", "case", "show", "replay"] {
+        assert_eq!(run(&["help", name]), run(&[name, "--help"]), "{name}");
+    }
+    assert_eq!(run(&["help"]), run(&["--help"]));
+    let ran = run(&["help", "him"]);
+    assert_eq!((ran.status, ran.err.as_str()), (2, "basinpantry: there is no command him; try: basinpantry --help\n"));
+    let version = format!("basinpantry {}\n", env!("CARGO_PKG_VERSION"));
+    assert_eq!((run(&["-V"]).out, run(&["--version"]).out), (version.clone(), version));
+}
+
+/// An option and its value in one word.
+#[test]
+fn values_behind_a_sign() {
+    let parts = ["--peer=json/peer.json", "--lock=json/funding_lock.json", "--source=json/source_lock.json"];
+    let joined = run(&[&["case", "--rate=1000"][..], &parts].concat());
+    assert_eq!(joined.status, 0, "{}", joined.err);
+    let apart: Vec<&str> = parts.iter().flat_map(|part| part.split('=')).collect();
+    assert_eq!(run(&[&["case", "--rate", "1000"][..], &apart].concat()), joined);
+    for (words, why) in [
+        (&["case", "--rate="][..], "--rate needs a number; try: basinpantry case --help"),
+        (&["case", "--rate=x"], "--rate is a number below 2^64, not x; try: basinpantry case --help"),
+        (&["case", "--rate=1", "--rate=2"], "--rate stands twice; try: basinpantry case --help"),
+        (&["case", "--peer="], "--peer needs a file; try: basinpantry case --help"),
+        (&["check", "--line=1", "a"], "--line takes no value; try: basinpantry check --help"),
+        (&["check", "--lines=1", "a"], "there is no option --lines; try: basinpantry check --help"),
+        (&["check", "--", "--line=1"], "--line=1: No such file or directory (os error 2)"),
+        (&["check", "a=b"], "a=b: No such file or directory (os error 2)"),
+    ] {
+        let ran = run(words);
+        assert_eq!((ran.status, ran.err), (2, format!("basinpantry: {why}\n")), "{words:?}");
+    }
+}
+
+#[test]
 fn bad_usage() {
     for (words, why) in [
-        (&["judge"][..], "basinpantry: there is no command judge; try: basinpantry --help\n"),
+        (&["jugde"][..], "basinpantry: there is no command jugde; try: basinpantry --help\n"),
         (&["check"], "basinpantry: no file is named; try: basinpantry check --help\n"),
         (&["check", "a", "b"], "basinpantry: only one file is looked at, not also b; try: basinpantry check --help\n"),
         (&["check", "--lines", "a"], "basinpantry: there is no option --lines; try: basinpantry check --help\n"),
@@ -220,7 +256,7 @@ in force: the peer's transaction of cases/itself.case
     assert_eq!(ran.status, 2);
 }
 
-/// Nobody reads what is printed: no panic.
+/// Nobody reads what is printed: no panic and no complaint.
 #[test]
 fn closed_output() {
     use std::process::{Command, Stdio};
@@ -235,6 +271,5 @@ fn closed_output() {
     let bytes = &cases()[0].1;
     std::io::Write::write_all(&mut child.stdin.take().unwrap(), bytes).unwrap();
     let output = child.wait_with_output().unwrap();
-    assert_eq!(output.status.code(), Some(2));
-    assert!(String::from_utf8_lossy(&output.stderr).starts_with("basinpantry: standard output: "));
+    assert_eq!((output.status.code(), String::from_utf8_lossy(&output.stderr).as_ref()), (Some(0), ""));
 }

@@ -1,6 +1,10 @@
 //! What README.md says that the program prints, in the folder that it goes to.
 mod common;
 
+#[allow(dead_code)]
+#[path = "../examples/judge_update.rs"]
+mod judge_update;
+
 use common::examples;
 use std::path::{Path, PathBuf};
 use std::process::Command;
@@ -75,5 +79,19 @@ fn what_the_program_prints() {
             _ => panic!("{command}"),
         }
     }
-    assert_eq!(ran, 6);
+    assert_eq!(ran, 9);
+}
+
+/// The program in it is the example, and prints what is said.
+#[test]
+fn the_program_in_it() {
+    let here = Path::new(env!("CARGO_MANIFEST_DIR"));
+    let text = std::fs::read_to_string(here.join("README.md")).unwrap();
+    let block = |kind: &str| {
+        let (_, rest) = text.split_once(&format!("```{kind}\n")).expect("a block");
+        rest.split_once("```").expect("its end").0.to_string()
+    };
+    assert_eq!(block("rust"), std::fs::read_to_string(here.join("examples/judge_update.rs")).unwrap());
+    let lines = judge_update::judge(examples().join("json").to_str().unwrap()).unwrap();
+    assert_eq!(block("text"), lines.join("\n") + "\n");
 }

@@ -2,8 +2,8 @@
 mod common;
 
 use basinpantry::{
-    BaseRequest, CaseFile, CellDep, CellInput, HeldCells, LiveCellsExclusionMap, MAX_CASE_BYTES, OutPoint, Script, Taker, Transaction,
-    build_base, check_case, replay, rewrite,
+    BaseRequest, CaseFile, CellDep, CellInput, DepType, H256, HeldCells, LiveCellsExclusionMap, MAX_CASE_BYTES, OutPoint, Script, Taker,
+    Transaction, build_base, check_case, replay, rewrite,
 };
 use common::cases;
 
@@ -15,7 +15,7 @@ fn with_stack(bytes: usize, run: impl FnOnce() + Send + 'static) {
 }
 
 fn points(n: u32) -> Vec<OutPoint> {
-    (0..n).map(|index| OutPoint { tx_hash: [1; 32], index }).collect()
+    (0..n).map(|index| OutPoint { tx_hash: H256([1; 32]), index }).collect()
 }
 
 fn spending(n: u32) -> Vec<u8> {
@@ -45,7 +45,7 @@ fn call_take() {
 
 /// As many cell deps as fit a transaction.
 fn call_build_base() {
-    let extra_deps: Vec<CellDep> = points(3_587).into_iter().map(|out_point| CellDep { out_point, dep_type: 0 }).collect();
+    let extra_deps: Vec<CellDep> = points(3_587).into_iter().map(|out_point| CellDep { out_point, dep_type: DepType::CODE }).collect();
     let script = Script::default().to_bytes();
     let base = build_base(&BaseRequest { lock: &script, source: &script, extra_deps: &extra_deps, ..BaseRequest::default() });
     assert!(base.expect("room").len() > 132_000);
@@ -54,12 +54,12 @@ fn call_build_base() {
 /// A full map.
 fn call_exclusions() {
     let mut map = LiveCellsExclusionMap::new();
-    map.add(&[1; 32], Some(&spending(512))).expect("room");
-    map.commit(&[1; 32], 5);
+    map.add(&H256([1; 32]), Some(&spending(512))).expect("room");
+    map.commit(&H256([1; 32]), 5);
     map.truncate(6);
-    map.migrate_funding_tx(&[1; 32], &[2; 32], Some(&spending(512))).expect("room");
+    map.migrate_funding_tx(&H256([1; 32]), &H256([2; 32]), Some(&spending(512))).expect("room");
     assert_eq!(map.apply().len(), 512);
-    map.remove(&[2; 32]);
+    map.remove(&H256([2; 32]));
     assert!(map.apply().is_empty());
 }
 

@@ -1,10 +1,10 @@
 //! The tables of cells: the known outcomes, limits, and that any content is safe.
 use basinpantry::{
-    CellInput, HELD_BYTES, HeldCells, LiveCellsExclusion, LiveCellsExclusionMap, OutPoint, Owner, Refusal, Taken, Taker, Transaction,
+    CellInput, H256, HELD_BYTES, HeldCells, LiveCellsExclusion, LiveCellsExclusionMap, OutPoint, Owner, Refusal, Taken, Taker, Transaction,
 };
 
 fn point(index: u32) -> OutPoint {
-    OutPoint { tx_hash: [7; 32], index }
+    OutPoint { tx_hash: H256([7; 32]), index }
 }
 
 fn points(from: u32, to: u32) -> Vec<OutPoint> {
@@ -82,9 +82,9 @@ fn at_most_256_holds() {
 #[test]
 fn committed_and_dropped() {
     let mut map = LiveCellsExclusionMap::new();
-    map.add(&[1; 32], Some(&spends(&points(0, 2)))).unwrap();
-    map.add(&[2; 32], Some(&spends(&points(2, 3)))).unwrap();
-    map.commit(&[1; 32], 100);
+    map.add(&H256([1; 32]), Some(&spends(&points(0, 2)))).unwrap();
+    map.add(&H256([2; 32]), Some(&spends(&points(2, 3)))).unwrap();
+    map.commit(&H256([1; 32]), 100);
     for tip in [99, 112] {
         map.truncate(tip);
         assert_eq!(map.apply(), points(0, 3), "{tip}");
@@ -93,11 +93,11 @@ fn committed_and_dropped() {
     // the pending one stays
     assert_eq!(map.apply(), points(2, 3));
     // entered again it is pending again
-    map.commit(&[2; 32], 200);
-    map.add(&[2; 32], Some(&spends(&points(5, 6)))).unwrap();
+    map.commit(&H256([2; 32]), 200);
+    map.add(&H256([2; 32]), Some(&spends(&points(5, 6)))).unwrap();
     map.truncate(u64::MAX);
     assert_eq!(map.apply(), points(5, 6));
-    map.commit(&[2; 32], u64::MAX);
+    map.commit(&H256([2; 32]), u64::MAX);
     map.truncate(u64::MAX);
     assert_eq!(map.apply(), points(5, 6));
 }
@@ -105,19 +105,19 @@ fn committed_and_dropped() {
 #[test]
 fn migrated() {
     let mut map = LiveCellsExclusionMap::new();
-    map.add(&[1; 32], Some(&spends(&points(0, 1)))).unwrap();
-    map.add(&[2; 32], Some(&spends(&points(1, 2)))).unwrap();
-    map.migrate_funding_tx(&[1; 32], &[3; 32], Some(&spends(&points(2, 3)))).unwrap();
+    map.add(&H256([1; 32]), Some(&spends(&points(0, 1)))).unwrap();
+    map.add(&H256([2; 32]), Some(&spends(&points(1, 2)))).unwrap();
+    map.migrate_funding_tx(&H256([1; 32]), &H256([3; 32]), Some(&spends(&points(2, 3)))).unwrap();
     assert_eq!(map.apply(), points(1, 3));
     // an unknown hash changes nothing, but its transaction is read
     let before = map.clone();
-    map.migrate_funding_tx(&[1; 32], &[4; 32], Some(&spends(&points(9, 10)))).unwrap();
-    assert_eq!(map.migrate_funding_tx(&[1; 32], &[4; 32], Some(&[1])), Err(Refusal::OurTransactionUnreadable));
-    assert_eq!(map.migrate_funding_tx(&[1; 32], &[4; 32], Some(&[])), Err(Refusal::OurTransactionUnreadable));
+    map.migrate_funding_tx(&H256([1; 32]), &H256([4; 32]), Some(&spends(&points(9, 10)))).unwrap();
+    assert_eq!(map.migrate_funding_tx(&H256([1; 32]), &H256([4; 32]), Some(&[1])), Err(Refusal::OurTransactionUnreadable));
+    assert_eq!(map.migrate_funding_tx(&H256([1; 32]), &H256([4; 32]), Some(&[])), Err(Refusal::OurTransactionUnreadable));
     assert_eq!(map.as_bytes(), before.as_bytes());
-    map.migrate_funding_tx(&[2; 32], &[4; 32], None).unwrap();
+    map.migrate_funding_tx(&H256([2; 32]), &H256([4; 32]), None).unwrap();
     assert_eq!(map.apply(), points(2, 3));
-    map.remove(&[3; 32]);
+    map.remove(&H256([3; 32]));
     assert_eq!(map.apply(), []);
 }
 
@@ -125,14 +125,14 @@ fn migrated() {
 fn at_most_64_transactions_and_512_out_points() {
     let mut map = LiveCellsExclusionMap::new();
     for i in 0..64u8 {
-        map.add(&[i; 32], Some(&spends(&points(8 * u32::from(i), 8 * u32::from(i) + 8)))).unwrap();
+        map.add(&H256([i; 32]), Some(&spends(&points(8 * u32::from(i), 8 * u32::from(i) + 8)))).unwrap();
     }
     assert_eq!(map.apply(), points(0, 512));
     let full = map.clone();
-    assert_eq!(map.add(&[64; 32], Some(&spends(&[]))), Err(Refusal::TooManyExclusions));
-    assert_eq!(map.add(&[63; 32], Some(&spends(&points(504, 513)))), Err(Refusal::TooManyExclusions));
+    assert_eq!(map.add(&H256([64; 32]), Some(&spends(&[]))), Err(Refusal::TooManyExclusions));
+    assert_eq!(map.add(&H256([63; 32]), Some(&spends(&points(504, 513)))), Err(Refusal::TooManyExclusions));
     assert_eq!(map.as_bytes(), full.as_bytes());
-    map.add(&[63; 32], Some(&spends(&points(504, 511)))).unwrap();
+    map.add(&H256([63; 32]), Some(&spends(&points(504, 511)))).unwrap();
     assert_eq!(map.apply(), points(0, 511));
 }
 
@@ -151,8 +151,8 @@ fn damaged_tables() {
     assert!(HeldCells::from_bytes(&bytes).is_none());
     // an exclusion map is read strictly: the count, the kind and the block of a pending entry, and the counts of out points
     let mut map = LiveCellsExclusionMap::new();
-    map.add(&[1; 32], Some(&spends(&points(0, 3)))).unwrap();
-    map.add(&[2; 32], Some(&spends(&points(3, 5)))).unwrap();
+    map.add(&H256([1; 32]), Some(&spends(&points(0, 3)))).unwrap();
+    map.add(&H256([2; 32]), Some(&spends(&points(3, 5)))).unwrap();
     let bytes = map.as_bytes();
     let with = |at: usize, byte: u8| {
         let mut bytes = bytes.to_vec();
@@ -189,7 +189,7 @@ fn damaged_tables() {
 fn a_hash_that_stands_twice() {
     let mut map = LiveCellsExclusionMap::new();
     for i in 0..4u8 {
-        map.add(&[i; 32], Some(&spends(&points(u32::from(i), u32::from(i) + 1)))).unwrap();
+        map.add(&H256([i; 32]), Some(&spends(&points(u32::from(i), u32::from(i) + 1)))).unwrap();
     }
     // entry 2 gets the hash of entry 1
     let mut bytes = map.as_bytes().to_vec();
@@ -197,16 +197,16 @@ fn a_hash_that_stands_twice() {
     let twice = LiveCellsExclusionMap::from_bytes(&bytes).unwrap();
     let cells = |of: &[u32]| of.iter().map(|i| point(*i)).collect::<Vec<OutPoint>>();
     let mut map = twice.clone();
-    map.remove(&[1; 32]);
+    map.remove(&H256([1; 32]));
     assert_eq!(map.apply(), cells(&[0, 3]));
     let mut map = twice.clone();
-    map.add(&[1; 32], Some(&spends(&points(10, 12)))).unwrap();
+    map.add(&H256([1; 32]), Some(&spends(&points(10, 12)))).unwrap();
     assert_eq!(map.apply(), cells(&[0, 10, 11, 2, 3]));
     let mut map = twice.clone();
-    map.migrate_funding_tx(&[1; 32], &[0; 32], Some(&spends(&points(10, 12)))).unwrap();
+    map.migrate_funding_tx(&H256([1; 32]), &H256([0; 32]), Some(&spends(&points(10, 12)))).unwrap();
     assert_eq!(map.apply(), cells(&[10, 11, 3]));
     let mut map = twice.clone();
-    map.commit(&[1; 32], 5);
+    map.commit(&H256([1; 32]), 5);
     map.truncate(18);
     assert_eq!(map.apply(), cells(&[0, 3]));
 }
@@ -218,7 +218,7 @@ fn kept_and_taken_up_again() {
     let mut again = HeldCells::from_bytes(held.as_bytes()).unwrap();
     assert_eq!(again.lock_held(0), points(0, 3));
     let mut map = LiveCellsExclusionMap::new();
-    map.add(&[1; 32], Some(&spends(&points(0, 3)))).unwrap();
+    map.add(&H256([1; 32]), Some(&spends(&points(0, 3)))).unwrap();
     let again = LiveCellsExclusionMap::from_bytes(map.as_bytes()).unwrap();
     assert_eq!(again.apply(), points(0, 3));
 }
@@ -254,18 +254,21 @@ fn what_stands_in_a_table() {
 
     let mut map = LiveCellsExclusionMap::new();
     assert_eq!(format!("{map:?}"), "LiveCellsExclusionMap []");
-    map.add(&[1; 32], Some(&spends(&points(0, 2)))).unwrap();
-    map.add(&[2; 32], Some(&spends(&points(2, 3)))).unwrap();
-    map.commit(&[2; 32], 100);
-    let entry =
-        |n: u8, committed_block_number, input_out_points| LiveCellsExclusion { tx_hash: [n; 32], committed_block_number, input_out_points };
+    map.add(&H256([1; 32]), Some(&spends(&points(0, 2)))).unwrap();
+    map.add(&H256([2; 32]), Some(&spends(&points(2, 3)))).unwrap();
+    map.commit(&H256([2; 32]), 100);
+    let entry = |n: u8, committed_block_number, input_out_points| LiveCellsExclusion {
+        tx_hash: H256([n; 32]),
+        committed_block_number,
+        input_out_points,
+    };
     assert!(map.entries().eq([entry(1, None, points(0, 2)), entry(2, Some(100), points(2, 3))]));
     let full = map.clone();
-    map.commit(&[2; 32], 101);
+    map.commit(&H256([2; 32]), 101);
     assert_ne!(map, full);
     assert!(format!("{map:?}").contains("committed_block_number: Some(101)"));
-    map.remove(&[1; 32]);
-    map.remove(&[2; 32]);
+    map.remove(&H256([1; 32]));
+    map.remove(&H256([2; 32]));
     assert_ne!(map.as_bytes(), LiveCellsExclusionMap::new().as_bytes());
     assert_eq!(map, LiveCellsExclusionMap::new());
     assert!(map.is_empty());
@@ -414,10 +417,10 @@ fn holds_beside_a_plain_list() {
 }
 
 /// An entry of the exclusion map in a plain list: hash, block if committed, out points.
-type Entry = ([u8; 32], Option<u64>, Vec<OutPoint>);
+type Entry = (H256, Option<u64>, Vec<OutPoint>);
 
 /// The entries with this one in the place of that of its hash, else last, unless they would be too many.
-fn entered(mut entries: Vec<Entry>, hash: [u8; 32], cells: &[OutPoint]) -> Result<Vec<Entry>, Refusal> {
+fn entered(mut entries: Vec<Entry>, hash: H256, cells: &[OutPoint]) -> Result<Vec<Entry>, Refusal> {
     let entry = (hash, None, cells.to_vec());
     match entries.iter_mut().find(|(other, ..)| *other == hash) {
         Some(old) => *old = entry,
@@ -433,7 +436,7 @@ fn exclusions_beside_a_plain_list() {
     let (mut map, mut list): (LiveCellsExclusionMap, Vec<Entry>) = (LiveCellsExclusionMap::new(), Vec::new());
     let mut refused = 0;
     for _ in 0..4000 {
-        let hash = [numbers.below(80) as u8; 32];
+        let hash = H256([numbers.below(80) as u8; 32]);
         let cells: Vec<OutPoint> = numbers.points().into_iter().take(20).collect();
         let tx = (numbers.below(10) > 0).then(|| spends(&cells));
         let block = numbers.below(300);
@@ -453,7 +456,7 @@ fn exclusions_beside_a_plain_list() {
                 map.commit(&hash, block);
             }
             4 | 5 => {
-                let new_hash = [numbers.below(80) as u8; 32];
+                let new_hash = H256([numbers.below(80) as u8; 32]);
                 let mut answer = Ok(());
                 if list.iter().any(|(other, ..)| *other == hash) {
                     let mut changed = list.clone();

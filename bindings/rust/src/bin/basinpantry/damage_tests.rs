@@ -1,8 +1,9 @@
 //! No file stops the program: the examples, each with some bytes changed, moved or cut off.
 use crate::files::Input;
-use crate::make_case::{Parts, make};
-use crate::replay_cases::replay_cases;
-use crate::show::show;
+use crate::json_output;
+use crate::make_case::{Parts, make_file};
+use crate::replay_cases::Replayed;
+use crate::show::Shown;
 use std::path::Path;
 
 /// Numbers that look random and are the same in each run.
@@ -53,17 +54,18 @@ fn shown_or_complained_of() {
     let mut shown = 0;
     for name in names {
         let file = example(name);
-        assert!(show(&file, false).is_ok(), "{name}");
+        assert!(Shown::of(&file).is_ok(), "{name}");
         for _ in 0..1500 {
             let file = damaged(&file, &mut numbers);
-            match show(&file, numbers.below(2) == 0) {
-                Ok(text) => {
-                    assert!(!text.is_empty());
+            match Shown::of(&file) {
+                Ok(found) => {
+                    assert!(!found.tables(numbers.below(2) == 0).is_empty());
+                    assert!(basinpantry::json::is_json(json_output::shown(&found)));
                     shown += 1;
                 }
                 Err(why) => assert!(why.0.starts_with(name), "{}", why.0),
             }
-            let _ = replay_cases(&[file, example("cases/first.case")]);
+            let _ = Replayed::of(&[file, example("cases/first.case")]);
         }
     }
     assert!(shown > 100);
@@ -88,7 +90,7 @@ fn made_or_complained_of() {
             rate: 1000,
             records: Some(file(5)),
         };
-        match make(&parts) {
+        match make_file(&parts) {
             Ok((bytes, _)) => {
                 let case = basinpantry::CaseFile::from_bytes(&bytes).expect("a case file");
                 let _ = case.judge();

@@ -1,17 +1,18 @@
-//! Files in and out, and what goes wrong with them.
-use crate::json::{self, Source};
-use basinpantry::CaseFile;
+//! Files in, and what goes wrong with them.
+use basinpantry::{CaseFile, json};
 use std::ffi::OsStr;
-use std::io::Read;
+use std::fs::File;
+use std::io::{self, Read};
+
+/// How much is read of a file or of standard input where `--max-bytes` says nothing else. A transaction of 133,116 bytes, the longest that is judged, takes under
+/// 2 MiB of JSON, and the program's memory stays under twenty times what it reads.
+pub const MAX_FILE_BYTES: u64 = 8 * 1024 * 1024;
+
+/// How far `--max-bytes` goes: no part of a case file has 2^28 bytes, so that hex of it has no more than this.
+pub const MOST_FILE_BYTES: u64 = 1 << 30;
 
 /// Why a command can't be done: bad usage, or a bad file.
 pub struct Failure(pub String);
-
-impl From<json::Error> for Failure {
-    fn from(why: json::Error) -> Failure {
-        Failure(why.to_string())
-    }
-}
 
 /// A file that was read, with the name for people.
 pub struct Input {
@@ -19,35 +20,59 @@ pub struct Input {
     pub bytes: Vec<u8>,
 }
 
+/// Everything that there is to read; nothing where that is over the limit.
+fn read_all(from: impl Read, length: u64, limit: u64) -> io::Result<Option<Vec<u8>>> {
+    let mut bytes = Vec::new();
+    // the length of a file is a hint: it may grow, and those of /proc have none
+    bytes.try_reserve_exact(usize::try_from(length.min(limit)).unwrap_or(0).saturating_add(1))?;
+    from.take(limit + 1).read_to_end(&mut bytes)?;
+    Ok(if u64::try_from(bytes.len()).is_ok_and(|length| length <= limit) { Some(bytes) } else { None })
+}
+
 impl Input {
-    /// Reads a file, or standard input for `-`.
-    pub fn read(path: &OsStr) -> Result<Input, Failure> {
+    /// Reads a file, or standard input for `-`, of at most so many bytes.
+    pub fn read(path: &OsStr, limit: u64) -> Result<Input, Failure> {
         let name = path.to_string_lossy().into_owned();
-        let mut bytes = Vec::new();
-        let read = if name == "-" { std::io::stdin().lock().read_to_end(&mut bytes).map(|_| bytes) } else { std::fs::read(path) };
+        let read = if path == "-" {
+            read_all(io::stdin().lock(), 0, limit)
+        } else {
+            File::open(path).and_then(|file| {
+                let length = file.metadata()?.len();
+                read_all(file, length, limit)
+            })
+        };
         match read {
-            Ok(bytes) => Ok(Input { name, bytes }),
+            Ok(Some(bytes)) => Ok(Input { name, bytes }),
+            Ok(None) => {
+                Err(Failure(format!("{name}: it has more than {limit} bytes, and no more are read; --max-bytes N sets another bound")))
+            }
             Err(why) => Err(Failure(format!("{name}: {why}"))),
         }
     }
 
     /// The case that it holds.
     pub fn case(&self) -> Result<CaseFile, Failure> {
-        CaseFile::from_bytes(&self.bytes).map_err(|why| match self.is_json() {
-            true => Failure(format!("{}: this is JSON; make a case file of it with `basinpantry case`", self.name)),
-            false => Failure(format!("{}: no case file: {why}", self.name)),
+        CaseFile::from_bytes(&self.bytes).map_err(|why| match json::is_json(&self.bytes) {
+            true => self.fail("this is JSON; make a case file of it with `basinpantry case`, or judge it with `basinpantry judge`"),
+            false => match json::another_kind(&self.bytes) {
+                Some(what) => self.fail(format!("no case file: {what}")),
+                None => self.fail(format!("no case file: {why}")),
+            },
         })
     }
 
-    /// Whether all of it is JSON.
-    fn is_json(&self) -> bool {
-        Source::new(&self.name, &self.bytes).is_ok_and(|source| source.read().is_ok())
+    /// A complaint about it.
+    pub fn fail(&self, why: impl std::fmt::Display) -> Failure {
+        Failure(format!("{}: {why}", self.name))
     }
 
-    /// Whether it begins as JSON does. A transaction's or script's bytes may begin so too, as their first byte is the low one of their size: whether they are
-    /// one is asked before.
-    pub fn looks_like_json(&self) -> bool {
+    /// The text to be read as JSON, where it begins as JSON does or as what is taken for JSON; else this complaint. A transaction's or script's bytes may begin
+    /// so too, as their first byte is the low one of their size: whether they are one is asked before.
+    pub fn json_or(&self, why: impl std::fmt::Display) -> Result<&[u8], Failure> {
         let start = self.bytes.iter().find(|b| !b.is_ascii_whitespace());
-        matches!(start, Some(b'{' | b'[' | b'"' | b'n'))
+        match matches!(start, Some(b'{' | b'[' | b'"' | b'n')) || json::another_kind(&self.bytes).is_some() {
+            true => Ok(&self.bytes),
+            false => Err(self.fail(why)),
+        }
     }
 }

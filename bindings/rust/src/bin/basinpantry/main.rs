@@ -1,15 +1,15 @@
 //! The program `basinpantry`: judges, makes and shows case files.
 #![deny(unsafe_code)]
 mod arguments;
+mod case_parts;
 #[cfg(test)]
 mod damage_tests;
 mod files;
 mod help;
-mod json;
+mod json_output;
 mod make_case;
-mod node;
-mod reason;
-mod repeats;
+mod notes;
+mod output;
 mod replay_cases;
 mod show;
 mod table;
@@ -17,8 +17,11 @@ mod words;
 
 use arguments::{Arguments, usage};
 use basinpantry::{CaseFile, MAX_CASE_BYTES, check_case};
-use files::{Failure, Input};
+use files::Failure;
 use make_case::Parts;
+use output::Output;
+use replay_cases::Replayed;
+use show::Shown;
 use std::ffi::{OsStr, OsString};
 use std::io::Write;
 use std::process::ExitCode;
@@ -37,8 +40,18 @@ fn printed(text: impl Into<String>, status: u8) -> Done {
     Done { out: text.into().into_bytes(), notes: Vec::new(), status }
 }
 
+/// The verdict on a case, in a sentence or in JSON.
+fn judged(case: &CaseFile, json: bool, notes: Vec<String>) -> Done {
+    let answer = case.judge();
+    let text = if json { json_output::verdict(case, &answer) } else { words::verdict(case, &answer) };
+    Done { out: (text + "\n").into_bytes(), notes, status: u8::from(answer.is_err()) }
+}
+
 fn check(words: &[OsString]) -> Result<Done, Failure> {
-    let arguments = Arguments::read("check", words, &["--line"], &[])?;
+    let arguments = Arguments::read("check", words, &["--line", "--json"], &[])?;
+    if arguments.has("--line") && arguments.has("--json") {
+        return usage("check", "--line and --json can't both be printed");
+    }
     let file = arguments.one_file()?;
     if arguments.has("--line") {
         let line = check_case(&file.bytes);
@@ -46,42 +59,25 @@ fn check(words: &[OsString]) -> Result<Done, Failure> {
         let status = if judged { u8::from(!line.starts_with("0 ")) } else { 2 };
         return Ok(printed(line, status));
     }
-    let case = file.case()?;
-    let answer = case.judge();
-    Ok(printed(words::verdict(&case, &answer) + "\n", u8::from(answer.is_err())))
+    Ok(judged(&file.case()?, arguments.has("--json"), Vec::new()))
 }
 
-fn rate(text: &str) -> Option<u64> {
-    match text.strip_prefix("0x") {
-        Some(digits) if digits.bytes().all(|b| b.is_ascii_hexdigit()) => u64::from_str_radix(digits, 16).ok(),
-        None if text.bytes().all(|b| b.is_ascii_digit()) => text.parse().ok(),
-        _ => None,
-    }
+fn judge(words: &[OsString]) -> Result<Done, Failure> {
+    let arguments = Arguments::read("judge", words, &["--json"], &PARTS)?;
+    let (case, notes) = make_case::make(&parts("judge", &arguments)?)?;
+    Ok(judged(&case, arguments.has("--json"), notes))
 }
 
-/// Whether a file that is read is the one that is written to, whatever names the two have.
-fn is_same(input: &OsStr, output: Option<&OsStr>) -> bool {
-    let place = |path: &OsStr| if path == "-" { None } else { std::fs::canonicalize(path).ok() };
-    output.and_then(place).is_some_and(|output| place(input) == Some(output))
-}
+/// The options that name the parts of a case.
+const PARTS: [&str; 7] = ["--ours", "--peer", "--lock", "--type", "--source", "--rate", "--records"];
 
-fn make(words: &[OsString]) -> Result<Done, Failure> {
-    let options = ["--ours", "--peer", "--lock", "--type", "--source", "--rate", "--records", "-o"];
-    let arguments = Arguments::read("case", words, &[], &options)?;
+/// The parts of a case that the arguments name.
+fn parts(command: &str, arguments: &Arguments) -> Result<Parts, Failure> {
     if let Some(word) = arguments.rest.first() {
-        return usage("case", format!("{} belongs to no option", word.to_string_lossy()));
+        return usage(command, format!("{} belongs to no option", word.to_string_lossy()));
     }
-    let rate = match arguments.option("--rate").map(|text| text.to_string_lossy()) {
-        None => return usage("case", "--rate is missing"),
-        Some(text) => match rate(&text) {
-            Some(rate) => rate,
-            None => return usage("case", format!("--rate is a number below 2^64, not {text}")),
-        },
-    };
-    if let Some((name, _)) = arguments.inputs().find(|(_, path)| is_same(path, arguments.option("-o"))) {
-        return usage("case", format!("-o is the file of {name}, which would be overwritten"));
-    }
-    let parts = Parts {
+    let Some(rate) = arguments.number("--rate")? else { return usage(command, "--rate is missing") };
+    Ok(Parts {
         ours: arguments.file("--ours")?,
         peer: arguments.needed("--peer")?,
         lock: arguments.needed("--lock")?,
@@ -89,45 +85,72 @@ fn make(words: &[OsString]) -> Result<Done, Failure> {
         source: arguments.needed("--source")?,
         rate,
         records: arguments.file("--records")?,
+    })
+}
+
+fn make(words: &[OsString]) -> Result<Done, Failure> {
+    let arguments = Arguments::read("case", words, &[], &[&PARTS[..], &["-o"]].concat())?;
+    let name = arguments.option("-o").unwrap_or(OsStr::new("-")).to_string_lossy();
+    let output = Output::of(arguments.option("-o")).map_err(|why| Failure(format!("{name}: {why}")))?;
+    if let Some((option, _)) = arguments.inputs().find(|(_, path)| output.is_file_of(path)) {
+        return usage("case", format!("-o is the file of {option}, which would be overwritten"));
+    }
+    if output.is_terminal() {
+        return usage("case", "a case file is no text for a terminal: name a file with -o, or send it into a pipe");
+    }
+    // whoever goes on with the file after a failure goes on with an old one
+    let still_there = |Failure(why)| match output.is_old_file() {
+        true => Failure(format!("{why}\nbasinpantry: note: the old {name} is still there")),
+        false => Failure(why),
     };
-    let (bytes, notes) = make_case::make(&parts)?;
-    match arguments.option("-o").filter(|path| *path != "-") {
-        None => Ok(Done { out: bytes, notes, status: 0 }),
-        Some(path) => {
-            let name = path.to_string_lossy();
-            std::fs::write(path, &bytes).map_err(|why| Failure(format!("{name}: {why}")))?;
-            Ok(Done { out: format!("{name}: {} bytes\n", bytes.len()).into_bytes(), notes, status: 0 })
-        }
+    let (bytes, mut notes) = parts("case", &arguments).and_then(|parts| make_case::make_file(&parts)).map_err(still_there)?;
+    if let Some(why) = output.write(&bytes).map_err(|why| output::not_written(&name, &why, &output))? {
+        notes.push(format!("{name} is written, and may not outlast a power cut: {why}"));
+    }
+    match output {
+        Output::Standard => Ok(Done { out: bytes, notes, status: 0 }),
+        _ => Ok(Done { out: format!("{name}: {} bytes\n", bytes.len()).into_bytes(), notes, status: 0 }),
     }
 }
 
 fn show(words: &[OsString]) -> Result<Done, Failure> {
-    let arguments = Arguments::read("show", words, &["--full"], &[])?;
-    Ok(printed(show::show(&arguments.one_file()?, arguments.has("--full"))?, 0))
+    let arguments = Arguments::read("show", words, &["--full", "--json"], &[])?;
+    let shown = Shown::of(&arguments.one_file()?)?;
+    Ok(printed(if arguments.has("--json") { json_output::shown(&shown) + "\n" } else { shown.tables(arguments.has("--full")) }, 0))
 }
 
 fn replay(words: &[OsString]) -> Result<Done, Failure> {
-    let arguments = Arguments::read("replay", words, &[], &[])?;
-    if arguments.rest.is_empty() {
-        return usage("replay", "no case file is named");
+    let arguments = Arguments::read("replay", words, &["--json"], &[])?;
+    let files = arguments.files()?;
+    let replayed = Replayed::of(&files)?;
+    let json = arguments.has("--json");
+    let text = if json { json_output::replayed(&files, &replayed) + "\n" } else { replayed.sentences(&files) };
+    Ok(printed(text, u8::from(!replayed.all_accepted())))
+}
+
+/// A command by its name, with its help.
+fn command_of(name: &OsStr) -> Result<(&'static str, Command), Failure> {
+    match &*name.to_string_lossy() {
+        "check" => Ok((help::CHECK, check)),
+        "judge" => Ok((help::JUDGE, judge)),
+        "case" => Ok((help::CASE, make)),
+        "show" => Ok((help::SHOW, show)),
+        "replay" => Ok((help::REPLAY, replay)),
+        other => Err(Failure(format!("there is no command {other}; try: basinpantry --help"))),
     }
-    let files: Vec<Input> = arguments.rest.iter().map(|path| Input::read(path)).collect::<Result<_, _>>()?;
-    let (text, all) = replay_cases::replay_cases(&files)?;
-    Ok(printed(text, u8::from(!all)))
 }
 
 fn run(command: &OsStr, rest: &[OsString]) -> Result<Done, Failure> {
     let asks_for_help = rest.iter().take_while(|word| *word != "--").any(|word| word == "--help" || word == "-h");
-    let (help, command_of): (&str, Command) = match &*command.to_string_lossy() {
-        "check" => (help::CHECK, check),
-        "case" => (help::CASE, make),
-        "show" => (help::SHOW, show),
-        "replay" => (help::REPLAY, replay),
-        "--help" | "-h" | "help" => return Ok(printed(help::HELP, 0)),
-        "--version" => return Ok(printed(concat!("basinpantry ", env!("CARGO_PKG_VERSION"), "\n"), 0)),
-        other => return Err(Failure(format!("there is no command {other}; try: basinpantry --help"))),
-    };
-    if asks_for_help { Ok(printed(help, 0)) } else { command_of(rest) }
+    match (&*command.to_string_lossy(), rest) {
+        ("help", [name, ..]) => Ok(printed(command_of(name)?.0, 0)),
+        ("--help" | "-h" | "help", _) => Ok(printed(help::HELP, 0)),
+        ("--version" | "-V", _) => Ok(printed(concat!("basinpantry ", env!("CARGO_PKG_VERSION"), "\n"), 0)),
+        _ => {
+            let (help, command) = command_of(command)?;
+            if asks_for_help { Ok(printed(help, 0)) } else { command(rest) }
+        }
+    }
 }
 
 fn main() -> ExitCode {
@@ -150,6 +173,8 @@ fn main() -> ExitCode {
             let mut stdout = std::io::stdout().lock();
             match stdout.write_all(&done.out).and_then(|()| stdout.flush()) {
                 Ok(()) => ExitCode::from(done.status),
+                // whoever reads has seen enough
+                Err(why) if why.kind() == std::io::ErrorKind::BrokenPipe => ExitCode::from(done.status),
                 Err(why) => complain(&format!("standard output: {why}")),
             }
         }

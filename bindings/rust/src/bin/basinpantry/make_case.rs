@@ -1,11 +1,9 @@
 //! `case`: a case file from what a node prints.
+use crate::case_parts::ours_of;
 use crate::files::{Failure, Input};
-use crate::json::Source;
-use crate::node::{self, Record};
-use crate::reason::ours_of;
-use crate::repeats::repeats;
+use crate::notes::{data_entries, repeats};
 use crate::words::was;
-use basinpantry::{CaseFile, CaseRecord, MAX_CASE_BYTES, Transaction, is_script, is_transaction};
+use basinpantry::{CaseFile, CaseRecord, MAX_CASE_BYTES, Transaction, is_script, is_transaction, json};
 
 /// The files that a case is made from.
 pub struct Parts {
@@ -19,32 +17,23 @@ pub struct Parts {
 }
 
 /// A part's bytes: as they are, or from JSON.
-fn part(
-    file: &Input,
-    what: &str,
-    is: fn(&[u8]) -> bool,
-    read: fn(&Source, &crate::json::Value) -> Result<Vec<u8>, crate::json::Error>,
-) -> Result<Vec<u8>, Failure> {
+fn part(file: &Input, what: &str, is: fn(&[u8]) -> bool, read: fn(&[u8]) -> Result<Vec<u8>, json::Error>) -> Result<Vec<u8>, Failure> {
     if is(&file.bytes) {
         return Ok(file.bytes.clone());
     }
-    if !file.looks_like_json() {
-        return Err(Failure(format!("{}: neither the bytes of {what} nor JSON", file.name)));
-    }
-    let source = Source::new(&file.name, &file.bytes)?;
-    Ok(read(&source, &source.read()?)?)
+    read(file.json_or(format!("neither the bytes of {what} nor JSON"))?).map_err(|why| file.fail(why))
 }
 
 fn transaction(file: &Input) -> Result<Vec<u8>, Failure> {
-    part(file, "a transaction", is_transaction, node::transaction)
+    part(file, "a transaction", is_transaction, |text| Ok(json::transaction(text)?.to_bytes()))
 }
 
 fn script(file: &Input) -> Result<Vec<u8>, Failure> {
-    part(file, "a script", is_script, node::script)
+    part(file, "a script", is_script, |text| Ok(json::script(text)?.to_bytes()))
 }
 
-/// The case file's bytes, and notes for the caller.
-pub fn make(parts: &Parts) -> Result<(Vec<u8>, Vec<String>), Failure> {
+/// The case, and notes for the caller.
+pub fn make(parts: &Parts) -> Result<(CaseFile, Vec<String>), Failure> {
     let mut case = CaseFile {
         ours: parts.ours.as_ref().map(transaction).transpose()?,
         peer: transaction(&parts.peer)?,
@@ -56,24 +45,26 @@ pub fn make(parts: &Parts) -> Result<(Vec<u8>, Vec<String>), Failure> {
     };
     let mut notes = Vec::new();
     let (ours, peer) = (ours_of(&case).unwrap_or_default(), Transaction::from_bytes(&case.peer).unwrap_or_default());
-    let shared = ours.inputs.len();
-    let added = peer.inputs.get(shared..).unwrap_or_default();
     if let Some(file) = &parts.records {
-        let source = Source::new(&file.name, &file.bytes)?;
-        for (i, Record { at, out_point, cell }) in node::records(&source, &source.read()?)?.into_iter().enumerate() {
-            if let (Some(point), Some(input)) = (out_point, added.get(i)) {
-                if point != input.previous_output {
-                    let message = format!("this record is of {point}, and added input {} spends {}", shared + i, input.previous_output);
-                    return Err(source.error(at, message).into());
-                }
-            }
-            case.records.push(cell.map(CaseRecord::from));
+        let records = json::records(&file.bytes, Some(&ours), &peer).map_err(|why| file.fail(why))?;
+        for i in records.unlisted {
+            let point = peer.inputs.get(i).map(|input| input.previous_output).unwrap_or_default();
+            notes.push(format!("added input {i} spends {point}, which {} doesn't list: it is taken for not live", file.name));
         }
+        case.records = records.cells.into_iter().map(|cell| cell.map(CaseRecord::from)).collect();
     }
-    if case.records.len() != added.len() {
-        notes.push(format!("{} added, and {} given", was(added.len(), "inputs"), was(case.records.len(), "records")));
+    let added = peer.inputs.len().saturating_sub(ours.inputs.len());
+    if case.records.len() != added {
+        notes.push(format!("{} added, and {} given", was(added, "inputs"), was(case.records.len(), "records")));
     }
     notes.extend(repeats(&ours, &peer, true));
+    notes.extend(data_entries(&peer));
+    Ok((case, notes))
+}
+
+/// The case file's bytes, and notes for the caller.
+pub fn make_file(parts: &Parts) -> Result<(Vec<u8>, Vec<String>), Failure> {
+    let (case, mut notes) = make(parts)?;
     let Some(bytes) = case.to_bytes() else {
         return Err(Failure("a part has 2^28 bytes or more, which no case file can hold".to_string()));
     };

@@ -1,31 +1,42 @@
 //! `show`: a transaction or a case as a table.
+use crate::case_parts::{Figures, Record, input_part, is_of, ours_of, output_part, record};
 use crate::files::{Failure, Input};
-use crate::json::Source;
-use crate::reason::{added_outputs, cell_of, is_of, ours_of};
-use crate::repeats::repeats;
-use crate::{node, table, words};
-use basinpantry::{CaseFile, CellOutput, ResolvedCell, Script, Total, Transaction, is_script};
+use crate::notes::{data_entries, repeats};
+use crate::{table, words};
+use basinpantry::{CaseFile, CellOutput, Script, Total, Transaction, is_script, json};
 
-/// What `show` prints of a file: of a transaction in Molecule or JSON, or of a case.
-pub fn show(file: &Input, full: bool) -> Result<String, Failure> {
-    if let Some(tx) = Transaction::from_bytes(&file.bytes) {
-        return Ok(transaction(&tx, file.bytes.len(), full));
+/// What is to be shown.
+pub enum Shown {
+    /// A transaction and how many bytes it has.
+    Transaction(Transaction, usize),
+    Case(CaseFile),
+}
+
+impl Shown {
+    /// What a file holds: a transaction in Molecule or JSON, or a case.
+    pub fn of(file: &Input) -> Result<Shown, Failure> {
+        if let Some(tx) = Transaction::from_bytes(&file.bytes) {
+            return Ok(Shown::Transaction(tx, file.bytes.len()));
+        }
+        let not_a_case = match CaseFile::from_bytes(&file.bytes) {
+            Ok(case) => return Ok(Shown::Case(case)),
+            Err(why) => why,
+        };
+        if is_script(&file.bytes) {
+            return Err(file.fail("this is a script, not a transaction"));
+        }
+        let text = file.json_or(format!("neither a transaction nor a case file; for a case file: {not_a_case}"))?;
+        let tx = json::transaction(text).map_err(|why| file.fail(why))?;
+        let size = tx.to_bytes().len();
+        Ok(Shown::Transaction(tx, size))
     }
-    let not_a_case = match CaseFile::from_bytes(&file.bytes) {
-        Ok(case) => return Ok(show_case(&case, full)),
-        Err(why) => why,
-    };
-    if is_script(&file.bytes) {
-        return Err(Failure(format!("{}: this is a script, not a transaction", file.name)));
-    }
-    if !file.looks_like_json() {
-        return Err(Failure(format!("{}: neither a transaction nor a case file; for a case file: {not_a_case}", file.name)));
-    }
-    let source = Source::new(&file.name, &file.bytes)?;
-    let bytes = node::transaction(&source, &source.read()?)?;
-    match Transaction::from_bytes(&bytes) {
-        Some(tx) => Ok(transaction(&tx, bytes.len(), full)),
-        None => Err(Failure(format!("{}: the transaction is too long to be written", file.name))),
+
+    /// As tables, with whole hashes where they are asked for.
+    pub fn tables(&self, full: bool) -> String {
+        match self {
+            Shown::Transaction(tx, size) => transaction(tx, *size, full),
+            Shown::Case(case) => show_case(case, full),
+        }
     }
 }
 
@@ -54,7 +65,7 @@ fn transaction(tx: &Transaction, bytes: usize, full: bool) -> String {
         .iter()
         .enumerate()
         .map(|(i, input)| vec![i.to_string(), words::out_point(&input.previous_output, full), format!("{:#x}", input.since)]);
-    list(&mut out, &[">no", "out point", ">since"], rows.collect());
+    list(&mut out, &[">no", "out point", ">since"], rows);
     out += &format!("\noutputs: {}\n", tx.outputs.len());
     let rows = tx.outputs.iter().enumerate().map(|(i, output)| {
         vec![
@@ -66,7 +77,7 @@ fn transaction(tx: &Transaction, bytes: usize, full: bool) -> String {
             none_if_empty(output.type_.as_ref().map(|type_| words::script(type_, full)).unwrap_or_default()),
         ]
     });
-    list(&mut out, &[">no", ">capacity (CKB)", ">tokens", ">data bytes", "lock", "type"], rows.collect());
+    list(&mut out, &[">no", ">capacity (CKB)", ">tokens", ">data bytes", "lock", "type"], rows);
     out += &others(tx, full);
     out
 }
@@ -76,27 +87,28 @@ fn data_bytes(tx: &Transaction, i: usize) -> String {
 }
 
 /// A table, unless it would be empty.
-fn list(out: &mut String, head: &[&str], rows: Vec<Vec<String>>) {
-    if !rows.is_empty() {
-        table::write(out, head, &rows);
+fn list(out: &mut String, head: &[&str], rows: impl Iterator<Item = Vec<String>> + Clone) {
+    if rows.clone().next().is_some() {
+        table::write(out, head, rows);
     }
 }
 
 /// Cell deps, header deps and witnesses, and data entries beyond the outputs.
 fn others(tx: &Transaction, full: bool) -> String {
     let mut out = format!("\ncell deps: {}\n", tx.cell_deps.len());
-    let rows = tx.cell_deps.iter().enumerate().map(|(i, dep)| {
-        let name = node::DEP_TYPES.iter().find(|(_, byte)| *byte == dep.dep_type).map(|(name, _)| name.to_string());
-        vec![i.to_string(), words::out_point(&dep.out_point, full), name.unwrap_or_else(|| format!("dep type {}", dep.dep_type))]
-    });
-    list(&mut out, &[">no", "out point", "dep type"], rows.collect());
+    let rows = tx
+        .cell_deps
+        .iter()
+        .enumerate()
+        .map(|(i, dep)| vec![i.to_string(), words::out_point(&dep.out_point, full), dep.dep_type.to_string()]);
+    list(&mut out, &[">no", "out point", "dep type"], rows);
     out += &format!("\nheader deps: {}\n", tx.header_deps.len());
-    let rows = tx.header_deps.iter().enumerate().map(|(i, hash)| vec![i.to_string(), words::hex(hash, full)]);
-    list(&mut out, &[">no", "block hash"], rows.collect());
+    let rows = tx.header_deps.iter().enumerate().map(|(i, hash)| vec![i.to_string(), words::hex(hash.as_ref(), full)]);
+    list(&mut out, &[">no", "block hash"], rows);
     out += &format!("\nwitnesses: {}\n", tx.witnesses.len());
     let rows =
         tx.witnesses.iter().enumerate().map(|(i, witness)| vec![i.to_string(), witness.len().to_string(), words::hex(witness, full)]);
-    list(&mut out, &[">no", ">bytes", "witness"], rows.collect());
+    list(&mut out, &[">no", ">bytes", "witness"], rows);
     if tx.outputs_data.len() > tx.outputs.len() {
         out += &format!("\ndata entries beyond the outputs: {}\n", tx.outputs_data.len() - tx.outputs.len());
     }
@@ -122,17 +134,9 @@ fn show_case(case: &CaseFile, full: bool) -> String {
     out += &format!("our source lock: {}\n", script(&case.source, full));
     out += &format!("fee rate: {} shannons per 1000 bytes\n", case.rate);
     if let (Some(ours), Some(peer)) = (&ours, &peer) {
-        let cells: Vec<Record> = case
-            .records
-            .iter()
-            .map(|record| match record {
-                None => Record::NotLive,
-                Some(record) => cell_of(record).map_or(Record::Unreadable, Record::Live),
-            })
-            .collect();
-        inputs(&mut out, case, ours, peer, &cells, full);
+        inputs(&mut out, case, ours, peer, full);
         outputs(&mut out, case, ours, peer, full);
-        figures(&mut out, case, ours, peer, &cells);
+        figures(&mut out, case, ours, peer);
     }
     out += &format!("\n{}\n", words::verdict(case, &case.judge()));
     out
@@ -150,12 +154,6 @@ fn counts(bytes: usize, tx: &Transaction) -> String {
     ];
     let counts: Vec<String> = lists.iter().map(|(n, plural)| words::count(*n, plural)).collect();
     format!("version {}, {}", tx.version, counts.join(", "))
-}
-
-enum Record {
-    Live(ResolvedCell),
-    NotLive,
-    Unreadable,
 }
 
 fn script(bytes: &[u8], full: bool) -> String {
@@ -182,36 +180,31 @@ fn type_name(case: &CaseFile, output: &CellOutput, full: bool) -> String {
     }
 }
 
-fn inputs(out: &mut String, case: &CaseFile, ours: &Transaction, peer: &Transaction, cells: &[Record], full: bool) {
+fn inputs(out: &mut String, case: &CaseFile, ours: &Transaction, peer: &Transaction, full: bool) {
     let shared = ours.inputs.len();
-    *out += &format!("\ninputs: {}, added {}\n", peer.inputs.len(), peer.inputs.len().saturating_sub(shared));
-    let mut rows = Vec::new();
-    for (i, input) in peer.inputs.iter().enumerate() {
-        let part = match ours.inputs.get(i) {
-            Some(same) if same == input => "shared",
-            Some(_) => "changed",
-            None => "added",
-        };
+    let added = peer.inputs.len().saturating_sub(shared);
+    *out += &format!("\ninputs: {}, added {added}\n", peer.inputs.len());
+    let rows = peer.inputs.iter().enumerate().map(|(i, input)| {
+        let part = input_part(ours, peer, i);
         let mut row = vec![i.to_string(), part.to_string(), words::out_point(&input.previous_output, full), format!("{:#x}", input.since)];
-        row.extend(match i.checked_sub(shared).map(|k| cells.get(k)) {
+        row.extend(match i.checked_sub(shared).map(|k| record(case, k)) {
             // what a shared input spends is not in the case
             None => ["", "", "", ""].map(str::to_string),
-            Some(None) => ["no record", "", "", ""].map(str::to_string),
-            Some(Some(Record::NotLive)) => ["not live", "", "", ""].map(str::to_string),
-            Some(Some(Record::Unreadable)) => ["unreadable", "", "", ""].map(str::to_string),
-            Some(Some(Record::Live(cell))) => [
+            Some(Record::Missing) => ["no record", "", "", ""].map(str::to_string),
+            Some(Record::NotLive) => ["not live", "", "", ""].map(str::to_string),
+            Some(Record::Unreadable) => ["unreadable", "", "", ""].map(str::to_string),
+            Some(Record::Live(cell)) => [
                 capacity(cell.output.capacity),
                 tokens(&cell.output, cell.amount()),
                 lock_name(case, &cell.output.lock, full),
                 type_name(case, &cell.output, full),
             ],
         });
-        rows.push(row);
-    }
+        row
+    });
     list(out, &[">no", "part", "out point", ">since", ">capacity (CKB)", ">tokens", "lock", "type"], rows);
-    let added = peer.inputs.len().saturating_sub(shared);
-    if cells.len() != added {
-        *out += &format!("  {} lent, and {} added\n", words::was(cells.len(), "records"), words::was(added, "inputs"));
+    if case.records.len() != added {
+        *out += &format!("  {} lent, and {} added\n", words::was(case.records.len(), "records"), words::was(added, "inputs"));
     }
     for note in repeats(ours, peer, full) {
         *out += &format!("  note: {note}\n");
@@ -223,15 +216,9 @@ fn outputs(out: &mut String, case: &CaseFile, ours: &Transaction, peer: &Transac
     let added = peer.outputs.len().saturating_sub(ours.outputs.len());
     let funding = if ours.outputs.is_empty() && added > 0 { " (output 0 is the funding cell)" } else { "" };
     *out += &format!("\noutputs: {}, added {added}{funding}\n", peer.outputs.len());
-    let mut rows = Vec::new();
-    for (i, output) in peer.outputs.iter().enumerate() {
-        let part = match ours.outputs.get(i) {
-            _ if i == 0 => "funding",
-            Some(same) if same == output && ours.outputs_data.get(i).is_none_or(|data| Some(data) == peer.outputs_data.get(i)) => "shared",
-            Some(_) => "changed",
-            None => "added",
-        };
-        rows.push(vec![
+    let rows = peer.outputs.iter().enumerate().map(|(i, output)| {
+        let part = output_part(ours, peer, i);
+        vec![
             i.to_string(),
             part.to_string(),
             capacity(output.capacity),
@@ -239,85 +226,27 @@ fn outputs(out: &mut String, case: &CaseFile, ours: &Transaction, peer: &Transac
             data_bytes(peer, i),
             lock_name(case, &output.lock, full),
             type_name(case, output, full),
-        ]);
-    }
-    list(out, &[">no", "part", ">capacity (CKB)", ">tokens", ">data bytes", "lock", "type"], rows);
-}
-
-/// A whole number by what is above and what is below zero.
-struct Difference {
-    plus: Total,
-    minus: Total,
-}
-
-impl Difference {
-    /// As written by `write`, with the sign in front.
-    fn signed(&self, write: impl Fn(Total) -> String) -> String {
-        match self.plus.checked_sub(self.minus) {
-            Some(left) => write(left),
-            None => format!("-{}", write(self.minus.checked_sub(self.plus).unwrap_or_default())),
-        }
-    }
-}
-
-/// One account: what came in, output 0 before and after, and the added outputs.
-struct Account {
-    put_in: Total,
-    before: u128,
-    after: u128,
-    back: Total,
-}
-
-impl Account {
-    fn lines(&self) -> [Difference; 4] {
-        let (before, after) = (Total::from(self.before), Total::from(self.after));
-        [
-            Difference { plus: self.put_in, minus: Total::ZERO },
-            Difference { plus: after, minus: before },
-            Difference { plus: self.back, minus: Total::ZERO },
-            Difference { plus: self.put_in.saturating_add(before), minus: after.saturating_add(self.back) },
         ]
+    });
+    list(out, &[">no", "part", ">capacity (CKB)", ">tokens", ">data bytes", "lock", "type"], rows);
+    if let Some(note) = data_entries(peer) {
+        *out += &format!("  note: {note}\n");
     }
 }
 
-fn figures(out: &mut String, case: &CaseFile, ours: &Transaction, peer: &Transaction, cells: &[Record]) {
-    let live = || {
-        cells.iter().filter_map(|record| match record {
-            Record::Live(cell) => Some(cell),
-            _ => None,
-        })
-    };
-    let added = added_outputs(ours, peer);
-    let first = |tx: &Transaction| tx.outputs.first().map_or(0, |output| u128::from(output.capacity));
-    let shannons = Account {
-        put_in: live().map(|cell| u128::from(cell.output.capacity)).sum(),
-        before: first(ours),
-        after: first(peer),
-        back: peer.outputs[added.clone()].iter().map(|output| u128::from(output.capacity)).sum(),
-    };
-    let amount = |tx: &Transaction| if tx.outputs.is_empty() { 0 } else { tx.amount(0).unwrap_or(0) };
-    // a missing or short amount counts 0
-    let token = Account {
-        put_in: live().filter(|cell| is_of(&cell.output, case)).map(|cell| cell.amount().unwrap_or(0)).sum(),
-        before: amount(ours),
-        after: amount(peer),
-        back: added.filter(|i| is_of(&peer.outputs[*i], case)).map(|i| peer.amount(i).unwrap_or(0)).sum(),
-    };
-    let typed = case.udt.is_some();
+fn figures(out: &mut String, case: &CaseFile, ours: &Transaction, peer: &Transaction) {
+    let Figures { capacity, token, required_fee } = Figures::of(case, ours, peer);
+    let (capacity, token) = (capacity.lines(), token.map(|token| token.lines()));
     let names = ["put in by added inputs", "growth of output 0", "taken back by added outputs", "surplus"];
-    let mut rows = Vec::new();
-    for ((name, shannons), token) in names.iter().zip(shannons.lines()).zip(token.lines()) {
+    let rows = names.iter().zip(&capacity).enumerate().map(|(i, (name, shannons))| {
         let mut row = vec![name.to_string(), shannons.signed(|x| x.to_string()), shannons.signed(words::ckb)];
-        if typed {
-            row.push(token.signed(|x| x.to_string()));
-        }
-        rows.push(row);
-    }
+        row.extend(token.as_ref().map(|token| token[i].signed(|x| x.to_string())));
+        row
+    });
     out.push('\n');
     let head = ["what the peer brings", ">shannons", ">CKB", ">tokens"];
-    list(out, &head[..if typed { 4 } else { 3 }], rows);
-    if ours.inputs.is_empty() && ours.outputs.is_empty() {
-        let size = u64::try_from(case.peer.len() + 4).expect("a length has 64 bits at most");
-        *out += &format!("  an opening: the surplus pays the fee, and {} shannons are required\n", case.rate.saturating_mul(size) / 1000);
+    list(out, &head[..if token.is_some() { 4 } else { 3 }], rows);
+    if let Some(fee) = required_fee {
+        *out += &format!("  an opening: the surplus pays the fee, and {fee} shannons are required\n");
     }
 }

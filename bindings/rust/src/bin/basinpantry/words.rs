@@ -1,5 +1,4 @@
 //! Figures and verdicts for people.
-use crate::reason;
 use basinpantry::{Accepted, CaseFile, OutPoint, Refusal, Script, Total};
 
 /// Shannons in CKB, with the decimal point.
@@ -46,11 +45,8 @@ pub fn verdict(case: &CaseFile, answer: &Result<Accepted, Refusal>) -> String {
             let left = surplus(Total::from(accepted.capacity), Total::from(accepted.token), case.udt.is_some());
             format!("accepted: the peer puts in {left} more than the growth of output 0 and the outputs that it added")
         }
-        Err(why) => match reason::reason(case) {
-            Some((number, reason)) if number == why.number() => match short(why) {
-                Some(short) => format!("refused ({number}): {short}: {reason}"),
-                None => format!("refused ({number}): {why}"),
-            },
+        Err(why) => match (short(why), case.reason(why)) {
+            (Some(short), Some(reason)) => format!("refused ({}): {short}: {reason}", why.number()),
             _ => format!("refused ({}): {why}", why.number()),
         },
     }
@@ -69,7 +65,13 @@ fn short(why: &Refusal) -> Option<&'static str> {
 
 /// Bytes as hex, in the middle left out where they are many and `full` is not asked for.
 pub fn hex(bytes: &[u8], full: bool) -> String {
-    let digits = |bytes: &[u8]| bytes.iter().map(|b| format!("{b:02x}")).collect::<String>();
+    let digits = |bytes: &[u8]| {
+        let mut out = String::with_capacity(2 * bytes.len());
+        for nibble in bytes.iter().flat_map(|b| [b >> 4, b & 15]) {
+            out.push(char::from_digit(nibble.into(), 16).unwrap_or('?'));
+        }
+        out
+    };
     match bytes {
         [first @ .., a, b] if !full && bytes.len() > 8 => format!("0x{}..{}", digits(&first[..4]), digits(&[*a, *b])),
         _ => format!("0x{}", digits(bytes)),
@@ -77,17 +79,12 @@ pub fn hex(bytes: &[u8], full: bool) -> String {
 }
 
 pub fn out_point(point: &OutPoint, full: bool) -> String {
-    format!("{}:{}", hex(&point.tx_hash, full), point.index)
+    format!("{}:{}", hex(point.tx_hash.as_ref(), full), point.index)
 }
 
 /// A script's code hash, hash type and args.
 pub fn script(script: &Script, full: bool) -> String {
-    let names = crate::node::HASH_TYPES;
-    let hash_type = match names.iter().find(|(_, byte)| *byte == script.hash_type) {
-        Some((name, _)) => name.to_string(),
-        None => format!("hash type {}", script.hash_type),
-    };
-    format!("{} {hash_type} {}", hex(&script.code_hash, full), hex(&script.args, full))
+    format!("{} {} {}", hex(script.code_hash.as_ref(), full), script.hash_type, hex(&script.args, full))
 }
 
 #[cfg(test)]

@@ -1,10 +1,22 @@
 //! Each line of the rules' table alone: the number is the library's, the reason in words ours. The cases are those of tools/cases.py.
-use super::reason;
-use crate::words::verdict;
-use basinpantry::*;
+use super::judge;
+use crate::*;
+
+/// The number that the checks here come to, 0 for an acceptance.
+fn number_here(case: &CaseFile) -> u32 {
+    judge(case.ours.as_deref(), &case.lock, case.udt.as_deref(), &case.update(&case.records_bytes())).err().map_or(0, |(number, _)| number)
+}
+
+/// What is said of a case: accepted or, with the number, the reason.
+fn verdict(case: &CaseFile, answer: &Result<Accepted, Refusal>) -> String {
+    match answer {
+        Ok(accepted) => format!("accepted: {} {}", accepted.capacity, accepted.token),
+        Err(why) => format!("{}: {}", why.number(), case.reason(why).unwrap_or_else(|| why.to_string())),
+    }
+}
 
 fn script(b: u8) -> Script {
-    Script { code_hash: [b; 32], hash_type: 0, args: vec![] }
+    Script { code_hash: H256([b; 32]), hash_type: HashType::DATA, args: vec![] }
 }
 
 fn output(lock: u8, udt: Option<u8>, capacity: u64) -> CellOutput {
@@ -20,7 +32,7 @@ fn token(capacity: u64) -> CellOutput {
 }
 
 fn point(index: u32) -> OutPoint {
-    OutPoint { tx_hash: [0; 32], index }
+    OutPoint { tx_hash: H256([0; 32]), index }
 }
 
 fn inputs(from: u32, to: u32) -> Vec<CellInput> {
@@ -72,12 +84,12 @@ fn typed(ours: Option<Transaction>, peer: Transaction, records: Vec<Option<CaseR
 }
 
 fn deps(indices: &[u32]) -> Transaction {
-    let cell_deps = indices.iter().map(|i| CellDep { out_point: point(*i), dep_type: 0 }).collect();
+    let cell_deps = indices.iter().map(|i| CellDep { out_point: point(*i), dep_type: DepType::CODE }).collect();
     Transaction { cell_deps, ..usual() }
 }
 
 fn headers(hashes: &[u8]) -> Transaction {
-    Transaction { header_deps: hashes.iter().map(|b| [*b; 32]).collect(), ..usual() }
+    Transaction { header_deps: hashes.iter().map(|b| H256([*b; 32])).collect(), ..usual() }
 }
 
 /// A line of the table, a case in which it alone fails, and what is said of it.
@@ -91,137 +103,85 @@ fn lines() -> Vec<(&'static str, CaseFile, &'static str)> {
     };
     let long = Transaction { witnesses: vec![vec![0; 133_116 - 201 - 8 + 1]], ..usual() };
     vec![
-        (
-            "itself",
-            itself(),
-            "accepted: the peer puts in 0 shannons (0.00000000 CKB) more than the growth of output 0 and the outputs that it added",
-        ),
+        ("itself", itself(), "accepted: 0 0"),
         (
             "tokens left",
             typed(Some(holding(5)), spending(inputs(0, 2), vec![token(100)], vec![amount(6)]), vec![cell(token(9), amount(TOP))]),
-            "accepted: the peer puts in 9 shannons (0.00000009 CKB) and 340282366920938463463374607431768211454 tokens more than the growth of output 0 and the outputs that it added",
+            "accepted: 9 340282366920938463463374607431768211454",
         ),
         (
             "our_bytes",
             CaseFile { ours: Some(lengthened(usual().to_bytes())), ..itself() },
-            "refused (1): our own transaction's bytes are no transaction",
+            "1: our own transaction's bytes are no transaction",
         ),
-        ("peer_bytes", CaseFile { peer: lengthened(usual().to_bytes()), ..itself() }, "refused (2): the peer's bytes are no transaction"),
-        (
-            "lock",
-            CaseFile { lock: vec![], ..itself() },
-            "refused (3): something that is lent can't be used: the expected funding lock is no script",
-        ),
-        (
-            "type",
-            CaseFile { udt: Some(vec![0]), ..itself() },
-            "refused (3): something that is lent can't be used: the expected token type is no script",
-        ),
-        (
-            "source",
-            CaseFile { source: vec![], ..itself() },
-            "refused (3): something that is lent can't be used: our source lock is no script",
-        ),
-        (
-            "size",
-            case(None, long, vec![brings(1_000_000)]),
-            "refused (4): the peer's transaction is over a limit: its size is 133121, over 133,120",
-        ),
+        ("peer_bytes", CaseFile { peer: lengthened(usual().to_bytes()), ..itself() }, "2: the peer's bytes are no transaction"),
+        ("lock", CaseFile { lock: vec![], ..itself() }, "3: the expected funding lock is no script"),
+        ("type", CaseFile { udt: Some(vec![0]), ..itself() }, "3: the expected token type is no script"),
+        ("source", CaseFile { source: vec![], ..itself() }, "3: our source lock is no script"),
+        ("size", case(None, long, vec![brings(1_000_000)]), "4: its size is 133121, over 133,120"),
         (
             "inputs_65",
             case(None, spending(inputs(0, 65), vec![plain(100)], vec![vec![]]), vec![brings(200_000); 65]),
-            "refused (4): the peer's transaction is over a limit: it adds 65 inputs, and 64 are allowed",
+            "4: it adds 65 inputs, and 64 are allowed",
         ),
         (
             "outputs_4",
             case(None, with_outputs(vec![plain(100); 4], vec![vec![]; 4]), vec![brings(200_000)]),
-            "refused (4): the peer's transaction is over a limit: it adds 4 outputs, and 3 are allowed",
+            "4: it adds 4 outputs, and 3 are allowed",
         ),
-        (
-            "deps_9",
-            case(None, deps(&[0, 1, 2, 3, 4, 5, 6, 7, 8]), vec![brings(200_000)]),
-            "refused (4): the peer's transaction is over a limit: it adds 9 cell deps, and 8 are allowed",
-        ),
-        (
-            "version",
-            case(Some(usual()), Transaction { version: 1, ..usual() }, vec![]),
-            "refused (5): the peer's funding transaction is invalid: its version is 1, and ours is 0",
-        ),
-        (
-            "fewer_deps",
-            case(Some(deps(&[0, 0])), deps(&[0]), vec![]),
-            "refused (5): the peer's funding transaction is invalid: it has 1 cell dep, and ours has 2",
-        ),
-        (
-            "dep_missing",
-            case(Some(deps(&[0])), deps(&[1]), vec![]),
-            "refused (5): the peer's funding transaction is invalid: our cell dep 0 is missing",
-        ),
-        (
-            "fewer_headers",
-            case(Some(headers(&[0])), headers(&[]), vec![]),
-            "refused (5): the peer's funding transaction is invalid: it has 0 header deps, and ours has 1",
-        ),
-        (
-            "header_differs",
-            case(Some(headers(&[0])), headers(&[1]), vec![]),
-            "refused (5): the peer's funding transaction is invalid: header dep 0 is not ours",
-        ),
+        ("deps_9", case(None, deps(&[0, 1, 2, 3, 4, 5, 6, 7, 8]), vec![brings(200_000)]), "4: it adds 9 cell deps, and 8 are allowed"),
+        ("version", case(Some(usual()), Transaction { version: 1, ..usual() }, vec![]), "5: its version is 1, and ours is 0"),
+        ("fewer_deps", case(Some(deps(&[0, 0])), deps(&[0]), vec![]), "5: it has 1 cell dep, and ours has 2"),
+        ("dep_missing", case(Some(deps(&[0])), deps(&[1]), vec![]), "5: our cell dep 0 is missing"),
+        ("fewer_headers", case(Some(headers(&[0])), headers(&[]), vec![]), "5: it has 0 header deps, and ours has 1"),
+        ("header_differs", case(Some(headers(&[0])), headers(&[1]), vec![]), "5: header dep 0 is not ours"),
         (
             "fewer_inputs",
             case(Some(spending(inputs(0, 2), vec![plain(100)], vec![vec![]])), usual(), vec![]),
-            "refused (5): the peer's funding transaction is invalid: it has 1 input, and ours has 2",
+            "5: it has 1 input, and ours has 2",
         ),
-        (
-            "input_differs",
-            case(Some(usual()), spending(inputs(1, 2), vec![plain(100)], vec![vec![]]), vec![]),
-            "refused (5): the peer's funding transaction is invalid: input 0 is not ours",
-        ),
+        ("input_differs", case(Some(usual()), spending(inputs(1, 2), vec![plain(100)], vec![vec![]]), vec![]), "5: input 0 is not ours"),
         (
             "fewer_outputs",
             case(Some(two(0, 0)), with_outputs(vec![plain(100)], vec![vec![], vec![0, 0]]), vec![]),
-            "refused (5): the peer's funding transaction is invalid: it has 1 output, and ours has 2",
+            "5: it has 1 output, and ours has 2",
         ),
         (
             "output_0_lock",
             case(Some(usual()), with_outputs(vec![output(3, None, 100)], vec![vec![]]), vec![]),
-            "refused (5): the peer's funding transaction is invalid: the lock of output 0 is not the expected funding lock",
+            "5: the lock of output 0 is not the expected funding lock",
         ),
         (
             "output_0_type",
             case(Some(usual()), with_outputs(vec![token(100)], vec![vec![]]), vec![]),
-            "refused (5): the peer's funding transaction is invalid: output 0 has a type, and none is expected",
+            "5: output 0 has a type, and none is expected",
         ),
         (
             "output_0_untyped",
             typed(Some(holding(0)), with_outputs(vec![plain(100)], vec![amount(0)]), vec![]),
-            "refused (5): the peer's funding transaction is invalid: output 0 has no type, and the token's is expected",
+            "5: output 0 has no type, and the token's is expected",
         ),
         (
             "output_0_another_type",
             typed(Some(holding(0)), with_outputs(vec![output(0, Some(3), 100)], vec![amount(0)]), vec![]),
-            "refused (5): the peer's funding transaction is invalid: the type of output 0 is not the expected token's",
+            "5: the type of output 0 is not the expected token's",
         ),
         (
             "output_0_data",
             case(Some(usual()), with_outputs(vec![plain(100)], vec![vec![1]]), vec![]),
-            "refused (5): the peer's funding transaction is invalid: output 0 is untyped, and has 1 byte of data",
+            "5: output 0 is untyped, and has 1 byte of data",
         ),
         (
             "output_differs",
             case(Some(two(0, 0)), with_outputs(vec![plain(100), plain(8)], vec![vec![], vec![0, 0]]), vec![]),
-            "refused (5): the peer's funding transaction is invalid: output 1 is not ours",
+            "5: output 1 is not ours",
         ),
         (
             "fewer_entries",
             case(Some(with_outputs(vec![plain(100)], vec![vec![], vec![]])), usual(), vec![]),
-            "refused (5): the peer's funding transaction is invalid: it has 1 data entry, and ours has 2",
+            "5: it has 1 data entry, and ours has 2",
         ),
-        (
-            "entry_differs",
-            case(Some(two(0, 1)), two(0, 2), vec![]),
-            "refused (5): the peer's funding transaction is invalid: the data of output 1 is not ours",
-        ),
+        ("entry_differs", case(Some(two(0, 1)), two(0, 2), vec![]), "5: the data of output 1 is not ours"),
         (
             "record_unreadable",
             case(
@@ -229,67 +189,55 @@ fn lines() -> Vec<(&'static str, CaseFile, &'static str)> {
                 spending(inputs(0, 2), vec![plain(100)], vec![vec![]]),
                 vec![Some(CaseRecord { output: vec![0], data: vec![] })],
             ),
-            "refused (3): something that is lent can't be used: record 0 is no output",
+            "3: record 0 is no output with data",
         ),
-        (
-            "record_count",
-            case(Some(usual()), usual(), vec![brings(5)]),
-            "refused (3): something that is lent can't be used: 0 inputs were added, and 1 record was lent",
-        ),
+        ("record_count", case(Some(usual()), usual(), vec![brings(5)]), "3: 0 inputs were added, and 1 record was lent"),
         (
             "not_live",
             case(Some(usual()), spending(inputs(0, 2), vec![plain(100)], vec![vec![]]), vec![None]),
-            "refused (5): the peer's funding transaction is invalid: the cell of input 1 is not live",
+            "5: the cell of input 1 is not live",
         ),
         (
             "under_our_lock",
             case(Some(usual()), spending(inputs(0, 2), vec![plain(100)], vec![vec![]]), vec![cell(output(1, None, 5), vec![])]),
-            "refused (6): an input that the peer added spends a cell under our own source lock: input 1",
+            "6: an input that the peer added spends a cell under our own source lock: input 1",
         ),
-        (
-            "output_0_missing",
-            case(None, with_outputs(vec![], vec![vec![]]), vec![brings(1000)]),
-            "refused (5): the peer's funding transaction is invalid: output 0 is missing",
-        ),
+        ("output_0_missing", case(None, with_outputs(vec![], vec![vec![]]), vec![brings(1000)]), "5: output 0 is missing"),
         (
             "entry_0_missing",
             case(None, with_outputs(vec![plain(100)], vec![]), vec![brings(1000)]),
-            "refused (5): the peer's funding transaction is invalid: the data entry of output 0 is missing",
+            "5: the data entry of output 0 is missing",
         ),
         (
             "capacity_falls",
             case(Some(usual()), with_outputs(vec![plain(99)], vec![vec![]]), vec![]),
-            "refused (5): the peer's funding transaction is invalid: the capacity of output 0 falls from 100 to 99 shannons",
+            "5: the capacity of output 0 falls from 100 to 99 shannons",
         ),
         (
             "our_amount_short",
             typed(Some(with_outputs(vec![token(100)], vec![vec![]])), holding(0), vec![]),
-            "refused (5): the peer's funding transaction is invalid: our output 0 has under 16 bytes of data, so no token amount",
+            "5: our output 0 has under 16 bytes of data, so no token amount",
         ),
         (
             "peer_amount_short",
             typed(None, with_outputs(vec![token(100)], vec![vec![]]), vec![brings(1000)]),
-            "refused (5): the peer's funding transaction is invalid: output 0 has under 16 bytes of data, so no token amount",
+            "5: output 0 has under 16 bytes of data, so no token amount",
         ),
-        (
-            "amount_falls",
-            typed(Some(holding(5)), holding(4), vec![]),
-            "refused (5): the peer's funding transaction is invalid: the tokens of output 0 fall from 5 to 4",
-        ),
+        ("amount_falls", typed(Some(holding(5)), holding(4), vec![]), "5: the tokens of output 0 fall from 5 to 4"),
         (
             "inputs_below",
             case(Some(usual()), with_outputs(vec![plain(101)], vec![vec![]]), vec![]),
-            "refused (5): the peer's funding transaction is invalid: it puts in 0 shannons, 1 below the growth of output 0 and the outputs that it added",
+            "5: it puts in 0 shannons, 1 below the growth of output 0 and the outputs that it added",
         ),
         (
             "fee",
             case(None, usual(), vec![brings(304)]),
-            "refused (8): the fee is too low: 204 shannons are paid and 205 are required, at a rate of 1000 shannons per 1000 bytes and a size of 205 bytes",
+            "8: the fee is too low: 204 shannons are paid and 205 are required, at a rate of 1000 shannons per 1000 bytes and a size of 205 bytes",
         ),
         (
             "record_amount_short",
             typed(Some(holding(5)), spending(inputs(0, 2), vec![token(100)], vec![amount(5)]), vec![cell(token(7), vec![])]),
-            "refused (5): the peer's funding transaction is invalid: the cell of input 1 has under 16 bytes of data, so no token amount",
+            "5: the cell of input 1 has under 16 bytes of data, so no token amount",
         ),
         (
             "records_total",
@@ -298,12 +246,12 @@ fn lines() -> Vec<(&'static str, CaseFile, &'static str)> {
                 spending(inputs(0, 3), vec![token(100)], vec![amount(5)]),
                 vec![cell(token(7), amount(TOP)), cell(token(7), amount(1))],
             ),
-            "refused (7): a sum is too wide: the tokens of the added inputs come to 2^128 or more",
+            "7: the tokens of the added inputs come to 2^128 or more",
         ),
         (
             "output_amount_short",
             typed(Some(holding(5)), spending(inputs(0, 2), vec![token(100), token(7)], vec![amount(5), vec![]]), vec![brings(7)]),
-            "refused (5): the peer's funding transaction is invalid: output 1 has under 16 bytes of data, so no token amount",
+            "5: output 1 has under 16 bytes of data, so no token amount",
         ),
         (
             "outputs_total",
@@ -312,17 +260,17 @@ fn lines() -> Vec<(&'static str, CaseFile, &'static str)> {
                 spending(inputs(0, 2), vec![token(100), token(7), token(7)], vec![amount(5), amount(TOP), amount(1)]),
                 vec![brings(14)],
             ),
-            "refused (7): a sum is too wide: the tokens of the added outputs come to 2^128 or more",
+            "7: the tokens of the added outputs come to 2^128 or more",
         ),
         (
             "growth_total",
             typed(Some(holding(5)), spending(inputs(0, 2), vec![token(100), token(7)], vec![amount(6), amount(TOP)]), vec![brings(7)]),
-            "refused (7): a sum is too wide: the token growth of output 0 and the added outputs come to 2^128 or more",
+            "7: the token growth of output 0 and the added outputs come to 2^128 or more",
         ),
         (
             "tokens_below",
             typed(Some(holding(5)), holding(6), vec![]),
-            "refused (5): the peer's funding transaction is invalid: it puts in 0 tokens, 1 below the growth of output 0 and the outputs that it added",
+            "5: it puts in 0 tokens, 1 below the growth of output 0 and the outputs that it added",
         ),
     ]
 }
@@ -337,7 +285,7 @@ fn each_line_alone() {
     for (name, case, sentence) in lines() {
         let answer = case.judge();
         assert_eq!(verdict(&case, &answer), sentence, "{name}");
-        assert_eq!(reason(&case).map_or(0, |(number, _)| number), number(&answer), "{name}");
+        assert_eq!(number_here(&case), number(&answer), "{name}");
     }
 }
 
@@ -355,7 +303,7 @@ fn parts_of_different_cases() {
                 CaseFile { udt: b.udt.clone(), ..a.clone() },
             ] {
                 let answer = mixed.judge();
-                assert_eq!(reason(&mixed).map_or(0, |(number, _)| number), number(&answer), "{mixed:?}");
+                assert_eq!(number_here(&mixed), number(&answer), "{mixed:?}");
                 seen[number(&answer) as usize] += 1;
             }
         }

@@ -1,5 +1,6 @@
-//! Added inputs that spend a cell a second time. The rules don't refuse them, so they are told.
-use crate::words;
+//! What the rules don't refuse and the chain does, so that it is told: added inputs that spend a cell a second time, and data entries that are not one for each
+//! output.
+use crate::words::{self, count};
 use basinpantry::Transaction;
 use std::collections::HashMap;
 
@@ -17,13 +18,22 @@ pub fn repeats(ours: &Transaction, peer: &Transaction, full: bool) -> Vec<String
     notes
 }
 
+/// A note where the peer's transaction has not one data entry for each output.
+pub fn data_entries(peer: &Transaction) -> Option<String> {
+    let (outputs, entries) = (peer.outputs.len(), peer.outputs_data.len());
+    (outputs != entries).then(|| {
+        let (outputs, entries) = (count(outputs, "outputs"), count(entries, "data entries"));
+        format!("the peer's transaction has {outputs} and {entries}: it is judged all the same, and the chain takes no such transaction")
+    })
+}
+
 #[cfg(test)]
 mod tests {
     use super::*;
-    use basinpantry::{CellInput, OutPoint};
+    use basinpantry::{CellInput, H256, OutPoint};
 
     fn spending(indexes: &[u32]) -> Transaction {
-        let input = |index| CellInput { since: u64::from(index), previous_output: OutPoint { tx_hash: [0; 32], index } };
+        let input = |index| CellInput { since: u64::from(index), previous_output: OutPoint { tx_hash: H256([0; 32]), index } };
         Transaction { inputs: indexes.iter().map(|index| input(*index)).collect(), ..Transaction::default() }
     }
 
@@ -38,6 +48,24 @@ mod tests {
         };
         assert_eq!(notes(&[], &[5, 6, 6, 5, 5]), [note(2, 6, 1), note(3, 5, 0), note(4, 5, 0)]);
         assert_eq!(notes(&[5], &[5, 5]), [note(1, 5, 0)]);
+    }
+
+    #[test]
+    fn an_entry_for_each_output() {
+        let note = |outputs: usize, entries: usize| {
+            data_entries(&Transaction {
+                outputs: vec![Default::default(); outputs],
+                outputs_data: vec![vec![]; entries],
+                ..Transaction::default()
+            })
+        };
+        assert_eq!((note(0, 0), note(2, 2)), (None, None));
+        let told = |counts: &str| {
+            Some(format!("the peer's transaction has {counts}: it is judged all the same, and the chain takes no such transaction"))
+        };
+        assert_eq!(note(2, 3), told("2 outputs and 3 data entries"));
+        assert_eq!(note(1, 0), told("1 output and 0 data entries"));
+        assert_eq!(note(3, 1), told("3 outputs and 1 data entry"));
     }
 
     /// The same cell with another since is the same cell.
