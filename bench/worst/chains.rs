@@ -10,7 +10,7 @@ fn word(dep: &Dep, at: usize) -> u64 {
     u64::from_le_bytes(dep[at..at + 8].try_into().expect("8 bytes"))
 }
 fn chain_of(dep: &Dep) -> u64 {
-    spread([0, 8, 16, 24, 29].iter().fold(0, |sum, at| spread(sum ^ word(dep, *at)))) >> 52
+    spread([0, 8, 16, 24, 29].iter().fold(0, |sum, at| spread(sum ^ word(dep, *at)))) >> 51
 }
 
 /// Distinct deps of one chain.

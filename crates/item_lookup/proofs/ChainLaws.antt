@@ -4,20 +4,23 @@ use Prim.Native.Nat.{ℕ, _+_, _-_, _≤_, _<_}
 use mathlib.Core.Bool.{Bool, true, false, not}
 use mathlib.Core.List.{List}
 use native.Mathlib.Nat.{le-refl}
-use borrow.Author.Tests.{not-false}
+use native.Mathlib.Omega.{arith}
 use Rattle.molecule.specs.Layout.{span, fixItem}
 use Rattle.lists.specs.Lists.{eqBytes, contains, containsAll}
 use Rattle.lists.proofs.LoopLaws.{Among, among-end, among-more, among-stop}
 use Rattle.lists.proofs.SpanLaws.{span-end}
 use Rattle.item_lookup.proofs.AllLaws.{at-first, all-rest}
 
-pub met-here : (x b : List ℕ) (k n : ℕ) {place : ℕ} {y : List ℕ} {r : Bool} → place < n → y ≡ fixItem b k place → r ≡ eqBytes x y → r ≡ true
-    → true ≡ true → contains x (span (fixItem b k) 0 n) ≡ true
-met-here x b k n {place} h ey er t u = at-first x (fixItem b k) n place h (ap (eqBytes x) (sym ey) ∙ sym er ∙ t)
+pub met-here : (x b : List ℕ) (k n : ℕ) {place : ℕ} {y : List ℕ} {r : Bool} → y ≡ fixItem b k place → r ≡ eqBytes x y → r ≡ true
+    → place < n → contains x (span (fixItem b k) 0 n) ≡ true
+met-here x b k n {place} ey er t h = at-first x (fixItem b k) n place h (ap (eqBytes x) (sym ey) ∙ sym er ∙ t)
+
+pub unmet-end : {A : Type 0} (n : ℕ) → n < n → A
+unmet-end n l = absurd (omega arith)
 
 module _ {f : ℕ → List ℕ} {ys : List (List ℕ)} {m i : ℕ} {R : Bool} (h : Among f ys m i R) where
-  pub unmet-on : {x : List ℕ} {r : Bool} → i < m → x ≡ f i → (r ≡ true → contains x ys ≡ true) → not r ≡ false → Among f ys m (i + 1) R
-  unmet-on {x} {r} l e g t = among-more h l (sym (g (not-false r t)) ∙ ap (λ (y : List ℕ). contains y ys) e) refl
+  pub unmet-on : {x : List ℕ} {place n : ℕ} → i < m → x ≡ f i → (place < n → contains x ys ≡ true) → place < n → Among f ys m (i + 1) R
+  unmet-on {x} l e g t = among-more h l (sym (g t) ∙ ap (λ (y : List ℕ). contains y ys) e) refl
 
   pub unmet-here : R ≡ containsAll (span f i (m - i)) ys
   unmet-here = h .rest

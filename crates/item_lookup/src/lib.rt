@@ -14,9 +14,9 @@ ghost use Rattle.item_lookup.specs.Lookup.{isAmong, areAmong};
 const ROOM: usize = 3600;
 
 // How many chains there are.
-const CHAINS: usize = 4096;
+const CHAINS: usize = 8192;
 
-// So many items of a chain are looked at. No chain of 3,600 items is longer unless they were made to meet: by chance one in 10^12 is.
+// So many items of a chain are looked at. No chain of 3,600 items is longer unless they were made to meet: by chance one in 10^15 is.
 const STEPS: usize = 16;
 
 // Behind the last item of a chain.
@@ -71,55 +71,60 @@ fn digest(x: &[u8]) -> u64 {
     mix(sum, word)
 }
 
-// The chain of an item: the highest twelve bits of its digest, spread once more.
+// The chain of an item: the highest thirteen bits of its digest, spread once more.
 fn chain_of(x: &[u8]) -> usize
-    ensures { λ r. ⌜ r < 4096 ⌝ }
+    ensures { λ r. ⌜ r < 8192 ⌝ }
 {
     let sum = digest(x);
     let spread = spread(sum);
-    let high = spread / 4503599627370496;
+    let high = spread / 2251799813685248;
     high as usize
 }
 
 // ---- chains
 
-// Whether x is met in a chain, from its item `first` on: then it is among the first n items of b. It may be there and not be met.
-fn is_met(b: &[u8], k: u32, n: usize, next: &[u32], first: usize, x: &[u8]) -> bool
+// Where x is met in a chain, from its item `first` on: one of the first n places of b, or n where the chain ends without it, or more where the chain is too long.
+fn place_met(b: &[u8], k: u32, n: usize, next: &[u32], first: usize, x: &[u8]) -> usize
     requires { ⌜ n ≤ length (now next) ⌝ }
-    ensures { λ r. ⌜ (r ≡ true → isAmong (now (x .entry)) (now (b .entry)) k n ≡ true) ⌝ }
+    ensures { λ r. ⌜ (r < n → isAmong (now (x .entry)) (now (b .entry)) k n ≡ true) ⌝ }
 {
     let mut place = first;
     let mut steps = 0;
     while steps < STEPS {
         if n <= place {
-            return false;
+            return n;
         }
         let item = molecule::fix_item(b, k, place);
         if lists::same(x, item) {
-            return true;
+            return place;
         }
         place = number_at(next, place);
         steps += 1;
     }
-    false
+    usize::MAX
 }
 
-// Puts the first n items of b into their chains, but for those that are met there: `heads` has the first item of each chain, `next` the one after it. What is
-// linked decides only how long a search takes.
+// Puts the first n items of b into their chains, but for those that are met there: `heads` has the first item of each chain, `next` the one after it. Where a
+// chain is too long the others are left out. What is linked decides only how long a search takes.
 fn link(b: &[u8], k: u32, n: u32, heads: &mut [u32], next: &mut [u32])
-    requires { ⌜ 4096 ≤ length (now heads) ⌝ }
+    requires { ⌜ 8192 ≤ length (now heads) ⌝ }
     requires { ⌜ n ≤ length (now next) ⌝ }
     ensures { λ _. ⌜ length (now (heads .exit)) ≡ length (now (heads .entry)) ⌝ }
     ensures { λ _. ⌜ length (now (next .exit)) ≡ length (now (next .entry)) ⌝ }
 {
+    let count = n as usize;
     let mut i: u32 = 0;
     while i < n {
         let x = molecule::fix_item(b, k, i as usize);
         let chain = chain_of(x);
         let first = number_at(heads, chain);
-        if is_met(b, k, n as usize, next, first, x) {
+        let met = place_met(b, k, count, next, first, x);
+        if met < count {
             i += 1;
         } else {
+            if count < met {
+                return;
+            }
             next[i as usize] = heads[chain];
             heads[chain] = i;
             i += 1;
@@ -138,7 +143,7 @@ fn first_unmet(
     heads: &[u32],
     next: &[u32],
 ) -> usize
-    requires { ⌜ 4096 ≤ length (now heads) ⌝ }
+    requires { ⌜ 8192 ≤ length (now heads) ⌝ }
     requires { ⌜ n ≤ length (now next) ⌝ }
     ensures { λ r. ⌜ areAmong (now (a .entry)) from m (now (b .entry)) k n ≡ areAmong (now (a .entry)) r m (now (b .entry)) k n ⌝ }
 {
@@ -147,7 +152,7 @@ fn first_unmet(
         let x = molecule::fix_item(a, k, i);
         let chain = chain_of(x);
         let first = number_at(heads, chain);
-        if !is_met(b, k, n, next, first, x) {
+        if n <= place_met(b, k, n, next, first, x) {
             return i;
         }
         i += 1;

@@ -22,7 +22,7 @@ first-unmet-spec =
     (λ c κs. search ways)  -- fix-item-requires
     (λ c κs. search ways)  -- chain-of-requires
     (λ c κs. search ways)  -- number-at-requires
-    (λ c κs. search ways)  -- is-met-requires
+    (λ c κs. search ways)  -- place-met-requires
     (λ c. search ways)  -- returns
     (λ c. search ways)  -- add-i
     (λ c. search ways)  -- loop-less

@@ -6,10 +6,10 @@ use Rattle.item_lookup.proofs.link.Statement.{statement}
 use Rattle.item_lookup.proofs.link.Tie as tie
 
 abbrev Inv-loop : tie.InvT-loop
-Inv-loop b k n heads₀ next₀ i₀ heads next i = (length heads ≡ length heads₀) × (length next ≡ length next₀)
+Inv-loop b k n heads₀ next₀ count i₀ heads next i = (length heads ≡ length heads₀) × (length next ≡ length next₀)
 
 abbrev μ-loop : tie.MeasureT-loop
-μ-loop b k n heads₀ next₀ i₀ heads next i = n - i
+μ-loop b k n heads₀ next₀ count i₀ heads next i = n - i
 
 pub link-spec : {M : Type 1} → statement M
 link-spec =
@@ -22,10 +22,13 @@ link-spec =
     (λ c κs. search ways)  -- fix-item-requires
     (λ c κs. search ways)  -- chain-of-requires
     (λ c κs. search ways)  -- number-at-requires
-    (λ c κs. search ways)  -- is-met-requires
+    (λ c κs. search ways)  -- place-met-requires
     (λ c. search ways)  -- add-i
     (λ c. search ways)  -- loop-less
     (λ c. search ways)  -- loop-again
+    (λ c. search ways)  -- same-length
+    (λ c. search ways)  -- same-length-2
+    (λ c. search ways)  -- returns
     (λ c. search ways)  -- mul-next
     (λ c. search ways)  -- slice-read-next
     (λ c. search ways)  -- cast-next
@@ -36,6 +39,6 @@ link-spec =
     (λ c. search ways)  -- add-i-2
     (λ c. search ways)  -- loop-less-2
     (λ c. search ways)  -- loop-again-2
-    (λ c. search ways)  -- same-length
-    (λ c. search ways)  -- same-length-2
-    (λ c. search ways))  -- returns
+    (λ c. search ways)  -- same-length-3
+    (λ c. search ways)  -- same-length-4
+    (λ c. search ways))  -- returns-2
