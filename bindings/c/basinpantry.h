@@ -20,7 +20,7 @@
 #define BASINPANTRY_H
 
 /* The version, 0.1.0: 10,000 times the first number, 100 times the second and the third. */
-# define BASINPANTRY_VERSION 100
+#define BASINPANTRY_VERSION 100
 
 #include <stdbool.h>
 #include <stddef.h>

@@ -239,6 +239,7 @@ fn numbers() {
     for list in [List::CellDeps, List::HeaderDeps, List::Inputs, List::Outputs, List::OutputsData, List::Witnesses] {
         has(&in_capitals(&format!("{list:?}")), list as usize);
     }
+    has("VERSION", 100); // tests/version.rs sees that it is the crate's
     has("MAX_TRANSACTION_BYTES", MAX_TRANSACTION_BYTES);
     has("MAX_CASE_BYTES", MAX_CASE_BYTES);
     has("HELD_BYTES", HELD_BYTES);

@@ -15,7 +15,7 @@ fn the_header_has_it() {
     let number = 10_000 * parts[0] + 100 * parts[1] + parts[2];
     let header = text("../c/basinpantry.h");
     let lines: Vec<&str> = header.lines().filter(|line| line.contains("BASINPANTRY_VERSION")).collect();
-    assert_eq!(lines, [format!("# define BASINPANTRY_VERSION {number}")]);
+    assert_eq!(lines, [format!("#define BASINPANTRY_VERSION {number}")]);
     assert!(header.contains(&format!("/* The version, {VERSION}: ")));
 }
 
