@@ -251,6 +251,7 @@ fn mark_all(h: Held, cells: &[u8], hints: &[u8], marks: &mut [u8])
     }
 }
 
+// Whether the record at `at` has no mark.
 fn is_unmarked(marks: &[u8], at: usize) -> bool
     ensures { λ r. ⌜ r ≡ eqb (getD (now (marks .entry)) at 0) 0 ⌝ }
 {
