@@ -197,8 +197,10 @@ mod too_little {
         for (call, _) in LARGE {
             assert!(!returns(call, 40 * 1024), "{call}");
         }
+        // an update has room for chains of the peer's cell deps, of some 48 KB
         for (call, _) in SMALL {
-            assert!(returns(call, 40 * 1024), "{call}");
+            assert!(returns(call, 64 * 1024), "{call}");
         }
+        assert!(returns("exclusions", 40 * 1024));
     }
 }
