@@ -5,11 +5,11 @@ import glob
 
 PARTS = {
     'reading, writing, amounts and errors': 'arithmetic units error molecule transaction reader transaction_writer',
-    'the rules and demand 3': 'rules funding_tx lists comparison records accounts contribution negotiation',
+    'the rules and demand 3': 'rules funding_tx lists item_index item_lookup comparison records accounts contribution negotiation',
     'case files and their lines': 'case_file verdict_line',
     'out points and the tables of cells': 'out_points hold_records pick_kinds unavailable_picks picks held_cells watchtower_holds table_bytes held_bytes exclusion_entries exclusion_marks exclusions',
-    'our own side': 'funding_cell udt_cells cell_output cell_deps list_writer base_inputs base_lists base_writer funding_builder',
-    'the C interface': 'words answer_words transaction_lists capi',
+    'our own side': 'funding_cell udt_cells cell_output cell_deps distinct_deps list_writer base_inputs base_lists base_writer funding_builder',
+    'the C interface': 'words answer_words transaction_lists item_places capi',
 }
 
 # statements of theorems that no code needs
