@@ -66,6 +66,12 @@ fn no_input_is_overwritten() {
     let script = format!("{} {before} - {after} -o \"$O\" < \"$O\"", env!("CARGO_BIN_EXE_basinpantry"));
     let (ran, _) = run(&script, Path::new(&at("peer.json")));
     assert_eq!((ran.status, ran.err), (2, why("--peer")));
+    // standard output that was opened on an input, by no name and by its own
+    for option in ["", "-o -", "-o /dev/stdout"] {
+        let script = format!("{} {before} \"$O\" {after} {option} 1<> \"$O\"", env!("CARGO_BIN_EXE_basinpantry"));
+        let (ran, _) = run(&script, Path::new(&at("peer.json")));
+        assert_eq!((ran.status, ran.err), (2, why("--peer")), "{option}");
+    }
     assert_eq!(fs::read_to_string(at("peer.json")).unwrap(), read("peer.json"));
     assert_eq!(names(&folder), ["hard", "peer.json", "soft", "softer"]);
 }

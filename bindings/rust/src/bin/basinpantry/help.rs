@@ -12,8 +12,8 @@ basinpantry judges the funding transactions that a peer proposes when a CKB paym
 basinpantry COMMAND --help, or basinpantry help COMMAND, says more; basinpantry --version (-V) the version.
 A FILE of - is standard input. An option's value follows it, or stands behind a =. After -- no word is an option.
 Of a file or of standard input at most 8 MiB are read; --max-bytes N, with every command, sets another bound, up to 1 GiB.
-JSON is nested over 64 levels at most.
-A case file may have any length; only check --line, as the proved program check_update, answers 3 to one of more than 65,536 bytes.
+JSON is nested 64 levels deep at most, an object has 1,000 fields at most, and a list of records 4,096.
+A case file may have any length up to --max-bytes; only check --line, as the proved program check_update, answers 3 to one of more than 65,536 bytes.
 check, judge, show and replay print JSON with --json.
 Exit status: 0 accepted or done, 1 refused, 2 bad usage or a bad file.
 ";
@@ -71,7 +71,7 @@ Judges the update that a case file holds, and prints the verdict with its number
             there is no more to say), values by their names, and surplus with capacity and token (null where it
             is refused). Amounts, sizes and indexes are strings of 0x and hex digits, as in CKB's JSON
 
-Without --line a case file may have any length.
+Without --line a case file may have any length up to --max-bytes.
 
 Exit status: 0 accepted, 1 refused, 2 bad usage, or a file that is no case file (its line is 3).
 ";
@@ -110,7 +110,7 @@ The file of -o is written beside and then given its name, so that the old one or
 the old one's permissions stay. A run that is killed may leave a file .basinpantry-*.tmp there. A pipe or a device
 is written to as it is.
 
-A case file may have any length. The proved program check_update and check --line answer 3 to one of more than
+A case file may have any length up to --max-bytes. The proved program check_update and check --line answer 3 to one of more than
 65,536 bytes, which a note then says.
 "
 );
@@ -131,7 +131,7 @@ the verdict. An input or output is shared (ours has the same), changed, or added
 
 A note names what is not refused and what the chain refuses: an added input whose out point stands earlier among
 the peer's inputs (its record is counted again), and data entries that are not one for each output.
-A case file may have any length.
+A case file may have any length up to --max-bytes.
 
 Exit status: 0 where it could be shown, whatever the verdict is; 2 bad usage or a bad file.
 ";
@@ -149,7 +149,7 @@ force, and prints each verdict, the sums of what the accepted updates leave over
 The transaction of ours in the first file is the start. That of the later ones is not looked at and may be
 missing. All files have the same expected funding lock and token type; peer, records, source lock and fee
 rate are each file's own. The records of an update are one for each input that its transaction adds to the
-one that is in force by then. A case file may have any length.
+one that is in force by then. A case file may have any length up to --max-bytes.
 
 Exit status: 0 all accepted, 1 one was refused, 2 bad usage or a bad file.
 ";

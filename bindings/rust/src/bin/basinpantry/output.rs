@@ -62,11 +62,19 @@ impl Output {
         matches!(self, Output::File { old: Some(_), .. })
     }
 
+    /// The regular file that bytes would go to, where there is one already; that of standard output too, which the caller may have opened.
+    fn old_file(&self) -> Option<Metadata> {
+        match self {
+            Output::File { old, .. } => old.clone(),
+            Output::Standard => metadata_of(&io::stdout()).filter(Metadata::is_file),
+            Output::Device(_) => None,
+        }
+    }
+
     /// Whether the file that is read is the one that would be replaced, by whatever names, links among them.
     pub fn is_file_of(&self, input: &OsStr) -> bool {
-        let Output::File { old: Some(old), .. } = self else { return false };
         let input = if input == "-" { metadata_of(&io::stdin()) } else { Path::new(input).metadata().ok() };
-        input.is_some_and(|input| same(&input, old))
+        input.zip(self.old_file()).is_some_and(|(input, old)| same(&input, &old))
     }
 
     /// Whether bytes would go to somebody's screen.
