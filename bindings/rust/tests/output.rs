@@ -76,6 +76,13 @@ fn no_input_is_overwritten() {
     assert_eq!(names(&folder), ["hard", "peer.json", "soft", "softer"]);
 }
 
+/// A case file that nobody takes is no success.
+#[test]
+fn a_closed_pipe() {
+    let (ran, _) = run("{ sleep 1; $P; echo $? >&2; } | true", Path::new(""));
+    assert_eq!((ran.status, ran.out.as_str(), ran.err.as_str()), (0, "", "basinpantry: standard output: Broken pipe (os error 32)\n2\n"));
+}
+
 #[test]
 fn a_file_is_replaced() {
     let folder = folder("replaced");

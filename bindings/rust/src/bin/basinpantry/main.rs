@@ -173,8 +173,8 @@ fn main() -> ExitCode {
             let mut stdout = std::io::stdout().lock();
             match stdout.write_all(&done.out).and_then(|()| stdout.flush()) {
                 Ok(()) => ExitCode::from(done.status),
-                // whoever reads has seen enough
-                Err(why) if why.kind() == std::io::ErrorKind::BrokenPipe => ExitCode::from(done.status),
+                // whoever reads has seen enough, unless it is a case file, of which every byte is wanted
+                Err(why) if why.kind() == std::io::ErrorKind::BrokenPipe && command != "case" => ExitCode::from(done.status),
                 Err(why) => complain(&format!("standard output: {why}")),
             }
         }
