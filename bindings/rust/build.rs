@@ -35,8 +35,11 @@ fn canonical(path: &Path) -> Result<PathBuf, String> {
 }
 
 fn archive_folder() -> Result<PathBuf, String> {
-    if let Some(folder) = std::env::var_os("BASINPANTRY_LIB_DIR") {
+    if let Some(folder) = std::env::var_os("BASINPANTRY_LIB_DIR").filter(|folder| !folder.is_empty()) {
         let folder = PathBuf::from(folder);
+        if folder.is_relative() {
+            return Err(format!("BASINPANTRY_LIB_DIR: {} is no absolute path, which cargo needs", folder.display()));
+        }
         if folder.join(ARCHIVE).is_file() {
             return Ok(folder);
         }
