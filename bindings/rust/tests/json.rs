@@ -123,6 +123,17 @@ fn what_stands_around_a_transaction() {
     }
 }
 
+#[test]
+fn two_transactions() {
+    for (name, text, beside) in [
+        ("and_fields", SMALL.replacen('{', &format!("{{\"transaction\": {SMALL},"), 1), "version"),
+        ("and_result", format!("{{\"result\": {SMALL}, \"transaction\": {SMALL}}}"), "result"),
+    ] {
+        let why = format!("line 1, column 1: beside \"transaction\" stands \"{beside}\", and only one can be meant");
+        assert_eq!(complaint(name, text.as_bytes()), why);
+    }
+}
+
 /// What a failure ends with where the case was there before.
 fn still_there(out: &str) -> String {
     format!("basinpantry: note: the old {out} is still there\n")

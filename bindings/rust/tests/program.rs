@@ -256,6 +256,14 @@ in force: the peer's transaction of cases/itself.case
     assert_eq!(ran.status, 2);
 }
 
+/// The name of a file steers no terminal.
+#[test]
+fn names_are_plain() {
+    let ran = run(&["check", "no\u{1b}[31m.case"]);
+    assert_eq!((ran.status, ran.out.as_str()), (2, ""));
+    assert!(ran.err.starts_with("basinpantry: no\u{fffd}[31m.case: "), "{}", ran.err);
+}
+
 /// Nobody reads what is printed: no panic and no complaint.
 #[test]
 fn closed_output() {

@@ -30,9 +30,10 @@ pub(super) fn output(value: Value) -> Result<CellOutput, Error> {
     Ok(CellOutput { capacity: capacity.u64()?, lock: script(lock)?, type_: type_.map(script).transpose()? })
 }
 
+const TRANSACTION: [&str; 7] = ["version", "cell_deps", "header_deps", "inputs", "outputs", "outputs_data", "witnesses"];
+
 fn transaction_fields(value: Value) -> Result<Transaction, Error> {
-    let names = ["version", "cell_deps", "header_deps", "inputs", "outputs", "outputs_data", "witnesses"];
-    let ([version, cell_deps, header_deps, inputs, outputs, outputs_data, witnesses], _) = value.these_fields(names, ["hash"])?;
+    let ([version, cell_deps, header_deps, inputs, outputs, outputs_data, witnesses], _) = value.these_fields(TRANSACTION, ["hash"])?;
     Ok(Transaction {
         version: version.u32()?,
         cell_deps: cell_deps.all(cell_dep)?,
@@ -91,7 +92,11 @@ fn why_null(answer: Value) -> &'static str {
 /// A transaction: its fields, or what an RPC or ckb-cli puts around them, where it may also stand as hex.
 pub(super) fn transaction(value: Value) -> Result<Transaction, Error> {
     let answer = unwrapped(value)?;
-    let value = answer.field("transaction").unwrap_or(answer);
+    let inner = answer.field("transaction");
+    if let Some(name) = TRANSACTION.into_iter().chain(["result"]).find(|name| inner.is_some() && answer.field(name).is_some()) {
+        return Err(answer.error(format!("beside \"transaction\" stands {}, and only one can be meant", quoted(name))));
+    }
+    let value = inner.unwrap_or(answer);
     match value.kind() {
         Kind::Text => Transaction::from_bytes(&value.bytes()?).ok_or_else(|| value.error("these bytes are no transaction")),
         Kind::Null => Err(value.error(why_null(answer))),

@@ -109,7 +109,7 @@ fn make(words: &[OsString]) -> Result<Done, Failure> {
     }
     match output {
         Output::Standard => Ok(Done { out: bytes, notes, status: 0 }),
-        _ => Ok(Done { out: format!("{name}: {} bytes\n", bytes.len()).into_bytes(), notes, status: 0 }),
+        _ => Ok(Done { out: plain(&format!("{name}: {} bytes\n", bytes.len())).into_bytes(), notes, status: 0 }),
     }
 }
 
@@ -153,11 +153,16 @@ fn run(command: &OsStr, rest: &[OsString]) -> Result<Done, Failure> {
     }
 }
 
+/// What is printed has a file's name in it as it is: nothing of that steers a terminal.
+fn plain(text: &str) -> String {
+    text.chars().map(|c| if c.is_control() && c != '\n' { char::REPLACEMENT_CHARACTER } else { c }).collect()
+}
+
 fn main() -> ExitCode {
     let words: Vec<OsString> = std::env::args_os().skip(1).collect();
     // what can't be printed any more is nobody's to read: no panic for it, but a status
     let complain = |why: &str| {
-        let _ = writeln!(std::io::stderr(), "basinpantry: {why}");
+        let _ = writeln!(std::io::stderr(), "basinpantry: {}", plain(why));
         ExitCode::from(2)
     };
     let Some((command, rest)) = words.split_first() else {
@@ -168,7 +173,7 @@ fn main() -> ExitCode {
         Err(Failure(why)) => complain(&why),
         Ok(done) => {
             for note in &done.notes {
-                let _ = writeln!(std::io::stderr(), "basinpantry: note: {note}");
+                let _ = writeln!(std::io::stderr(), "basinpantry: note: {}", plain(note));
             }
             let mut stdout = std::io::stdout().lock();
             match stdout.write_all(&done.out).and_then(|()| stdout.flush()) {
