@@ -30,6 +30,24 @@ fn a_long_case() {
     assert_eq!((ran.status, ran.out.as_str(), ran.err.as_str()), (2, "3\n", ""));
 }
 
+/// JSON within the bound whose case file is not: a note says with what it is read.
+#[test]
+fn a_case_over_the_bound() {
+    let text = read("peer.json");
+    let (start, end) = text.rsplit_once("\"0x\"").unwrap();
+    let peer = file("over_the_bound.json", format!("{start}{}\"0x\"{end}", "\"0x\",".repeat(1_100_000)));
+    let out = file("over_the_bound.case", "");
+    let made = make(&out, &[("--peer", &peer)]);
+    let size = std::fs::metadata(&out).unwrap().len();
+    assert!(
+        made.status == 0 && made.err.ends_with(&format!("basinpantry: note: to be read it wants --max-bytes {size}\n")),
+        "{}",
+        made.err
+    );
+    assert_eq!(run(&["check", &out]).status, 2);
+    assert_eq!(run(&["check", "--max-bytes", &size.to_string(), &out]).status, 1);
+}
+
 /// The longest file whose line is judged, and one that is 4 bytes longer.
 #[test]
 fn the_bound_of_the_line() {

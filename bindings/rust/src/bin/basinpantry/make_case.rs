@@ -1,6 +1,6 @@
 //! `case`: a case file from what a node prints.
 use crate::case_parts::ours_of;
-use crate::files::{Failure, Input};
+use crate::files::{Failure, Input, MAX_FILE_BYTES};
 use crate::notes::{data_entries, repeats};
 use crate::words::was;
 use basinpantry::{CaseFile, CaseRecord, MAX_CASE_BYTES, Transaction, is_script, is_transaction, json};
@@ -73,6 +73,9 @@ pub fn make_file(parts: &Parts) -> Result<(Vec<u8>, Vec<String>), Failure> {
             "the case file has {} bytes, and check_update and check --line answer 3 to more than {MAX_CASE_BYTES}",
             bytes.len()
         ));
+    }
+    if bytes.len() as u64 > MAX_FILE_BYTES {
+        notes.push(format!("to be read it wants --max-bytes {}", bytes.len()));
     }
     Ok((bytes, notes))
 }
