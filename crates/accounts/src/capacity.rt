@@ -12,7 +12,7 @@ use transaction::fields;
 use units::{CheckedShannons, Shannons};
 
 // What is left in capacity, or why the update is refused.
-#[derive(Drop)]
+#[derive(Clone, Copy)]
 pub enum CapacitySurplus {
     Is(Shannons),
     Refused(Refusal),

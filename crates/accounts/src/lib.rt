@@ -1,5 +1,7 @@
 // The two accounts of an update, in capacity and in the expected token: what is left of what the peer's added inputs bring in over the growth of output 0 and
 // the outputs that it added.
+#![tactic(auto)]
+
 pub mod capacity;
 pub mod token;
 

@@ -12,7 +12,7 @@ use transaction::fields;
 use units::{CheckedTokens, Tokens, TokensRead};
 
 // A sum of tokens. `Invalid` is the refusal 5, for an amount under 16 bytes or too few tokens brought in; `Overflow` is 7.
-#[derive(Drop)]
+#[derive(Clone, Copy)]
 pub enum TokenSum {
     Is(Tokens),
     Invalid,

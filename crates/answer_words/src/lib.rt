@@ -1,5 +1,7 @@
 // The answers of the library's calls as a number and the words that each has to tell, the figures that come as words, and what is put at the start of a lent buffer.
 // The update's own answer is in crate words, which the run over a list of updates needs too.
+#![tactic(auto)]
+
 pub mod buffers;
 
 ghost use Rattle.std.specs.Prelude.{◌≡◌};

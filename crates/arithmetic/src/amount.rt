@@ -6,21 +6,21 @@ ghost use Rattle.arithmetic.specs.Amount.{value, halves, amount_of, sum, differe
 use crate::little_endian::{u64_at, u64_bytes};
 
 // The number low + 2^64 * high.
-#[derive(Drop)]
+#[derive(Clone, Copy)]
 pub struct Amount {
     pub low: u64,
     pub high: u64,
 }
 
 // The answer of a sum or a difference: `Overflow` where it is no number of 128 bits.
-#[derive(Drop)]
+#[derive(Clone, Copy)]
 pub enum CheckedAmount {
     Fits(Amount),
     Overflow,
 }
 
 // What reading an amount finds: `Short` where fewer than 16 bytes stand there.
-#[derive(Drop)]
+#[derive(Clone, Copy)]
 pub enum AmountRead {
     Amount(Amount),
     Short,

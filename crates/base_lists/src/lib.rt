@@ -1,6 +1,8 @@
 // Writes the outputs of a base transaction, their data and the witnesses into a lent buffer. For each list there is a function that says how long it is,
 // and 133,117 for all that is longer than a transaction may be, and a function that puts it at a place and answers the place after it. Where it does
 // not fit nothing is written, and the place that is answered is the one that was given.
+#![tactic(auto)]
+
 mod outputs;
 mod outputs_data;
 mod witnesses;

@@ -1,5 +1,7 @@
 // `build_base` with, beside its own contract, that what is proved of its definition (crates/base_theorems) holds of the bytes that it leaves in the lent
 // buffer.
+#![tactic(auto)]
+
 ghost use Rattle.std.specs.Prelude.{◌≡◌, ℕ, take};
 ghost use Rattle.base_writer.specs.Answer.{written, told};
 ghost use Rattle.funding_builder.specs.Base.{lent_of, build_base};

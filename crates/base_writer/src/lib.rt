@@ -1,4 +1,6 @@
 // Writes a base transaction into a lent buffer: from the lists of the present one, the lent lists, and the figures.
+#![tactic(auto)]
+
 ghost use Rattle.std.specs.Prelude.{◌≡◌, ◌-◌, min, not, length};
 ghost use Rattle.molecule.specs.Layout.{item_count, fix_count};
 ghost use Rattle.molecule.specs.Write.{put_at, put_end, Put};
@@ -21,7 +23,7 @@ use units::{Shannons, Tokens};
 
 // The figures of a base transaction: the funding cell's, how many token cells are taken, what change is left of them, and the capacity of its
 // output, 0 where there is none.
-#[derive(Drop)]
+#[derive(Clone, Copy)]
 pub struct Plan {
     pub capacity: Shannons,
     pub token: Tokens,
@@ -31,7 +33,7 @@ pub struct Plan {
 }
 
 // How long each list is.
-#[derive(Drop)]
+#[derive(Clone, Copy)]
 struct Sizes {
     deps: usize,
     headers: usize,

@@ -1,5 +1,7 @@
 // What a host in Rust or C links: the library's functions under plain names. A slice crosses as a pointer and then a length, the four words of
 // an answer as a pointer alone.
+#![tactic(auto)]
+
 mod replay;
 mod tables;
 

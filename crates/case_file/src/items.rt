@@ -29,7 +29,7 @@ pub const DATA: u32 = 8;
 pub const NOT_LIVE: u32 = 9;
 
 // The places of the items before the records, each but the first after the one before it, and of the records. Our transaction stands at 0.
-#[derive(Drop)]
+#[derive(Clone, Copy)]
 pub struct Places {
     pub peer: usize,
     pub lock: usize,

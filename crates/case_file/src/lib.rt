@@ -1,4 +1,6 @@
 // Judges the update that a case file holds, and writes the verdict line.
+#![tactic(auto)]
+
 mod items;
 mod record_list;
 

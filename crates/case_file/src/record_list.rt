@@ -10,7 +10,7 @@ use crate::items;
 use molecule::write;
 
 // How many records there are, and how long their list is; 0 where they are not in their shape.
-#[derive(Drop)]
+#[derive(Clone, Copy)]
 pub struct Measured {
     pub count: usize,
     pub size: usize,

@@ -1,4 +1,6 @@
 // The cell deps of a base transaction: of four lists, one after the other, each dep where it first stands.
+#![tactic(auto)]
+
 ghost use Rattle.std.specs.Prelude.{◌≡◌, ◌+◌, ◌≤◌, min, length};
 ghost use mathlib.Core.List.{flatten};
 ghost use Rattle.molecule.specs.Write.{Put};

@@ -1,4 +1,6 @@
 // Writes an output: the table of its capacity, its lock, and its type or nothing.
+#![tactic(auto)]
+
 ghost use Rattle.std.specs.Prelude.{◌≡◌, ◌+◌, ◌%◌, ◌^◌, ◌≤◌, ◌++◌, length, nat_le};
 ghost use Rattle.units.specs.Units.{shannon_count};
 ghost use Rattle.molecule.specs.Write.{put_at, put_end, Put};

@@ -1,5 +1,7 @@
 // Reads a case file from standard input, at most 65,536 bytes, and prints the verdict line: 0 and the capacity surplus in hex, or a refusal's number and
 // its values.
+#![tactic(auto)]
+
 use libc::{STDIN_FILENO, STDOUT_FILENO};
 
 fn main() {

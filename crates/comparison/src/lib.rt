@@ -1,5 +1,7 @@
 // The peer's transaction against ours: no cell dep, header dep, input, output or data of ours is gone, and output 0 is the funding cell. Cell deps may be
 // reordered, output 0 and its data may change, and witnesses are not compared.
+#![tactic(auto)]
+
 ghost use Rattle.std.specs.Prelude.{◌≡◌, eqb};
 ghost use Rattle.lists.specs.Lists.{extends};
 ghost use Rattle.transaction.specs.Tx.{tx_at};

@@ -1,4 +1,6 @@
 // What the peer put in: the growth of output 0, the cells that its inputs spend, and the outputs that it added.
+#![tactic(auto)]
+
 ghost use Rattle.std.specs.Prelude.{◌≡◌, List, ℕ, ◌+◌, length};
 ghost use Rattle.units.specs.Units.{shannon_count, token_count};
 ghost use Rattle.transaction.specs.Tx.{tx_at, raw_field};
@@ -20,14 +22,14 @@ use transaction::fields;
 use units::{CheckedShannons, CheckedTokens, Shannons, Tokens, TokensRead};
 
 // By how much output 0 grows, in tokens only where a type is expected. `Invalid` is the refusal 5.
-#[derive(Drop)]
+#[derive(Clone, Copy)]
 enum OutputDelta {
     Grows { capacity: Shannons, token: Tokens },
     Invalid,
 }
 
 // The same in tokens alone: `Invalid` where an amount can't be read, or it falls.
-#[derive(Drop)]
+#[derive(Clone, Copy)]
 enum TokenDelta {
     Grows(Tokens),
     Invalid,

@@ -9,7 +9,7 @@ use item_index::ordering;
 use item_index::ordering::Order;
 
 // Where a dep stands among sorted ones, or where it is to be put.
-#[derive(Drop)]
+#[derive(Clone, Copy)]
 struct Found {
     at: usize,
     there: bool,

@@ -1,4 +1,6 @@
 // The distinct deps of a base transaction. By an index of each list a dep is new where it stands nowhere before, in its own list or in one of those before it.
+#![tactic(auto)]
+
 mod in_turn;
 
 ghost use Rattle.std.specs.Prelude.{◌≡◌, not, ◌+◌, ◌≤◌, ◌<◌, min, length};

@@ -1,9 +1,11 @@
 // Why a request is refused: the numbers 1 to 15, with the values that each carries.
+#![tactic(auto)]
+
 ghost use Rattle.std.specs.Prelude.{◌≡◌, length, get_or};
 ghost use Rattle.error.specs.Refusal.{number, values, answered};
 
 // A refusal. The comment on each case begins with its sentence for people.
-#[derive(Drop)]
+#[derive(Clone, Copy)]
 pub enum Refusal {
     /// Our own transaction's bytes are no transaction.
     OurTransactionUnreadable,
@@ -142,7 +144,7 @@ impl Refusal {
 }
 
 // What a call answers that changes a table or fills a lent buffer.
-#[derive(Drop)]
+#[derive(Clone, Copy)]
 pub enum Answer {
     Done,
     Refused(Refusal),

@@ -1,5 +1,7 @@
 // The exclusion map as lent bytes: a count of four bytes, then the entries one after the other, each 48 bytes and 36 for each out point: the hash (32), the
 // kind (4: 0 pending, 1 committed), the block (8; 0 while pending), the list of the out points. Here it is read: one entry, and all in one pass.
+#![tactic(auto)]
+
 ghost use Rattle.std.specs.Prelude.{◌≡◌, true, false, ◌+◌, ◌*◌, ◌≤◌};
 ghost use Rattle.arithmetic.specs.LittleEndian.{u32_at};
 ghost use Rattle.exclusion_entries.specs.Exclusions.{has_hash, is_recent};
@@ -22,7 +24,7 @@ pub const MAP_BYTES: usize = 4 + 48 * MOST_ENTRIES + 36 * MOST_OUT_POINTS;
 const KEEP_BLOCK_PERIOD: u64 = 13;
 
 // What a call does to the entries.
-#[derive(Drop)]
+#[derive(Clone, Copy)]
 pub enum Rule {
     // All stay.
     All,
@@ -37,7 +39,7 @@ pub enum Rule {
 }
 
 // By the first word of its hash an entry is told that the rule does not touch.
-#[derive(Drop)]
+#[derive(Clone, Copy)]
 struct Words {
     // The rule does not go by hashes.
     always: bool,
@@ -46,7 +48,7 @@ struct Words {
 }
 
 // What a pass over a table finds.
-#[derive(Drop)]
+#[derive(Clone, Copy)]
 pub struct Survey {
     // Whether the bytes are a table: the rest is of no use where they are not.
     pub good: bool,

@@ -18,7 +18,7 @@ use out_points::Byte32;
 use transaction::fields;
 
 // Where a pass is that moves the entries together that stay: the next entry, the place for it, and whether one has given its place.
-#[derive(Drop)]
+#[derive(Clone, Copy)]
 struct Sift {
     at: usize,
     to: usize,

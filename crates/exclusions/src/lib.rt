@@ -1,5 +1,7 @@
 // LiveCellsExclusionMap: the cells that funding transactions spend, kept out of later picks. The map is bytes that the caller keeps and lends to each call, which works on them in
 // place. A transaction that can't be read is refused first, then bytes that are no map; a refusal leaves the map's bytes and the buffer as they were.
+#![tactic(auto)]
+
 ghost use Rattle.std.specs.Prelude.{◌≡◌, true, ◌≤◌, length};
 ghost use Rattle.arithmetic.specs.LittleEndian.{AllBytes};
 ghost use Rattle.molecule.specs.Molecule.{readable, option};

@@ -1,4 +1,6 @@
 // The base transaction of our own side: the funding cell, the tokens that we bring, and what the present transaction has already.
+#![tactic(auto)]
+
 mod assemble;
 
 ghost use Rattle.std.specs.Prelude.{◌≡◌, true, ◌<◌};

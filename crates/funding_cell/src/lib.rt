@@ -1,4 +1,6 @@
 // The funding cell that both sides pay into: its capacity and its token amount.
+#![tactic(auto)]
+
 ghost use Rattle.std.specs.Prelude.{◌≡◌, true, false};
 ghost use Rattle.units.specs.Units.{shannon_count, token_count};
 ghost use Rattle.funding_cell.specs.FundingCell.{told, counted, reserves, cell_of, funding_cell, build_funding_cell};
@@ -9,7 +11,7 @@ use transaction::fields;
 use units::{CheckedShannons, CheckedTokens, Shannons, Tokens};
 
 // What each side is to bring: an amount, of shannons where the channel is untyped and else of the token, and a reserve in shannons.
-#[derive(Drop)]
+#[derive(Clone, Copy)]
 pub struct FundingRequest {
     pub local_amount: Amount,
     pub local_reserved_ckb_amount: Shannons,
@@ -18,7 +20,7 @@ pub struct FundingRequest {
 }
 
 // The capacity is below 2^64; the token amount is 0 when untyped.
-#[derive(Drop)]
+#[derive(Clone, Copy)]
 pub enum FundingCell {
     Cell { capacity: Shannons, token: Tokens },
     Refused(Refusal),

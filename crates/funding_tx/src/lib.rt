@@ -1,4 +1,6 @@
 // A peer's update of the funding transaction: judged, and what is then in force.
+#![tactic(auto)]
+
 ghost use Rattle.std.specs.Prelude.{◌≡◌};
 ghost use Rattle.rules.specs.Outcome.{check};
 ghost use Rattle.transaction.specs.Tx.{tx_at};

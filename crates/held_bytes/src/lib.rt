@@ -1,4 +1,6 @@
 // The table of holds as lent bytes.
+#![tactic(auto)]
+
 ghost use Rattle.std.specs.Prelude.{◌≡◌, ◌≤◌, length};
 ghost use Rattle.molecule.specs.Write.{put_at};
 ghost use Rattle.out_points.specs.Tables.{keep};

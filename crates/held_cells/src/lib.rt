@@ -1,5 +1,7 @@
 // The node's own cells that a transaction of its own spends before it is committed: the table goes in by value and comes back by value, and a
 // refused call hands back the very table that it got.
+#![tactic(auto)]
+
 ghost use Rattle.std.specs.Prelude.{◌≡◌, ◌++◌, map, ◌+◌, ◌-◌, ◌<◌, ◌≤◌};
 ghost use Rattle.error.specs.declared.{Answer.Answer};
 ghost use Rattle.error.specs.Refusal.{answered};

@@ -1,4 +1,6 @@
 // Records of holds on cells, and what works on them alone: the table goes in by value and comes back by value.
+#![tactic(auto)]
+
 ghost use Rattle.std.specs.Prelude.{◌≡◌, true, false, [], ◌+◌, ◌-◌, ◌*◌, ◌≤◌, min, length, drop};
 ghost use Rattle.error.specs.declared.{Answer.Answer};
 ghost use Rattle.molecule.specs.Partial.{All};
@@ -18,41 +20,41 @@ use units::Millis;
 pub const MOST_RECORDS: usize = 256;
 
 // Who holds a cell: an opening's funding, by its holder, or the watchtower, until an end.
-#[derive(Drop)]
+#[derive(Clone, Copy)]
 pub enum Owner {
     Funding(u64),
     Watchtower(Millis),
 }
 
-#[derive(Drop)]
+#[derive(Clone, Copy)]
 pub struct Hold {
     pub point: OutPoint,
     pub owner: Owner,
 }
 
 // Who takes cells: the chain actor that builds an opening's funding, by its holder, or the watchtower.
-#[derive(Drop)]
+#[derive(Clone, Copy)]
 pub enum Taker {
     Funding(u64),
     Watchtower,
 }
 
 // The first `count` records stand; where `count` is beyond the array, all of it.
-#[derive(Drop)]
+#[derive(Clone, Copy)]
 pub struct Held {
     pub records: [Hold; 256],
     pub count: usize,
 }
 
 // What a call answers, and the table after it.
-#[derive(Drop)]
+#[derive(Clone, Copy)]
 pub struct HeldAnswer {
     pub held: Held,
     pub answer: Answer,
 }
 
 // Which records a table is to keep.
-#[derive(Drop)]
+#[derive(Clone, Copy)]
 pub enum Rule {
     // All but the watchtower records that have ended.
     Live(Millis),

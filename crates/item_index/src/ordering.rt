@@ -7,7 +7,7 @@ ghost use Rattle.item_index.specs.Order.{horner, order_of};
 const WORD: usize = 8;
 
 // Which of two strings comes first.
-#[derive(Drop)]
+#[derive(Clone, Copy)]
 pub enum Order {
     Before,
     Same,

@@ -1,4 +1,6 @@
 // Where the items of a list of a transaction stand, all of them after one reading, so that a caller goes through the list in its own bytes.
+#![tactic(auto)]
+
 ghost use Rattle.std.specs.Prelude.{◌≡◌, ◌+◌, ◌*◌, ◌^◌, ◌≤◌, ◌<◌, min, length};
 ghost use mathlib.Core.List.{flatten};
 ghost use Rattle.molecule.specs.Write.{splice};
@@ -23,7 +25,7 @@ const OUTPUTS: u32 = 3;
 const OUTPUTS_DATA: u32 = 4;
 
 // Where an item starts, and how many bytes it has.
-#[derive(Drop)]
+#[derive(Clone, Copy)]
 struct Place {
     start: usize,
     len: usize,

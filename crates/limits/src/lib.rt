@@ -1,4 +1,6 @@
 // Complexity budgets for peer-supplied funding transactions: cheap checks that come before any record is looked at.
+#![tactic(auto)]
+
 ghost use Rattle.std.specs.Prelude.{◌≡◌, ◌+◌, ◌-◌, length};
 ghost use Rattle.transaction.specs.Tx.{tx_at};
 ghost use Rattle.rules.specs.Outcome.{check};

@@ -1,5 +1,7 @@
 // Writes a list of unsized items: one of its own, the later items of another list, and a last one. Sizes stop at 133,117, which is too long for a
 // transaction, so that no sum overflows and every offset that is written fits 32 bits.
+#![tactic(auto)]
+
 ghost use Rattle.std.specs.Prelude.{◌≡◌, ◌+◌, ◌*◌, ◌≤◌, ◌<◌, ◌^◌, min, length};
 ghost use mathlib.Core.List.{◌++◌, flatten};
 ghost use Rattle.arithmetic.specs.LittleEndian.{to_le};

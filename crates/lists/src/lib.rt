@@ -1,4 +1,6 @@
 // Lists compared item by item: the peer's list goes on from ours. (Whether it holds all of ours is for crate item_lookup to say.)
+#![tactic(auto)]
+
 ghost use Rattle.std.specs.Prelude.{◌≡◌, ◌+◌, ◌≤◌, length, take, drop};
 ghost use Rattle.molecule.specs.Layout.{fix_items, item_of, items_of, entry_of, entries_of};
 ghost use Rattle.lists.specs.Lists.{eq_bytes, extends};

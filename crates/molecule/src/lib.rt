@@ -1,5 +1,7 @@
 // Readers of Molecule (RFC 0008) over a lent slice of bytes. Each is total: past the end a number is 0 and a part is empty. A part that is handed
 // back is a stretch of the lent bytes: `ensures` says which bytes, and where in the lent slice they stand.
+#![tactic(auto)]
+
 pub mod write;
 
 ghost use Rattle.std.specs.Prelude.{◌≡◌, ◌+◌, min, length};

@@ -2,6 +2,8 @@
 // vectors and the right answers come on standard input, in the form that tools/molecule_vectors.py describes. A good vector is wrong if it is
 // refused or if it is not written again byte for byte; a damaged copy is wrong if it is read
 // or refused against the answer that comes with it, or, where it is readable, if it is not written again byte for byte.
+#![tactic(auto)]
+
 mod rewrite;
 mod types;
 
@@ -15,7 +17,7 @@ const ROOM: usize = 2048;
 
 const MARK: u8 = 0xa5;
 
-#[derive(Drop)]
+#[derive(Clone, Copy)]
 struct Count {
     good: u64,
     damaged: u64,

@@ -1,4 +1,6 @@
 // A negotiation: a lent list of updates, each judged against the transaction that the one before it left in force.
+#![tactic(auto)]
+
 ghost use Rattle.std.specs.Prelude.{◌≡◌, ◌+◌, ◌*◌, ◌≤◌, length};
 ghost use Rattle.molecule.specs.Molecule.{option, readable};
 ghost use Rattle.molecule.specs.Layout.{inside, item_count};
@@ -19,7 +21,7 @@ use rules::Update;
 
 // What a list of updates came to: how many they were, how many were accepted, and which transaction is then in force: 0 for the one at the start, k + 1 for
 // that of update k.
-#[derive(Drop)]
+#[derive(Clone, Copy)]
 pub enum Replayed {
     Done {
         updates: usize,

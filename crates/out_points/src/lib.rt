@@ -1,5 +1,7 @@
 // Out points: an output of a transaction, by the transaction's hash and the output's index. Lists of them are lent and written as Molecule
 // writes them: the count, then 36 bytes for each.
+#![tactic(auto)]
+
 ghost use Rattle.std.specs.Prelude.{◌≡◌, ◌+◌, ◌*◌, ◌<◌, ◌≤◌, min, ◌++◌, length, nat_le};
 ghost use Rattle.arithmetic.specs.LittleEndian.{to_le};
 ghost use Rattle.molecule.specs.Layout.{span, fix_count};
@@ -13,7 +15,7 @@ use molecule::write;
 const OUT_POINT_BYTES: u32 = 36;
 
 // A hash, in words of eight bytes, so that two are compared in four steps.
-#[derive(Drop)]
+#[derive(Clone, Copy)]
 pub struct Byte32 {
     pub a: u64,
     pub b: u64,
@@ -21,7 +23,7 @@ pub struct Byte32 {
     pub d: u64,
 }
 
-#[derive(Drop)]
+#[derive(Clone, Copy)]
 pub struct OutPoint {
     pub hash: Byte32,
     pub index: u32,

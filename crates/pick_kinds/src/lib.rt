@@ -1,5 +1,7 @@
 // What each pick is to the calls on holds: a repeat of an earlier pick, or the first on its cell, and then free or busy. The picks are indexed, and the cells that
 // are held and those that are spent go through the index once, so that the time goes by (picks + held + spent) log picks comparisons whatever the bytes.
+#![tactic(auto)]
+
 ghost use Rattle.std.specs.Prelude.{◌≡◌, true, ◌≤◌, ◌<◌, min, length, set};
 ghost use Rattle.arithmetic.specs.LittleEndian.{AllBytes};
 ghost use Rattle.molecule.specs.Layout.{fix_count};

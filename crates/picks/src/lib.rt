@@ -1,4 +1,6 @@
 // What `take` makes of picks: those that are free, each once, are recorded, and two lists are written.
+#![tactic(auto)]
+
 ghost use Rattle.std.specs.Prelude.{◌≡◌, ◌&&◌, ◌+◌, ◌*◌, ◌≤◌, ◌<◌, min, leb, length, drop};
 ghost use Rattle.error.specs.declared.{Answer.Answer};
 ghost use Rattle.molecule.specs.Layout.{fix_count};
@@ -24,7 +26,7 @@ fn is_free(kinds: &[u8], i: usize) -> bool
 }
 
 // How many picks are taken, and the table with a record for each, as far as there is room.
-#[derive(Drop)]
+#[derive(Clone, Copy)]
 struct Taken {
     held: Held,
     count: u32,

@@ -1,4 +1,6 @@
 // A reader holds a transaction's bytes and a field's start. It is moved from a table to one of its fields, and what it hands back is a stretch of the bytes lent.
+#![tactic(auto)]
+
 pub mod lists;
 pub mod places;
 
@@ -9,7 +11,7 @@ ghost use Rattle.reader.specs.Places.{table_at, table_start, fixvec_at, fixvec_s
 ghost use Rattle.reader.specs.Readers.{start_of, at_field};
 
 // The lent bytes, all of them, and a place in them.
-#[derive(Drop)]
+#[derive(Clone, Copy)]
 pub struct Reader<'a> {
     src: &'a [u8],
     at: usize,

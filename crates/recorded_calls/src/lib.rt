@@ -1,5 +1,7 @@
 // What the programs share that replay recorded calls: of those on a table the calls' fields and the counts, and of all the parts of standard input, in the
 // form that tools/recorded_tables.py describes.
+#![tactic(auto)]
+
 use arithmetic::little_endian;
 use libc::{STDIN_FILENO, STDOUT_FILENO};
 

@@ -1,6 +1,8 @@
 // Runs recorded calls on the exclusion map through the library. They come on standard input, in the form that tools/recorded_tables.py describes, in
 // sequences that each start from the empty map. A call is wrong if the library answers it by another number than is recorded, writes another list, touches
 // a lent byte behind it, leaves other entries in the lent map, or refuses and leaves another byte there than before.
+#![tactic(auto)]
+
 use arithmetic::little_endian;
 use error::Answer;
 use exclusion_entries::MAP_BYTES;

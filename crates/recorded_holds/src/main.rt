@@ -1,6 +1,8 @@
 // Runs recorded calls on the table of holds through the library. They come on standard input, in the form that tools/recorded_tables.py
 // describes, in sequences that each start from the empty table. A call is wrong if the library answers it by another number than is recorded, writes other
 // lists, touches a lent byte behind them, or leaves another table.
+#![tactic(auto)]
+
 use arithmetic::little_endian;
 use error::Answer;
 use hold_records::{Held, HeldAnswer, Hold, Owner, Taker};

@@ -1,6 +1,8 @@
 // Runs recorded negotiations through the library, each update against the bytes that the one before handed back. They come on standard input, in
 // the form that tools/recorded_updates.py describes. An update is wrong if the library answers it otherwise than the Rust, in number, values or
 // surpluses; a negotiation is wrong if its surpluses do not sum to the recorded sums, or other bytes are in force at its end.
+#![tactic(auto)]
+
 use arithmetic::{Amount, CheckedAmount, little_endian};
 use error::Refusal;
 use libc::{STDIN_FILENO, STDOUT_FILENO};
@@ -11,7 +13,7 @@ const ROOM: usize = 140_000;
 
 // What a negotiation came to so far: how many updates, accepted ones, those at which the Rust panics, wrong ones, which bytes are in force (0
 // the start, k the kth update's), and the sums of the surpluses.
-#[derive(Drop)]
+#[derive(Clone, Copy)]
 struct Run {
     updates: u64,
     accepted: u64,
@@ -22,7 +24,7 @@ struct Run {
     token: Amount,
 }
 
-#[derive(Drop)]
+#[derive(Clone, Copy)]
 struct Totals {
     negotiations: u64,
     updates: u64,

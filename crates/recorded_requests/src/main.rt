@@ -1,6 +1,8 @@
 // Runs recorded requests of our own side through the library. They come on standard input, in the form that tools/recorded_requests.py describes. A
 // request is wrong if the library answers it by another number than is recorded, writes another transaction, or touches a lent byte behind it; and
 // so are a funding cell and a pick with another number, other figures or another change output.
+#![tactic(auto)]
+
 use arithmetic::{Amount, little_endian};
 use funding_cell::{FundingCell, FundingRequest};
 use libc::STDOUT_FILENO;

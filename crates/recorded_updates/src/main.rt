@@ -1,6 +1,8 @@
 // Runs recorded case files through the library and holds each line to the recorded one. They come on standard input, in the form
 // that tools/recorded_updates.py describes: in parts, each a case file with its line, and copies of it, damaged or changed, with theirs. It
 // prints of each number how many files have it recorded, and to how many of them the library answers another line.
+#![tactic(auto)]
+
 use arithmetic::little_endian;
 use libc::{STDIN_FILENO, STDOUT_FILENO};
 use molecule::write;

@@ -1,4 +1,6 @@
 // The records of the cells that the peer's added inputs spend, one for each, and what these bring in.
+#![tactic(auto)]
+
 ghost use Rattle.std.specs.Prelude.{◌≡◌, ◌+◌};
 ghost use Rattle.molecule.specs.Molecule.{readable};
 ghost use Rattle.transaction.specs.Ckb.{Record};
@@ -14,7 +16,7 @@ use transaction::fields;
 use units::{Shannons, Tokens};
 
 // What all records bring in, live cells that are not ours, or why not.
-#[derive(Drop)]
+#[derive(Clone, Copy)]
 pub enum Resolved {
     Live { capacity: Shannons, token: TokenSum },
     Refused(Refusal),

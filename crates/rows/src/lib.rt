@@ -1,5 +1,7 @@
 // A flat table of rows of k bytes in lent bytes: four bytes for the count, then the rows. Whoever keeps a table asks `is_table` first, and refuses what
 // is none; a call that has nothing to do (a row of another length, no room, no row at that place) leaves all bytes as they were.
+#![tactic(auto)]
+
 ghost use Rattle.std.specs.Prelude.{◌≡◌, ◌+◌, ◌≤◌, length, take, drop};
 ghost use Rattle.molecule.specs.Layout.{inside};
 ghost use Rattle.molecule.specs.Write.{splice};
@@ -9,7 +11,7 @@ use arithmetic::sizes;
 use molecule::write;
 
 // Where a row that was looked for stands.
-#[derive(Drop)]
+#[derive(Clone, Copy)]
 pub enum Found {
     At(usize),
     Nothing,

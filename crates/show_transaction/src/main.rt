@@ -1,4 +1,6 @@
 // Reads a transaction from standard input, at most 65,536 bytes, and prints what stands in it, or why it is refused.
+#![tactic(auto)]
+
 use libc::{STDIN_FILENO, STDOUT_FILENO};
 use reader::lists;
 use transaction::fields;

@@ -1,5 +1,7 @@
 // Tables of cells as lent bytes: a count of four bytes, then places of 48: an out point (36), a kind (4), a number (8). This is the list of sized
 // items of RFC 0008, with bytes behind it that mean nothing.
+#![tactic(auto)]
+
 ghost use Rattle.std.specs.Prelude.{◌≡◌};
 ghost use Rattle.molecule.specs.Write.{put_at, put_end};
 ghost use Rattle.table_bytes.specs.Places.{place_of, place_bytes};
@@ -11,7 +13,7 @@ use out_points::OutPoint;
 // How many bytes a place has.
 const PLACE_BYTES: u32 = 48;
 
-#[derive(Drop)]
+#[derive(Clone, Copy)]
 pub struct Place {
     pub point: OutPoint,
     pub kind: u32,

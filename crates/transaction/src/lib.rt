@@ -1,4 +1,6 @@
 // CKB transactions (RFC 0019): which strings are transactions, scripts, outputs and lent lists, and what stands in them.
+#![tactic(auto)]
+
 pub mod fields;
 
 ghost use Rattle.std.specs.Prelude.{◌≡◌};

@@ -1,4 +1,6 @@
 // What stands in a transaction, with its lists by number, for a caller that has no part of the bytes in hand. Each call reads once whether the bytes are a transaction.
+#![tactic(auto)]
+
 ghost use Rattle.std.specs.Prelude.{◌≡◌, true, length};
 ghost use Rattle.molecule.specs.Layout.{inside};
 ghost use Rattle.molecule.specs.Molecule.{readable};
@@ -10,7 +12,7 @@ use error::Refusal;
 use reader::lists as reading;
 
 // A number that a transaction was asked for.
-#[derive(Drop)]
+#[derive(Clone, Copy)]
 pub enum Found {
     Number(u32),
     Refused(Refusal),

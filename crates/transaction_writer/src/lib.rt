@@ -1,4 +1,6 @@
 // Writes transactions into a buffer that the caller lends.
+#![tactic(auto)]
+
 ghost use Rattle.std.specs.Prelude.{◌≡◌, ◌+◌, ◌≤◌, min, length};
 ghost use mathlib.Core.List.{[], ◌∷◌, flatten};
 ghost use Rattle.arithmetic.specs.LittleEndian.{AllBytes};
@@ -14,7 +16,7 @@ use molecule::write;
 use transaction::fields;
 
 // The answer of a call that writes: how many bytes it wrote, or why it wrote none.
-#[derive(Drop)]
+#[derive(Clone, Copy)]
 pub enum Written {
     Wrote(usize),
     Refused(Refusal),

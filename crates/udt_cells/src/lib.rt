@@ -1,4 +1,6 @@
 // The token cells that our side pays with: the pick among those that are lent, and the change that is left of them.
+#![tactic(auto)]
+
 ghost use Rattle.std.specs.Prelude.{◌≡◌, true, ◌^◌, ◌<◌, min, length};
 ghost use Rattle.units.specs.Units.{token_count};
 ghost use Rattle.units.specs.Fee.{change_capacity};
@@ -17,21 +19,21 @@ use transaction::fields;
 use units::{CheckedShannons, CheckedTokens, Shannons, Tokens, TokensRead};
 
 // A total of tokens.
-#[derive(Drop)]
+#[derive(Clone, Copy)]
 enum Total {
     Is(Tokens),
     Refused(Refusal),
 }
 
 // How many of the first cells are taken, and what is left of them over the wanted amount.
-#[derive(Drop)]
+#[derive(Clone, Copy)]
 pub enum Picked {
     Cells { taken: usize, change: Tokens },
     Refused(Refusal),
 }
 
 // The same with the capacity of the change output; change and capacity are 0 where there is no such output.
-#[derive(Drop)]
+#[derive(Clone, Copy)]
 pub enum UdtInputsOutputs {
     Built {
         taken: usize,

@@ -1,4 +1,6 @@
 // Picks against a list of held cells and one of spent cells: what each pick is, and which are unavailable.
+#![tactic(auto)]
+
 ghost use Rattle.std.specs.Prelude.{◌≡◌, [], ◌+◌, ◌*◌, ◌≤◌, ◌<◌, min, length, set};
 ghost use Rattle.molecule.specs.Layout.{fix_count};
 ghost use Rattle.molecule.specs.Write.{Put};

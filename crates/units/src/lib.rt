@@ -1,4 +1,6 @@
 // Units as types of their own: a shannon figure meets no token figure in a sum, and milliseconds no block number.
+#![tactic(auto)]
+
 pub mod fee;
 
 ghost use Rattle.std.specs.Prelude.{◌≡◌};
@@ -8,40 +10,40 @@ ghost use Rattle.units.specs.Units.{in_shannons, in_tokens, checked_shannons, ch
 use arithmetic::{Amount, AmountRead, CheckedAmount};
 
 // CKB's unit of capacity: 100,000,000 are one CKByte.
-#[derive(Drop)]
+#[derive(Clone, Copy)]
 pub struct Shannons(pub Amount);
 
 // The answer of a sum or a difference of shannons, or of a figure that CKB holds in 64 bits.
-#[derive(Drop)]
+#[derive(Clone, Copy)]
 pub enum CheckedShannons {
     Fits(Shannons),
     Overflow,
 }
 
 // An amount of a token (RFC 0025).
-#[derive(Drop)]
+#[derive(Clone, Copy)]
 pub struct Tokens(pub Amount);
 
 // The answer of a sum or a difference of tokens.
-#[derive(Drop)]
+#[derive(Clone, Copy)]
 pub enum CheckedTokens {
     Fits(Tokens),
     Overflow,
 }
 
 // What reading a token amount finds: `Short` where fewer than 16 bytes stand there.
-#[derive(Drop)]
+#[derive(Clone, Copy)]
 pub enum TokensRead {
     Tokens(Tokens),
     Short,
 }
 
 // A time, or a span of time, in milliseconds.
-#[derive(Drop)]
+#[derive(Clone, Copy)]
 pub struct Millis(pub u64);
 
 // The number of a block.
-#[derive(Drop)]
+#[derive(Clone, Copy)]
 pub struct BlockNumber(pub u64);
 
 impl Shannons {

@@ -1,10 +1,12 @@
 // Reads the parts of the good vectors of tools/molecule_vectors.py through the library's accessors, and compares each with the value that comes
 // with it on standard input.
+#![tactic(auto)]
+
 mod parts;
 
 use libc::{STDIN_FILENO, STDOUT_FILENO};
 
-#[derive(Drop)]
+#[derive(Clone, Copy)]
 struct Count {
     parts: u64,
     wrong: u64,

@@ -1,4 +1,6 @@
 // Writes the line that the check program prints for an answer.
+#![tactic(auto)]
+
 ghost use Rattle.std.specs.Prelude.{◌≡◌, ◌+◌, ◌*◌, ◌^◌, ◌≤◌, [], ◌∷◌, length};
 ghost use Rattle.molecule.specs.Write.{splice, put_at, put_end, Put};
 ghost use Rattle.error.specs.Refusal.{number, values};

@@ -1,4 +1,6 @@
 // The watchtower's holds on cells: the table of holds goes in by value and comes back by value, and a refused call hands back the very table that it got.
+#![tactic(auto)]
+
 ghost use Rattle.std.specs.Prelude.{◌≡◌, true, false, [], ◌+◌, ◌-◌, ◌*◌, ◌<◌, ◌≤◌, min, eqb, length, get_or, set};
 ghost use Rattle.error.specs.declared.{Answer.Answer};
 ghost use Rattle.out_points.specs.OutPoints.{points, slot_of};

@@ -1,4 +1,6 @@
 // How an answer crosses to C: a number, and the words that it has to tell at the start of four that are lent. All other words keep their value.
+#![tactic(auto)]
+
 ghost use Rattle.std.specs.Prelude.{◌≡◌, [], ◌∷◌};
 ghost use Rattle.error.specs.Refusal.{number, values};
 ghost use Rattle.rules.specs.Told.{told};

@@ -1,0 +1,11 @@
+use Rattle.arithmetic.proofs.Ways.{ways}
+use Rattle.arithmetic.proofs.amount.Amount.checked_sub.Goals as goal
+
+pub returns-then-self-other : goal.returns-then-self-other
+returns-then-self-other c = search ways
+
+pub returns-then-self-other-2 : goal.returns-then-self-other-2
+returns-then-self-other-2 c = search ways
+
+pub returns : goal.returns
+returns c = search ways
