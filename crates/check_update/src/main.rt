@@ -3,8 +3,8 @@
 #![tactic(auto)]
 
 const STDIN_FILENO: i32 = 0;
-const STDOUT_FILENO: i32 = 1;
 
+const STDOUT_FILENO: i32 = 1;
 
 fn main() {
     // one byte more than the longest case file, so that a longer one is seen to be too long

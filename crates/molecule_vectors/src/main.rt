@@ -12,6 +12,7 @@ use molecule::write;
 use transaction_writer::Written;
 
 const STDIN_FILENO: i32 = 0;
+
 const STDOUT_FILENO: i32 = 1;
 
 // Room for the longest vector and more.

@@ -5,6 +5,7 @@
 use arithmetic::little_endian;
 
 const STDIN_FILENO: i32 = 0;
+
 const STDOUT_FILENO: i32 = 1;
 
 // What stands in a lent buffer before the call.

@@ -8,6 +8,7 @@ use error::Refusal;
 use rules::Update;
 
 const STDIN_FILENO: i32 = 0;
+
 const STDOUT_FILENO: i32 = 1;
 
 // Room for the longest part, in which one transaction is over the limit of size.

@@ -7,6 +7,7 @@ use arithmetic::little_endian;
 use molecule::write;
 
 const STDIN_FILENO: i32 = 0;
+
 const STDOUT_FILENO: i32 = 1;
 
 // Room for the longest part and for the longest file, which is longer than a case file may be.

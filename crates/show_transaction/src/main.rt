@@ -5,6 +5,7 @@ use reader::lists;
 use transaction::fields;
 
 const STDIN_FILENO: i32 = 0;
+
 const STDOUT_FILENO: i32 = 1;
 
 fn text(s: &[u8]) {

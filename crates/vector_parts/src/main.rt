@@ -5,8 +5,8 @@
 mod parts;
 
 const STDIN_FILENO: i32 = 0;
-const STDOUT_FILENO: i32 = 1;
 
+const STDOUT_FILENO: i32 = 1;
 
 #[derive(Clone, Copy)]
 struct Count {

@@ -1,0 +1,9 @@
+use Rattle.std.proofs.Common.{◌-◌}
+use Rattle.exclusions.proofs.MovesWays.{ways}
+use Rattle.exclusions.proofs.moves.move_down.Goals as goal
+
+pub loop-i-preserved : goal.loop-i-preserved
+loop-i-preserved c = search ways
+
+pub returns : goal.returns
+returns c = search ways
