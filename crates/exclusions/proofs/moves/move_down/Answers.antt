@@ -1,4 +1,5 @@
 use Rattle.std.proofs.Common.{◌-◌}
+use Rattle.exclusions.proofs.MoveLaws.{down_end}
 use Rattle.exclusions.proofs.MovesWays.{ways}
 use Rattle.exclusions.proofs.moves.move_down.Goals as goal
 
@@ -6,4 +7,4 @@ pub loop-i-preserved : goal.loop-i-preserved
 loop-i-preserved c = search ways
 
 pub returns : goal.returns
-returns c = search ways
+returns c = down_end _ _ _ _ c.requires.to_le_from c.requires.n_in_bounds c.loop-i.invariant c.loop-i-test.false
