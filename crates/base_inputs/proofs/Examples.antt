@@ -1,5 +1,5 @@
 -- Worked examples, computed by the definitions.
-use Rattle.std.proofs.Common.{◌≡◌, List, [], ◌∷◌, refl}
+use Rattle.std.proofs.Common.{◌≡◌, [], ◌∷◌, refl}
 use mathlib.Core.List.{flatten}
 use Rattle.arithmetic.specs.LittleEndian.{to_le, num_at}
 use Rattle.molecule.specs.Layout.{span, word, fix_count}

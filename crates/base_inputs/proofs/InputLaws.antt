@@ -1,5 +1,5 @@
 -- The inputs of a base transaction, sized and written.
-use Rattle.std.proofs.Common.{◌≡◌, ℕ, zero, suc, ◌+◌, ◌-◌, ◌*◌, ◌/◌, ◌%◌, ◌^◌, ◌<◌, ◌≤◌, min, Bool, true, false, cond, not, List, [], ◌++◌, length, take, drop, sym, refl, ap, ◌∙◌, ap₂, append_assoc, arith, length-append, drop-drop, take-add, w32, Fits, lt-ltb}
+use Rattle.std.proofs.Common.{◌≡◌, ℕ, zero, suc, ◌+◌, ◌-◌, ◌*◌, ◌/◌, ◌%◌, ◌^◌, ◌<◌, ◌≤◌, min, Bool, false, not, List, ◌++◌, length, take, drop, sym, refl, ap, ◌∙◌, ap₂, append_assoc, arith, length-append, drop-drop, take-add, w32, Fits, lt-ltb}
 use mathlib.Core.List.{flatten}
 use Rattle.arithmetic.specs.LittleEndian.{to_le}
 use Rattle.arithmetic.proofs.LittleEndianLaws.{length-to_le, wrapped}

@@ -1,8 +1,6 @@
 -- Worked examples, computed by the definitions.
 use mathlib.Core.Path.{◌≡◌, refl}
-use mathlib.Core.List.{List, [], ◌∷◌}
-use lib.ListN.{replicate}
-use Prim.Native.Nat.{ℕ}
+use mathlib.Core.List.{[], ◌∷◌}
 use Rattle.base_lists.specs.BaseLists.{placeholder, witness_list}
 use Rattle.list_writer.specs.ListWriter.{bytes_item}
 

@@ -23,7 +23,7 @@ use Rattle.molecule.proofs.Offsets.{span-length}
 use Rattle.molecule.proofs.ReadableLaws.{every}
 use Rattle.lists.proofs.SpanLaws.{span-drop}
 use Rattle.transaction.specs.Ckb.{Bytes, CellDep, CellDeps, Script, CellOutput, Transaction, TokenCells}
-use Rattle.transaction.specs.Tx.{Tx, tx_at, raw_field, capacity_of, lock_of, type_of}
+use Rattle.transaction.specs.Tx.{Tx, tx_at, raw_field}
 use Rattle.transaction_writer.specs.declared.Written.{Written}
 use Rattle.transaction_writer.specs.Written.{fits}
 use Rattle.transaction_writer.proofs.PutLaws.{tx_length}

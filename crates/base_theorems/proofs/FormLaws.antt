@@ -21,7 +21,7 @@ use Rattle.molecule.proofs.ChunksLaws.{Long}
 use Rattle.molecule.proofs.HeaderLaws.{count, dynvec-readable, table-readable}
 use Rattle.molecule.proofs.ReadableLaws.{every, all_readable, readable_fixed, by_length, of-option}
 use Rattle.lists.proofs.SpanLaws.{span-drop}
-use Rattle.transaction.specs.Ckb.{Byte32, Bytes, OutPoint, CellDep, CellInput, Script, CellOutput, Transaction, TokenCell, TokenCells}
+use Rattle.transaction.specs.Ckb.{Byte32, Bytes, OutPoint, CellDep, CellInput, CellOutput, Transaction, TokenCell, TokenCells}
 use Rattle.transaction.specs.Tx.{tx_at, raw_field, witnesses_of, first_of}
 use Rattle.transaction.proofs.FieldLaws.{bytes_raw, no_raw}
 use Rattle.transaction.proofs.ListLaws.{hash-size, input-size, point-size}

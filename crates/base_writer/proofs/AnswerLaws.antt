@@ -1,19 +1,19 @@
 -- The ways out of `write_base`: z is the sizes of the lists x.
-use mathlib.Core.Path.{◌≡◌, refl, sym, ap, ap₂, ◌∙◌}
+use mathlib.Core.Path.{◌≡◌, ap₂, ◌∙◌}
 use Prim.Native.Nat.{ℕ, ◌+◌, ◌-◌, ◌≤◌, ◌<◌, min}
-use mathlib.Core.Bool.{Bool, true, false, not, ◌&&◌, and-false}
+use mathlib.Core.Bool.{true, false, not, and-false}
 use mathlib.Core.List.{List, [], ◌∷◌, ◌++◌, flatten, append_assoc, append-nil}
 use native.Mathlib.Omega.{arith}
 use native.Mathlib.Nat.{zero-add}
 use borrow.Author.Tests.{le-leb, lt-leb}
-use lib.ListN.{length, drop, length-append}
+use lib.ListN.{length, length-append}
 use Rattle.molecule.specs.Write.{Put}
 use Rattle.molecule.proofs.WriteLaws.{then, as_bytes, splice_zero, length-kept}
-use Rattle.rules.specs.Outcome.{Outcome, fine, refused, check, check_with, ◌>>=◌, ◌>>◌}
+use Rattle.rules.specs.Outcome.{fine, check, check_with, ◌>>=◌, ◌>>◌}
 use Rattle.error.specs.declared.Refusal.{Refusal}
 use Rattle.error.specs.Refusal.{number, values}
 use Rattle.transaction_writer.specs.declared.Written.{Written}
-use Rattle.transaction_writer.specs.Written.{tx_bytes, tx_head, fits}
+use Rattle.transaction_writer.specs.Written.{tx_head, fits}
 use Rattle.transaction_writer.proofs.PutLaws.{tx_length, head_length, head_runs}
 use Rattle.units.specs.Units.{shannon_count, token_count}
 use Rattle.molecule.specs.Items.{join}
@@ -25,7 +25,7 @@ use Rattle.base_lists.specs.BaseLists.{output_list, data_list, witness_list}
 use Rattle.cell_deps.specs.CellDeps.{deps_at}
 use Rattle.base_writer.specs.declared.{Plan.Plan, Sizes.Sizes}
 use Rattle.base_writer.specs.Answer.{in_room, leaves, written, told}
-use Rattle.base_writer.specs.Lists.{or_empty, Present, present_of, Beside, beside_of, Lists, lists_of, bytes_of, Capped, total, Fitting, FrontFits, BackFits, front, back}
+use Rattle.base_writer.specs.Lists.{or_empty, present_of, beside_of, Lists, lists_of, bytes_of, Capped, total, Fitting, FrontFits, BackFits, front, back}
 
 -- ---- lengths capped one by one, or together
 

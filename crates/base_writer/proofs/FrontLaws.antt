@@ -1,8 +1,8 @@
 -- The lists put one after the other.
-use mathlib.Core.Path.{◌≡◌, refl, sym, ap, ap₂, ◌∙◌}
-use Prim.Native.Nat.{ℕ, ◌+◌, ◌-◌, ◌≤◌, ◌<◌, min}
-use mathlib.Core.Bool.{Bool, true, false, not}
-use mathlib.Core.List.{List, [], ◌∷◌, ◌++◌}
+use mathlib.Core.Path.{◌≡◌, ap, ◌∙◌}
+use Prim.Native.Nat.{ℕ, ◌-◌}
+use mathlib.Core.Bool.{not}
+use mathlib.Core.List.{List}
 use native.Mathlib.Omega.{arith}
 use lib.Dec.{eqb}
 use lib.ListN.{length, length-append}
@@ -19,7 +19,7 @@ use Rattle.rules.specs.Surplus.{is_empty}
 use Rattle.rules.proofs.CellLaws.{empty-is}
 use Rattle.base_lists.specs.BaseLists.{output_list, data_list, witness_list}
 use Rattle.base_writer.specs.declared.{Plan.Plan, Sizes.Sizes}
-use Rattle.base_writer.specs.Lists.{total, FrontFits, BackFits, front, back}
+use Rattle.base_writer.specs.Lists.{FrontFits, BackFits, front, back}
 
 module _ (version : ℕ) (z : Sizes) (a b c out : List ℕ) (h : FrontFits z a b c out) where
   abbrev head : List ℕ

@@ -1,8 +1,8 @@
 -- The header deps, and the sizes of all lists.
-use mathlib.Core.Path.{◌≡◌, refl, sym, ap, ap₂, ◌∙◌}
-use Prim.Native.Nat.{ℕ, suc, ◌+◌, ◌-◌, ◌≤◌, ◌<◌, min}
-use mathlib.Core.Bool.{Bool, true, false, not}
-use mathlib.Core.List.{List, [], ◌∷◌, ◌++◌}
+use mathlib.Core.Path.{◌≡◌, refl, sym, ap, ◌∙◌}
+use Prim.Native.Nat.{ℕ, suc, ◌+◌, ◌-◌, min}
+use mathlib.Core.Bool.{not}
+use mathlib.Core.List.{List, [], ◌∷◌}
 use native.Mathlib.Omega.{arith}
 use lib.Dec.{eqb}
 use lib.ListN.{length}
@@ -18,7 +18,7 @@ use Rattle.base_inputs.specs.BaseInputs.{input_list}
 use Rattle.base_lists.specs.BaseLists.{output_list, data_list, witness_list}
 use Rattle.list_writer.specs.ListWriter.{fix_list}
 use Rattle.cell_deps.specs.CellDeps.{deps_at}
-use Rattle.base_writer.specs.declared.{Plan.Plan, Sizes.Sizes}
+use Rattle.base_writer.specs.declared.{Plan.Plan}
 use Rattle.base_writer.specs.Lists.{or_empty, Present, Beside, lists_of, Capped}
 
 -- ---- the header deps

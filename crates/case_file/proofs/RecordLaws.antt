@@ -1,7 +1,7 @@
 -- Records of a case file: what a step of the walk finds, and one law for each way out of the functions that find and measure them.
 use mathlib.Core.Path.{◌≡◌, refl, sym, ap, ◌∙◌}
 use Prim.Native.Nat.{ℕ, zero, suc, ◌+◌, ◌-◌, ◌*◌, ◌≤◌, ◌<◌}
-use mathlib.Core.Bool.{Bool, true, false, not}
+use mathlib.Core.Bool.{Bool, true, false}
 use mathlib.Core.List.{List, [], ◌∷◌, ◌++◌, map, flatten}
 use mathlib.Core.Option.{Option, none, some, none-ne-some, some-injective}
 use native.Mathlib.Nat.{add-zero, zero-add}

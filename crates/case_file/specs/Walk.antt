@@ -1,5 +1,5 @@
 -- How the code walks a case file: by places, with an answer at every place. Where no item stands the place after it is past the end of every file.
-use Rattle.std.specs.Prelude.{ℕ, zero, suc, ◌+◌, List, [], ◌∷◌, ◌++◌, length, eqb}
+use Rattle.std.specs.Prelude.{ℕ, zero, suc, List, [], ◌∷◌, ◌++◌, length, eqb}
 use Rattle.std.proofs.Math.Option.{Option, none, some}
 use Rattle.arithmetic.specs.LittleEndian.{to_le, u64_at}
 use Rattle.molecule.specs.Partial.{pick}

@@ -1,13 +1,11 @@
 -- A dep by its place in the four lists: one law for each way out of the functions that look, and the four lists as one.
 use mathlib.Core.Path.{◌≡◌, refl, sym, ap, ap₂, ◌∙◌}
 use Prim.Native.Nat.{ℕ, zero, suc, ◌+◌, ◌-◌, ◌≤◌, ◌<◌}
-use mathlib.Core.Bool.{Bool, true, false, cond}
 use mathlib.Core.List.{List, [], ◌∷◌, ◌++◌, map, append_assoc}
 use native.Mathlib.Nat.{le_of_suc-le-suc}
 use native.Mathlib.Omega.{arith}
 use borrow.Author.Tests.{lt-ltb, le-ltb}
 use lib.ListN.{length, get_or, take}
-use lib.Dec.{ltb}
 use Rattle.molecule.specs.Layout.{span, fix_count, fix_item, fix_items}
 use Rattle.list_writer.specs.ListWriter.{if_any}
 use Rattle.cell_deps.specs.CellDeps.{before, any_count, last_dep_at, own_dep_at, dep_at, dep_count, all_deps}

@@ -1,8 +1,8 @@
 -- The list of the chosen deps, sized and written.
-use mathlib.Core.Path.{◌≡◌, refl, sym, ap, ◌∙◌}
+use mathlib.Core.Path.{◌≡◌, sym, ap, ◌∙◌}
 use Prim.Native.Nat.{ℕ, ◌+◌, ◌%◌, ◌^◌, ◌≤◌, ◌<◌, min}
-use mathlib.Core.Bool.{Bool, true, false, not}
-use mathlib.Core.List.{List, [], ◌∷◌, ◌++◌, map, flatten}
+use mathlib.Core.Bool.{Bool, false, not}
+use mathlib.Core.List.{List, map, flatten}
 use native.Mathlib.Nat.{add-zero}
 use native.Mathlib.Omega.{arith}
 use lib.ListN.{length, get_or, length-append, length-map}
@@ -15,7 +15,7 @@ use Rattle.molecule.proofs.WriteLaws.{did, then, length-kept}
 use Rattle.list_writer.specs.ListWriter.{fix_list, put_list, put_list_end}
 use Rattle.list_writer.specs.Around.{fits_at}
 use Rattle.list_writer.proofs.AnswerLaws.{fit-room, list_in_lem, list_in_end}
-use Rattle.list_writer.proofs.LoopLaws.{Sizing, size_none, size-more, size-end, Writing, write-none, write-more, write-end}
+use Rattle.list_writer.proofs.LoopLaws.{Sizing, size-more, size-end, Writing, write-none, write-more, write-end}
 use Rattle.cell_deps.specs.CellDeps.{dep_at, deps_at, placed_at}
 use Rattle.cell_deps.proofs.DepLaws.{map-span}
 

@@ -1,5 +1,5 @@
 -- Laws of specs/CellOutput.antt: one for each way out of the functions that write an output.
-use Rattle.std.proofs.Common.{◌≡◌, ℕ, zero, suc, ◌+◌, ◌-◌, ◌/◌, ◌%◌, ◌^◌, ◌<◌, ◌≤◌, Bool, true, false, not, leb, List, [], ◌∷◌, ◌++◌, length, get_or, sym, refl, ap, ◌∙◌, ap₂, append_assoc, append-nil, arith, length-append, le-leb, leb-false, leb-true}
+use Rattle.std.proofs.Common.{◌≡◌, ℕ, ◌+◌, ◌-◌, ◌%◌, ◌^◌, ◌<◌, ◌≤◌, Bool, true, false, not, leb, List, [], ◌∷◌, ◌++◌, length, get_or, sym, refl, ap, ◌∙◌, ap₂, append_assoc, append-nil, arith, length-append, le-leb, leb-false, leb-true}
 use mathlib.Core.List.{flatten}
 use borrow.Author.Tests.{lt-leb, not-true, not-false}
 use Rattle.arithmetic.specs.LittleEndian.{to_le}

@@ -1,8 +1,8 @@
 -- Laws of the comparison, one for each way out of the functions.
 use mathlib.Core.Path.{◌≡◌, refl, sym, ap, ap₂, ◌∙◌}
 use Prim.Native.Nat.{ℕ, ◌≤◌, ◌<◌}
-use mathlib.Core.List.{List, [], ◌∷◌}
-use mathlib.Core.Bool.{Bool, true, false, not, ◌&&◌, ◌||◌, and-eq-true_iff}
+use mathlib.Core.List.{List, []}
+use mathlib.Core.Bool.{Bool, true, false, not, ◌&&◌, and-eq-true_iff}
 use native.Mathlib.Omega.{arith}
 use borrow.Author.Tests.{le-leb, lt-leb, eq-eqb, ne_eqb, not-true, not-false}
 use lib.ListN.{length, drop}
@@ -15,9 +15,9 @@ use Rattle.lists.specs.Lists.{eq_bytes, agree, contains_all, extends}
 use Rattle.lists.proofs.AgreeLaws.{extends-is, extends-rest}
 use Rattle.transaction.specs.Tx.{tx_at, raw_field, lock_of, type_of}
 use Rattle.molecule.specs.Layout.{item_of, entry_of}
-use Rattle.rules.specs.Outcome.{Outcome, check, ◌>>◌}
-use Rattle.rules.specs.Cells.{Cell, cells}
-use Rattle.rules.specs.Surplus.{is_empty, is_of}
+use Rattle.rules.specs.Outcome.{check}
+use Rattle.rules.specs.Cells.{cells}
+use Rattle.rules.specs.Surplus.{is_of}
 use Rattle.rules.specs.Judge.{at_first, has_lock, no_data_untyped, comparison}
 use Rattle.comparison.specs.Together.{none_missing, kept_after_first, funding_cell_first}
 use Rattle.rules.proofs.Checks.{skip, fail, pass, last_is, last_two, fail_two, fail_apart, pass_two}

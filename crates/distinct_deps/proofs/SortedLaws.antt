@@ -5,15 +5,13 @@ use mathlib.Core.Bool.{Bool, true, false, cond, false≢true}
 use mathlib.Core.List.{List, [], ◌∷◌, ◌++◌}
 use native.Mathlib.Nat.{add-zero, zero-add}
 use native.Mathlib.Omega.{arith}
-use borrow.Author.Tests.{ltb-true, ltb-false, lt-ltb, le-ltb}
-use lib.Dec.{ltb}
+use borrow.Author.Tests.{lt-ltb, le-ltb}
 use lib.ListN.{length, get_or, set, length-set}
 use lib.Seq.{get_or-set_same, get_or-set_other}
 use Rattle.molecule.specs.Layout.{span}
 use Rattle.lists.specs.Lists.{eq_bytes, contains}
 use Rattle.lists.proofs.LoopLaws.{at_place}
-use Rattle.lists.proofs.EqualLaws.{not_so, eq_refl, eq_true}
-use Rattle.distinct_deps.specs.declared.in_turn.Found.{Found}
+use Rattle.lists.proofs.EqualLaws.{not_so}
 use Rattle.cell_deps.specs.CellDeps.{dep_at, placed_at}
 use Rattle.distinct_deps.specs.Sorted.{Ordered, Lower, Sought, shifted, Inserted}
 use Rattle.item_index.specs.declared.ordering.Order.{Order}

@@ -1,5 +1,5 @@
 -- What the functions that look a dep up promise one another: the places of the deps chosen so far are kept in the order of their deps' bytes.
-use Rattle.std.specs.Prelude.{◌≡◌, ℕ, ◌+◌, ◌-◌, ◌≤◌, ◌<◌, Bool, true, false, cond, List, [], ◌∷◌, length, get_or, ltb}
+use Rattle.std.specs.Prelude.{◌≡◌, ℕ, ◌+◌, ◌-◌, ◌≤◌, ◌<◌, true, false, cond, List, length, get_or, ltb}
 use Rattle.molecule.specs.Layout.{span}
 use Rattle.lists.specs.Lists.{contains}
 use Rattle.item_index.specs.Order.{is_before}

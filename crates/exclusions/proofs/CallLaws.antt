@@ -1,34 +1,30 @@
 -- The calls on a lent map: one law for each way out.
 use mathlib.Core.Path.{◌≡◌, refl, sym, ap, ap₂, ◌∙◌}
-use Prim.Native.Nat.{ℕ, ◌+◌, ◌*◌, ◌^◌, ◌≤◌, ◌<◌}
+use Prim.Native.Nat.{ℕ, ◌+◌, ◌^◌, ◌≤◌, ◌<◌}
 use mathlib.Core.Bool.{Bool, true, false, not, cond}
-use mathlib.Core.List.{List, [], ◌∷◌, ◌++◌, map}
+use mathlib.Core.List.{List, [], ◌∷◌}
 use native.Mathlib.Omega.{arith}
-use borrow.Author.Tests.{le-leb, lt-leb, eq-eqb, ne_eqb, not-true, not-false}
+use borrow.Author.Tests.{eq-eqb, ne_eqb, not-true, not-false}
 use lib.ListN.{length}
-use Rattle.arithmetic.specs.LittleEndian.{to_le, AllBytes}
-use Rattle.arithmetic.proofs.LittleEndianLaws.{length-to_le}
+use Rattle.arithmetic.specs.LittleEndian.{AllBytes}
 use Rattle.error.specs.declared.{Refusal.Refusal, Answer.Answer}
-use Rattle.error.specs.Refusal.{number, answered}
+use Rattle.error.specs.Refusal.{number}
 use Rattle.units.specs.declared.{BlockNumber.BlockNumber}
 use Rattle.molecule.specs.Molecule.{readable, option}
-use Rattle.molecule.specs.Partial.{All}
-use Rattle.molecule.specs.Write.{splice, put_at}
-use Rattle.molecule.proofs.WriteLaws.{put_yes, splice_zero, splice-length}
+use Rattle.molecule.specs.Write.{splice}
+use Rattle.molecule.proofs.WriteLaws.{put_yes}
 use Rattle.transaction.specs.Ckb.{Transaction}
 use Rattle.out_points.specs.declared.{Byte32.Byte32}
-use Rattle.out_points.specs.OutPoints.{byte32_at, bytes_of, point_list}
-use Rattle.out_points.specs.Tables.{done, told, keep, renew, has_room, written}
-use Rattle.out_points.proofs.ListLaws.{length_list, length-bytes}
-use Rattle.exclusion_entries.specs.Exclusions.{Entry, Ruling, has_hash, committed_at, commit_on, without, remove_on, truncated, truncate_on, excluded, apply_on, pending, fitting, entering, add_on, entered, migrate_on}
+use Rattle.out_points.specs.OutPoints.{byte32_at}
+use Rattle.out_points.specs.Tables.{done, told, keep, renew}
+use Rattle.exclusion_entries.specs.Exclusions.{Entry, Ruling, has_hash, without, remove_on, truncated, truncate_on, pending, fitting, entering, add_on, entered, migrate_on}
 use Rattle.table_bytes.specs.Lent.{After, leaving, with_bytes}
 use Rattle.exclusion_entries.specs.declared.{Rule.Rule, Survey.Survey}
 use Rattle.exclusion_entries.specs.Entries.{map_bytes, FitEntry, excluded_at, is_map}
 use Rattle.exclusion_entries.specs.Survey.{keeps, takes, stay, loses, survey_of}
 use Rattle.exclusion_entries.proofs.EntryLaws.{entries-size}
 use Rattle.exclusion_entries.proofs.MapLaws.{map-long, map-few, map-count, map-points, map_same, map-fits, map-size, splice-back}
-use Rattle.exclusion_entries.proofs.SpliceLaws.{splice-under}
-use Rattle.exclusion_entries.proofs.StayLaws.{stay-size, stay_all, told_lost, told-points, told_bad, told_good}
+use Rattle.exclusion_entries.proofs.StayLaws.{stay-size, stay_all, told_lost, told_good}
 use Rattle.exclusion_entries.specs.LentMap.{lent_map, lent_tx}
 use Rattle.exclusion_entries.proofs.LentLaws.{lent-on, stay-keep, keep_all}
 

@@ -6,7 +6,7 @@ use mathlib.Core.List.{List, ◌∷◌, ◌++◌, append_assoc}
 use native.Mathlib.Omega.{arith}
 use borrow.Author.Tests.{not-true, not-false}
 use lib.ListN.{length, take, drop, length-append, length-drop, length-take, take-append-drop}
-use lib.Seq.{take_all, take_at, drop-drop, length-take-le}
+use lib.Seq.{take_at, drop-drop, length-take-le}
 use Rattle.arithmetic.specs.LittleEndian.{AllBytes, u32_at}
 use Rattle.molecule.specs.Layout.{part, word}
 use Rattle.molecule.specs.Write.{splice}

@@ -1,8 +1,7 @@
 -- What is written is the transaction of the definition.
-use mathlib.Core.Path.{◌≡◌, refl, sym, ap, ap₂, ◌∙◌}
-use Prim.Native.Nat.{ℕ, ◌+◌, ◌-◌, ◌≤◌, ◌<◌, ◌^◌, min}
-use mathlib.Core.Bool.{Bool, false}
-use mathlib.Core.List.{List, ◌∷◌, ◌++◌}
+use mathlib.Core.Path.{◌≡◌, refl, sym, ap, ◌∙◌}
+use Prim.Native.Nat.{ℕ, ◌-◌, ◌≤◌, ◌<◌, min}
+use mathlib.Core.List.{List}
 use native.Mathlib.Omega.{arith}
 use borrow.Author.Tests.{lt-leb}
 use lib.ListN.{length, take}
@@ -10,7 +9,6 @@ use Rattle.arithmetic.specs.LittleEndian.{AllBytes}
 use Rattle.error.specs.declared.Refusal.{Refusal}
 use Rattle.error.specs.Refusal.{number, values}
 use Rattle.units.specs.declared.{Shannons.Shannons, Tokens.Tokens}
-use Rattle.units.specs.Units.{shannon_count, token_count}
 use Rattle.molecule.specs.Items.{join}
 use Rattle.molecule.specs.Layout.{item_count, item_of, fix_count, fix_item}
 use Rattle.molecule.proofs.Offsets.{span-length}
@@ -18,7 +16,7 @@ use Rattle.transaction.specs.Ckb.{CellDep, CellDeps}
 use Rattle.transaction.specs.Tx.{tx_at, raw_field}
 use Rattle.rules.specs.Outcome.{Outcome, fine, check, check_with, ◌>>=◌, ◌>>◌}
 use Rattle.transaction_writer.specs.declared.Written.{Written}
-use Rattle.transaction_writer.specs.Written.{tx_bytes, fits}
+use Rattle.transaction_writer.specs.Written.{fits}
 use Rattle.transaction_writer.proofs.PutLaws.{tx_length}
 use Rattle.list_writer.specs.ListWriter.{fix_list, if_positive}
 use Rattle.list_writer.proofs.AgainLaws.{if_readable}

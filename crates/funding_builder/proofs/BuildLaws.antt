@@ -1,6 +1,6 @@
 -- The ways out of `with_pick`, `with_cell` and `build_base`.
 use mathlib.Core.Path.{◌≡◌, sym, ap, ap₂, ◌∙◌}
-use Prim.Native.Nat.{ℕ, ◌^◌, ◌<◌}
+use Prim.Native.Nat.{ℕ}
 use mathlib.Core.Bool.{Bool, true, false, not}
 use mathlib.Core.List.{List}
 use borrow.Author.Tests.{not-true, not-false}
@@ -8,17 +8,16 @@ use lib.Dec.{eqb}
 use lib.ListN.{length}
 use Rattle.error.specs.declared.Refusal.{Refusal}
 use Rattle.error.specs.Refusal.{number, values}
-use Rattle.arithmetic.specs.Amount.{value}
 use Rattle.units.specs.declared.{Shannons.Shannons, Tokens.Tokens}
-use Rattle.units.specs.Units.{shannon_count, token_count}
+use Rattle.units.specs.Units.{token_count}
 use Rattle.molecule.specs.Layout.{items_of, item_of, item_count}
 use Rattle.molecule.specs.Molecule.{readable, option}
 use Rattle.molecule.proofs.Offsets.{span-length}
 use Rattle.transaction.specs.Ckb.{Script, TokenCells, CellDep, CellDeps, Transaction}
 use Rattle.transaction.specs.Tx.{tx_at, raw_field}
-use Rattle.rules.specs.Outcome.{Outcome, fine, refused, check, check_with, ◌>>=◌, ◌>>◌}
+use Rattle.rules.specs.Outcome.{Outcome, fine, check, check_with, ◌>>=◌, ◌>>◌}
 use Rattle.rules.specs.Surplus.{is_empty}
-use Rattle.rules.specs.Judge.{Figures, scripts}
+use Rattle.rules.specs.Judge.{scripts}
 use Rattle.rules.specs.Told.{refusal}
 use Rattle.rules.proofs.CellLaws.{empty-is}
 use Rattle.rules.proofs.Tests.{is_true, check-fine, check_last}
@@ -26,7 +25,7 @@ use Rattle.transaction_writer.specs.declared.Written.{Written}
 use Rattle.funding_cell.specs.declared.{FundingRequest.FundingRequest, FundingCell.FundingCell}
 use Rattle.funding_cell.specs.FundingCell.{funding_cell, told as toldCell}
 use Rattle.udt_cells.specs.declared.Picked.{Picked}
-use Rattle.udt_cells.specs.Pick.{Pick, pick_typed, told as toldPick}
+use Rattle.udt_cells.specs.Pick.{pick_typed, told as toldPick}
 use Rattle.base_writer.specs.Answer.{in_room, leaves, written, told}
 use Rattle.funding_builder.specs.Base.{Lent, lent_of, lists, supplied, packed, base_tx, with_pick, with_cell, with_request, build_base}
 use Rattle.funding_builder.specs.Steps.{Readable, cell_of, pick_of}

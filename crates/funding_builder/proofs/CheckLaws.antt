@@ -1,16 +1,16 @@
 -- The tests before the transaction is made, and the figures: one law for each way out.
-use mathlib.Core.Path.{◌≡◌, refl, sym, ap, ◌∙◌}
-use Prim.Native.Nat.{ℕ, zero, suc, ◌+◌, ◌*◌, ◌^◌, ◌≤◌, ◌<◌}
-use mathlib.Core.Bool.{Bool, true, false, not, ◌||◌, cond}
-use mathlib.Core.List.{List, [], ◌∷◌}
+use mathlib.Core.Path.{◌≡◌, refl, sym, ◌∙◌}
+use Prim.Native.Nat.{ℕ, zero, suc, ◌^◌, ◌<◌}
+use mathlib.Core.Bool.{Bool, true, false, not}
+use mathlib.Core.List.{List}
 use native.Mathlib.Omega.{arith}
 use borrow.Author.Tests.{eq-eqb, ne_eqb, eqb-true, not-true, not-false}
-use lib.Dec.{T, eqb}
+use lib.Dec.{eqb}
 use lib.ListN.{length}
 use Rattle.arithmetic.specs.Amount.{value, halves, is_zero}
 use Rattle.units.specs.declared.{Shannons.Shannons, Tokens.Tokens, CheckedShannons.CheckedShannons}
 use Rattle.units.specs.Units.{in_shannons, shannon_count, token_count}
-use Rattle.units.specs.Fee.{change_shannons, change_capacity as checkedCapacity}
+use Rattle.units.specs.Fee.{change_capacity as checkedCapacity}
 use Rattle.molecule.specs.Molecule.{option, size, sizes, readable}
 use Rattle.molecule.specs.Layout.{part}
 use Rattle.molecule.proofs.Valid.{fixed, all_fixed}
@@ -19,8 +19,7 @@ use Rattle.molecule.proofs.ReadableLaws.{readable_fixed}
 use Rattle.transaction.specs.Ckb.{Script, TokenCells, CellDep, CellDeps}
 use Rattle.transaction.specs.Tx.{args_of}
 use Rattle.transaction.proofs.ListLaws.{option-some}
-use Rattle.rules.specs.Outcome.{Outcome, fine, check, ◌>>◌}
-use Rattle.rules.specs.Surplus.{is_empty}
+use Rattle.rules.specs.Outcome.{check}
 use Rattle.rules.proofs.CellLaws.{empty-is}
 use Rattle.rules.proofs.Checks.{skip, fail, pass, last_is}
 use Rattle.list_writer.specs.ListWriter.{if_positive}

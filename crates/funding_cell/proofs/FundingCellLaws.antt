@@ -11,7 +11,7 @@ use lib.Dec.{ltb, eqb, ltb→lt}
 use Rattle.error.specs.Refusal.{number, values}
 use Rattle.error.specs.declared.Refusal.{Refusal}
 use Rattle.arithmetic.specs.declared.amount.{Amount.Amount}
-use Rattle.arithmetic.specs.Amount.{value, halves, amount_of, sum}
+use Rattle.arithmetic.specs.Amount.{value, halves, sum}
 use Rattle.arithmetic.proofs.AmountLaws.{value-amount_of, value-below}
 use Rattle.arithmetic.proofs.Answers.{sum_is, sum_over}
 use Rattle.units.specs.declared.{Shannons.Shannons, CheckedShannons.CheckedShannons, Tokens.Tokens, CheckedTokens.CheckedTokens}
@@ -114,11 +114,11 @@ reserves_are r e = e
 abbrev amount_sum : FundingRequest → ℕ
 amount_sum r = value r.local_amount + value r.remote_amount
 
-abbrev reserve_sum_lem : FundingRequest → ℕ
-reserve_sum_lem r = shannon_count r.local_reserved_ckb_amount + shannon_count r.remote_reserved_ckb_amount
+abbrev reserve_sum : FundingRequest → ℕ
+reserve_sum r = shannon_count r.local_reserved_ckb_amount + shannon_count r.remote_reserved_ckb_amount
 
 module _ (r : FundingRequest) {p : CheckedShannons} (ep : p ≡ reserves r) where
-  reserves-over : p ≡ CheckedShannons.Overflow → 2 ^ 64 ≤ reserve_sum_lem r
+  reserves-over : p ≡ CheckedShannons.Overflow → 2 ^ 64 ≤ reserve_sum r
   unfolding reserves shannon_count
   reserves-over f = shannons-over _ _ ep f
 
@@ -128,15 +128,15 @@ module _ (r : FundingRequest) {p : CheckedShannons} (ep : p ≡ reserves r) wher
 
   pub untyped-reserves_wide : p ≡ CheckedShannons.Overflow → told (FundingCell.Refused Refusal.OverflowError) ≡ funding_cell true false r
   unfolding funding_cell cell_of_sums
-  untyped-reserves_wide f = wide_capacity _ _ (more (amount_sum r) (reserve_sum_lem r) (reserves-over f))
+  untyped-reserves_wide f = wide_capacity _ _ (more (amount_sum r) (reserve_sum r) (reserves-over f))
     where
       more : (a s : ℕ) → 2 ^ 64 ≤ s → 2 ^ 64 ≤ a + s
       more a s k = omega arith
 
   module _ {s : Shannons} (fp : p ≡ CheckedShannons.Fits s) where
-    reserve_sum : shannon_count s ≡ reserve_sum_lem r
+    reserve_sum_lem : shannon_count s ≡ reserve_sum r
     unfolding reserves shannon_count
-    reserve_sum = shannons-sum _ _ ep fp
+    reserve_sum_lem = shannons-sum _ _ ep fp
 
     module _ {q : CheckedTokens} (eq : q ≡ checked_tokens (sum r.local_amount r.remote_amount)) where
       pub typed-amounts_wide : q ≡ CheckedTokens.Overflow → told (FundingCell.Refused Refusal.OverflowError) ≡ funding_cell true true r
@@ -145,19 +145,19 @@ module _ (r : FundingRequest) {p : CheckedShannons} (ep : p ≡ reserves r) wher
 
       pub typed-is : {t : Tokens} (x : FundingCell) → q ≡ CheckedTokens.Fits t → told x ≡ cell_of (shannon_count s) (token_count t) → told x ≡ funding_cell true true r
       unfolding funding_cell cell_of_sums token_count
-      typed-is x f e = e ∙ ap₂ cell_of reserve_sum (ap value (sum_is _ _ refl (tokens-is _ eq f)) ∙ value-amount_of _)
+      typed-is x f e = e ∙ ap₂ cell_of reserve_sum_lem (ap value (sum_is _ _ refl (tokens-is _ eq f)) ∙ value-amount_of _)
 
     module _ {q : CheckedShannons} (eq : q ≡ checked_shannons (sum r.local_amount r.remote_amount)) where
       pub untyped-amounts_wide : q ≡ CheckedShannons.Overflow → told (FundingCell.Refused Refusal.OverflowError) ≡ funding_cell true false r
       unfolding funding_cell cell_of_sums
-      untyped-amounts_wide f = wide_capacity _ _ (more (amount_sum r) (reserve_sum_lem r) (shannons-over _ _ eq f))
+      untyped-amounts_wide f = wide_capacity _ _ (more (amount_sum r) (reserve_sum r) (shannons-over _ _ eq f))
         where
           more : (a s : ℕ) → 2 ^ 64 ≤ a → 2 ^ 64 ≤ a + s
           more a s k = omega arith
 
       module _ {a : Shannons} (fq : q ≡ CheckedShannons.Fits a) {z : CheckedShannons} (ez : z ≡ checked_shannons (sum a.0 s.0)) where
-        all_sum : shannon_count a + shannon_count s ≡ amount_sum r + reserve_sum_lem r
-        all_sum = ap₂ ◌+◌ (shannons-sum _ _ eq fq) reserve_sum
+        all_sum : shannon_count a + shannon_count s ≡ amount_sum r + reserve_sum r
+        all_sum = ap₂ ◌+◌ (shannons-sum _ _ eq fq) reserve_sum_lem
 
         pub untyped_wide : z ≡ CheckedShannons.Overflow → told (FundingCell.Refused Refusal.OverflowError) ≡ funding_cell true false r
         unfolding funding_cell cell_of_sums shannon_count

@@ -1,13 +1,13 @@
 -- The order of places by their items: it is strict and total. And one law for each way out of the function that compares two places.
 use mathlib.Core.Path.{◌≡◌, refl, sym, ap, ap₂, ◌∙◌}
-use Prim.Native.Nat.{ℕ, ◌≤◌, ◌<◌}
-use mathlib.Core.Bool.{Bool, true, false, cond, false≢true}
+use Prim.Native.Nat.{ℕ, ◌≤◌}
+use mathlib.Core.Bool.{Bool, true, false, false≢true}
 use mathlib.Core.List.{List}
 use native.Mathlib.Omega.{arith}
-use borrow.Author.Tests.{ltb-true, ltb-false, lt-ltb, le-ltb}
+use borrow.Author.Tests.{ltb-true, ltb-false, le-ltb}
 use lib.Dec.{ltb}
 use Rattle.lists.specs.Lists.{eq_bytes}
-use Rattle.lists.proofs.EqualLaws.{not_so, eq_true}
+use Rattle.lists.proofs.EqualLaws.{eq_true}
 use Rattle.item_index.specs.declared.ordering.Order.{Order}
 use Rattle.item_index.specs.Order.{is_before, order_of}
 use Rattle.item_index.specs.Index.{comes}

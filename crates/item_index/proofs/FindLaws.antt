@@ -2,7 +2,7 @@
 use mathlib.Core.Path.{◌≡◌, refl, sym, ap, ap₂, ◌∙◌}
 use Prim.Native.Nat.{ℕ, zero, suc, ◌+◌, ◌-◌, ◌/◌, ◌≤◌, ◌<◌}
 use mathlib.Core.Bool.{Bool, true, false, cond, false≢true}
-use mathlib.Core.List.{List, [], ◌∷◌}
+use mathlib.Core.List.{List}
 use native.Mathlib.Nat.{add-zero, zero-add}
 use native.Mathlib.Omega.{arith}
 use borrow.Author.Tests.{ltb-true, ltb-false, lt-ltb, le-ltb}
@@ -14,7 +14,7 @@ use Rattle.lists.proofs.LoopLaws.{at_place}
 use Rattle.lists.proofs.EqualLaws.{not_so, eq_refl, eq_true}
 use Rattle.item_index.specs.declared.ordering.Order.{Order}
 use Rattle.item_index.specs.Order.{is_before, order_of}
-use Rattle.item_index.specs.Index.{Stands, Rises, Index, Lower, place_in}
+use Rattle.item_index.specs.Index.{Stands, Index, Lower, place_in}
 use Rattle.item_index.proofs.OrderLaws.{three, before_not, after_less, after_trans, before-later, before_earlier, before_differs, before_other, order_less, order-more, order_same}
 use Rattle.item_index.proofs.ComesLaws.{item_late, not_first}
 use Rattle.item_index.proofs.MergeLaws.{rises_on}

@@ -1,11 +1,11 @@
 -- The sort: its parts, what the loops that copy and number know, and the index that comes of it.
 use mathlib.Core.Path.{◌≡◌, refl, sym, ap, ap₂, ◌∙◌}
-use Prim.Native.Nat.{ℕ, zero, suc, ◌+◌, ◌-◌, ◌/◌, ◌≤◌, ◌<◌}
+use Prim.Native.Nat.{ℕ, ◌+◌, ◌-◌, ◌≤◌, ◌<◌}
 use mathlib.Core.Bool.{Bool, true, false, not}
-use mathlib.Core.List.{List, [], ◌∷◌}
+use mathlib.Core.List.{List}
 use native.Mathlib.Omega.{arith}
 use borrow.Author.Tests.{not-true}
-use lib.ListN.{length, take, drop, get_or, set, length-set, length-drop}
+use lib.ListN.{length, drop, get_or, set, length-set, length-drop}
 use lib.Seq.{get_or-set_same, get_or-set_other, take_all}
 use Rattle.molecule.specs.Layout.{part, fix_item}
 use Rattle.item_index.specs.Index.{key_of, comes, Stands, Rises, Index, Sorts, Merged, Copied, Counts}

@@ -1,7 +1,7 @@
 -- Numbers of several bytes, the first byte highest, are in the order of their bytes.
 use mathlib.Core.Path.{◌≡◌, refl, sym, ap, ap₂, ◌∙◌}
 use Prim.Native.Nat.{ℕ, zero, suc, ◌+◌, ◌-◌, ◌*◌, ◌≤◌, ◌<◌}
-use mathlib.Core.Bool.{Bool, true, false}
+use mathlib.Core.Bool.{true}
 use mathlib.Core.List.{List}
 use native.Mathlib.Nat.{add-zero}
 use native.Mathlib.Omega.{arith}
@@ -10,7 +10,7 @@ use Rattle.arithmetic.specs.LittleEndian.{AllBytes}
 use Rattle.lists.proofs.EqualLaws.{whole}
 use Rattle.item_index.specs.declared.ordering.Order.{Order}
 use Rattle.item_index.specs.Order.{is_before, order_of, horner}
-use Rattle.item_index.proofs.OrderLaws.{three, Alike, alike_start, alike_back, alike_next, alike_less, all_alike, less, before-is, after_is, same-is}
+use Rattle.item_index.proofs.OrderLaws.{three, Alike, alike_back, alike_next, alike_less, all_alike, less, before-is, after_is, same-is}
 
 -- ---- the number
 

@@ -1,5 +1,5 @@
 -- All of one list's items in another: one law for each way out.
-use Rattle.std.proofs.Common.{◌≡◌, ℕ, ◌+◌, ◌-◌, ◌<◌, ◌≤◌, Bool, true, false, cond, not, ◌&&◌, ◌↔◌, List, [], ◌∷◌, sym, refl, ap, ◌∙◌, ap₂, zero-add, arith}
+use Rattle.std.proofs.Common.{◌≡◌, ℕ, ◌+◌, ◌-◌, ◌<◌, ◌≤◌, Bool, true, false, cond, List, [], ◌∷◌, sym, refl, ap, ◌∙◌, ap₂, zero-add, arith}
 use mathlib.Core.Bool.{false≢true, and-eq-true_iff}
 use Rattle.molecule.specs.Layout.{span, fix_count, fix_item, fix_items}
 use Rattle.lists.specs.Lists.{eq_bytes, extends, contains, contains_all}

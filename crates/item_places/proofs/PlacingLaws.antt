@@ -13,7 +13,7 @@ use Rattle.molecule.specs.Write.{splice, Put}
 use Rattle.molecule.proofs.Offsets.{span-length}
 use Rattle.molecule.proofs.WriteLaws.{copy_none, copy_more, copy_end, none, then, splice_zero, splice-length}
 use Rattle.lists.proofs.SpanLaws.{span-on, span-end, span-whole}
-use Rattle.rules.specs.Outcome.{Outcome, fine, refused, check, check_with, ◌>>=◌, ◌>>◌}
+use Rattle.rules.specs.Outcome.{fine, check, check_with, ◌>>=◌, ◌>>◌}
 use Rattle.rules.proofs.Tests.{fine_inj, check-fine}
 use Rattle.transaction_lists.specs.declared.Found.{Found}
 use Rattle.transaction_lists.specs.Lists.{list_in, item_in, place_in}

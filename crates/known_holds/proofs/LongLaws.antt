@@ -5,7 +5,7 @@ use mathlib.Core.Bool.{Bool, true, false, not, cond}
 use mathlib.Core.List.{List, [], ◌∷◌, ◌++◌, append-nil}
 use native.Mathlib.Omega.{arith}
 use borrow.Author.Tests.{le-leb, lt-leb, lt-ltb, eq-eqb}
-use lib.ListN.{length, drop, replicate, length-replicate, drop_of_length-le}
+use lib.ListN.{length, replicate, length-replicate, drop_of_length-le}
 use Rattle.molecule.specs.Partial.{All}
 use Rattle.molecule.specs.Layout.{fix_count}
 use Rattle.molecule.specs.Molecule.{size, readable}

@@ -1,7 +1,6 @@
 -- The worked list of updates through the definitions of `replay`, from lent bytes to words.
 use mathlib.Core.Path.{◌≡◌, refl}
-use Prim.Native.Nat.{ℕ}
-use mathlib.Core.List.{List, [], ◌∷◌, ◌++◌}
+use mathlib.Core.List.{[], ◌∷◌, ◌++◌}
 use lib.ListN.{replicate}
 use Rattle.rules.specs.Outcome.{fine, refused}
 use Rattle.rules.specs.Judge.{judge}

@@ -5,7 +5,7 @@ use Rattle.transaction.specs.Ckb.{CellInput, CellOutput}
 use Rattle.rules.specs.Cells.{read_records}
 use Rattle.rules.specs.Judge.{Call, Figures, judge}
 use Rattle.rules.specs.Run.{Entry, Spent, all_cells}
-use Rattle.known_cases.specs.Cases.{input, inputs, plain, token, amount, spending, cell, token_type, offer}
+use Rattle.known_cases.specs.Cases.{inputs, plain, token, amount, spending, cell, token_type, offer}
 
 -- ---- under one type: accepted, refused, accepted
 

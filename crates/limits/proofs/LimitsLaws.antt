@@ -1,15 +1,15 @@
 -- Laws of the limits, one for each way out of the functions.
-use mathlib.Core.Path.{◌≡◌, refl, sym, ap, ap₂, ◌∙◌}
+use mathlib.Core.Path.{◌≡◌, sym, ap, ap₂, ◌∙◌}
 use Prim.Native.Nat.{ℕ, ◌+◌, ◌-◌, ◌≤◌, ◌<◌}
 use mathlib.Core.List.{List}
-use mathlib.Core.Bool.{Bool, true, false}
+use mathlib.Core.Bool.{true, false}
 use native.Mathlib.Omega.{arith}
 use borrow.Author.Tests.{lt-leb, le-leb}
 use lib.ListN.{length}
 use lib.Dec.{leb}
-use Rattle.molecule.specs.Layout.{fix_count, fix_item, item_count, item_of}
+use Rattle.molecule.specs.Layout.{fix_count, item_count}
 use Rattle.molecule.proofs.Offsets.{span-length}
-use Rattle.transaction.specs.Tx.{Tx, tx_at, raw_field}
+use Rattle.transaction.specs.Tx.{tx_at, raw_field}
 use Rattle.rules.specs.Outcome.{check}
 use Rattle.rules.specs.Judge.{limits}
 use Rattle.rules.proofs.Checks.{skip, fail, pass, last_is}

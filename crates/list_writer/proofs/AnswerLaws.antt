@@ -1,5 +1,5 @@
 -- Whether bytes fit, and what a writer that found out answers.
-use mathlib.Core.Path.{◌≡◌, refl, sym, ap, ◌∙◌}
+use mathlib.Core.Path.{◌≡◌, refl, sym, ◌∙◌}
 use Prim.Native.Nat.{ℕ, ◌+◌, ◌-◌, ◌*◌, ◌≤◌, ◌<◌, min}
 use mathlib.Core.Bool.{Bool, true, false, not, ◌&&◌, cond, and-false, and-eq-true_iff}
 use mathlib.Core.List.{List, ◌++◌, flatten}
@@ -10,7 +10,7 @@ use lib.Dec.{leb}
 use Rattle.molecule.specs.Write.{put_at, put_end, Put}
 use Rattle.molecule.proofs.WriteLaws.{put_yes, end_yes, did, then, length-kept}
 use Rattle.list_writer.specs.ListWriter.{later, put_list, put_list_end}
-use Rattle.list_writer.specs.Around.{head_size, list_size, fits_at, Room}
+use Rattle.list_writer.specs.Around.{head_size, list_size, fits_at}
 
 module _ (n at len : ℕ) where
   pub fit-long : 133116 < n → false ≡ fits_at n at len

@@ -1,8 +1,7 @@
 -- The loops over the later items of a list, whose items start at 1: one law for each need that the general ones do not close as they are.
-use mathlib.Core.Path.{◌≡◌, refl, sym, ap, ◌∙◌}
+use mathlib.Core.Path.{◌≡◌, sym, ap, ◌∙◌}
 use Prim.Native.Nat.{ℕ, ◌+◌, ◌*◌, ◌^◌, ◌≤◌, ◌<◌, min}
-use mathlib.Core.Bool.{cond}
-use mathlib.Core.List.{List, [], flatten, append-nil}
+use mathlib.Core.List.{List, flatten, append-nil}
 use native.Mathlib.Omega.{arith}
 use borrow.Author.Tests.{lt-ltb, le-ltb}
 use lib.ListN.{length}

@@ -2,14 +2,13 @@
 use mathlib.Core.Path.{◌≡◌, refl, sym, ap, ap₂, ◌∙◌}
 use Prim.Native.Nat.{ℕ, zero, suc, ◌+◌, ◌-◌, ◌*◌, ◌≤◌, ◌<◌}
 use mathlib.Core.List.{List, [], ◌∷◌}
-use mathlib.Core.Bool.{Bool, true, false, ◌&&◌, cond, and-false, and_assoc}
+use mathlib.Core.Bool.{Bool, false, ◌&&◌, and-false, and_assoc}
 use native.Mathlib.Nat.{mul-suc, mul-zero, zero-add}
-use native.Mathlib.Numerals.{unary_clauses, add-one}
 use native.Mathlib.Omega.{arith}
 use borrow.Author.Tests.{lt-ltb}
 use lib.Dec.{eqb}
-use lib.ListN.{length, take, drop}
-use lib.Seq.{drop-drop, take-nil}
+use lib.ListN.{take, drop}
+use lib.Seq.{drop-drop}
 use Rattle.molecule.specs.Layout.{part, span, word, fix_count, fix_item, fix_items}
 use Rattle.molecule.proofs.LayoutLaws.{fix_count_said}
 use Rattle.lists.specs.Lists.{eq_bytes, extends}

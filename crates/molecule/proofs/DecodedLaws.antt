@@ -3,7 +3,7 @@ use mathlib.Core.Path.{◌≡◌, refl, sym, ap, ap₂, ◌∙◌}
 use Prim.Native.Nat.{ℕ, zero, suc, ◌+◌, ◌-◌, ◌*◌, ◌≤◌}
 use native.Mathlib.Nat.{mul-suc, mul-le-mul_left}
 use native.Mathlib.Omega.{arith}
-use mathlib.Core.List.{List, [], ◌∷◌, ◌++◌, map, flatten}
+use mathlib.Core.List.{List, [], ◌∷◌, map, flatten}
 use mathlib.Core.Bool.{Bool, true, false, cond, not}
 use mathlib.Core.Option.{Option, none, some, bind-eq-some_iff, none-ne-some, some-injective}
 use borrow.Author.Tests.{lt-ltb, eq-eqb}
@@ -11,16 +11,16 @@ use lib.ListN.{length, take, drop, length-drop}
 use lib.Seq.{drop-drop, take_all}
 use lib.Dec.{T, eqb→eq, ltb→lt}
 use mir.Facts.{and_yes}
-use Rattle.arithmetic.specs.LittleEndian.{le, to_le, AllBytes}
+use Rattle.arithmetic.specs.LittleEndian.{le, AllBytes}
 use Rattle.molecule.specs.Partial.{each, All}
 use Rattle.molecule.specs.Items.{split}
-use Rattle.molecule.specs.Molecule.{Ty, byte, array, struct, fixvec, dynvec, table, option, Fields, end, ◌&◌, Value, Values, size, encode, encodes, chunks, pieces, decode, decodes}
+use Rattle.molecule.specs.Molecule.{Ty, byte, array, struct, fixvec, dynvec, table, option, Fields, end, ◌&◌, Value, Values, size, encode, chunks, decode, decodes}
 use Rattle.molecule.proofs.Valid.{fixed, has_bytes, valid}
 use Rattle.molecule.specs.Layout.{part, word, span, splits_into, has_items, field_of, item_count, item_of, items_of, fix_count, fix_item, fix_items, content, entry_of, entries_of}
 use Rattle.molecule.proofs.PartialLaws.{only-some, both_some, map_each}
 use Rattle.molecule.proofs.ItemsLaws.{split-bytes, bytes_drop}
-use Rattle.molecule.proofs.ChunksLaws.{bytes-chunks, bytes-pieces, chunks_long, flatten_chunks}
-use Rattle.molecule.proofs.MoleculeLaws.{fixed_valid, all_fixed_valid, one_byte_lem, fixvec_read, encode-decode, encodes-decodes}
+use Rattle.molecule.proofs.ChunksLaws.{bytes-chunks, chunks_long, flatten_chunks}
+use Rattle.molecule.proofs.MoleculeLaws.{fixed_valid, one_byte_lem, fixvec_read, encode-decode}
 use Rattle.molecule.proofs.Offsets.{offsets_ok}
 use Rattle.molecule.proofs.LayoutLaws.{fix_count-word}
 use Rattle.molecule.proofs.HeaderLaws.{word-is, split-is, split_n, count}

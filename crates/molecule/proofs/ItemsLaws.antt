@@ -10,7 +10,7 @@ use lib.Seq.{take_at, drop_at, drop-drop, take-add, length-take-le, get_or-drop,
 use lib.Dec.{leb→le, eqb→eq}
 use mir.Facts.{yes_eqb, yes_leb, no_eqb}
 use Rattle.arithmetic.specs.LittleEndian.{le, to_le, AllBytes}
-use Rattle.arithmetic.proofs.LittleEndianLaws.{length-to_le, le-to_le, to_le-le, le_lt, bytes-to_le}
+use Rattle.arithmetic.proofs.LittleEndianLaws.{length-to_le, le-to_le, to_le-le, le_lt}
 use Rattle.molecule.specs.Partial.{only, pick, All}
 use Rattle.molecule.proofs.PartialLaws.{only_yes, only-some, pick_no, pick_is}
 use Rattle.molecule.specs.Items.{unwords, words, offsets, header, join, cuts, items, split}

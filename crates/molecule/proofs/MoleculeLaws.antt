@@ -1,6 +1,6 @@
 -- A string is read as a value exactly if it is that value, written: `encode-decode`, `decode-encode`, and both as `accepted`.
 use mathlib.Core.Path.{◌≡◌, refl, ap, ap₂, sym, ◌∙◌, subst}
-use Prim.Native.Nat.{ℕ, zero, suc, ◌+◌, ◌*◌, ◌^◌, ◌≤◌, ◌<◌}
+use Prim.Native.Nat.{ℕ, ◌+◌, ◌*◌, ◌^◌, ◌≤◌, ◌<◌}
 use native.Mathlib.Nat.{le-mul_of_pos_right}
 use native.Mathlib.Omega.{arith}
 use mathlib.Core.List.{List, [], ◌∷◌, ◌++◌, map, flatten}
@@ -10,10 +10,10 @@ use mathlib.Core.Bool.{not}
 use mathlib.Core.Logic.{◌↔◌}
 use lib.ListN.{length, take, drop, length-append, length-drop, length-map, take-append-drop}
 use lib.Seq.{take_at, drop_at}
-use lib.Dec.{T, leb→le, ltb→lt, eqb→eq, lit<}
+use lib.Dec.{T, leb→le, ltb→lt, eqb→eq}
 use mir.Facts.{and_yes, yes_and, yes_eqb, yes_leb, yes_ltb}
 use Rattle.arithmetic.specs.LittleEndian.{le, to_le, AllBytes}
-use Rattle.arithmetic.proofs.LittleEndianLaws.{length-to_le, le-to_le, bytes-to_le}
+use Rattle.arithmetic.proofs.LittleEndianLaws.{length-to_le, le-to_le}
 use Rattle.molecule.specs.Partial.{both, each, All}
 use Rattle.molecule.specs.Items.{join, split}
 use Rattle.molecule.specs.Molecule.{Ty, byte, array, struct, fixvec, dynvec, table, option, Fields, end, ◌&◌, Value, Values, size, sizes, encode, encodes, chunks, pieces, one_byte, decode, decodes, Good, Goods}

@@ -1,6 +1,6 @@
 -- The types that a schema of RFC 0008 may use: what the laws of reading and writing ask of a type. No contract cites this.
 use mathlib.Core.Bool.{Bool, true, false, not, ◌&&◌}
-use Prim.Native.Nat.{ℕ, ◌*◌}
+use Prim.Native.Nat.{◌*◌}
 use lib.Dec.{ltb}
 use Rattle.molecule.specs.Molecule.{Ty, byte, array, struct, fixvec, dynvec, table, option, Fields, end, ◌&◌, size, sizes}
 

@@ -2,7 +2,7 @@
 -- four bytes, the lowest first. `join xs` writes the items xs so, and `split s` are the items of s if s is so written.
 use Rattle.std.specs.Prelude.{ℕ, zero, suc, ◌+◌, ◌-◌, ◌*◌, ◌/◌, ◌%◌, length, take, drop, leb, eqb}
 use mathlib.Core.List.{List, [], ◌∷◌, ◌++◌, flatten}
-use Rattle.std.proofs.Math.Option.{Option, none, some, map}
+use Rattle.std.proofs.Math.Option.{Option, some, map}
 use Rattle.arithmetic.specs.LittleEndian.{le, to_le}
 use Rattle.molecule.specs.Partial.{only, pick}
 

@@ -3,10 +3,10 @@ use mathlib.Core.Path.{◌≡◌, refl, sym, ◌∙◌}
 use Prim.Native.Nat.{ℕ}
 use mathlib.Core.List.{List}
 use mathlib.Core.Bool.{Bool, true, false, not, ◌&&◌, and-true, and-false}
-use borrow.Author.Tests.{eq-eqb, ne_eqb, not-true, not-false}
+use borrow.Author.Tests.{not-true, not-false}
 use lib.Dec.{eqb}
 use lib.ListN.{length}
-use Rattle.molecule.specs.Molecule.{byte, fixvec, dynvec, table, option, end, ◌&◌, size, readable}
+use Rattle.molecule.specs.Molecule.{end, ◌&◌, size, readable}
 use Rattle.molecule.proofs.Valid.{fixed}
 use Rattle.molecule.specs.Layout.{span, has_items, field_of}
 use Rattle.molecule.proofs.ReadableLaws.{all_readable, sized}

@@ -1,5 +1,5 @@
 -- When two out points are the same: one law for each way out of the tests, and that the tests say equality.
-use Rattle.std.proofs.Common.{◌≡◌, ℕ, zero, suc, ◌+◌, ◌-◌, ◌*◌, ◌%◌, ◌^◌, ◌<◌, ◌≤◌, min, Bool, true, false, cond, not, ◌&&◌, eqb, leb, List, [], ◌∷◌, length, take, drop, sym, refl, ap, ◌∙◌, subst, arith, length-drop, length-take, take-take, le-ltb, eq-eqb, ne_eqb, eqb-true, leb-false, leb-true}
+use Rattle.std.proofs.Common.{◌≡◌, ℕ, zero, suc, ◌+◌, ◌-◌, ◌*◌, ◌%◌, ◌^◌, ◌<◌, ◌≤◌, min, Bool, true, false, cond, not, ◌&&◌, eqb, leb, List, [], length, take, drop, sym, refl, ap, ◌∙◌, arith, length-drop, length-take, take-take, le-ltb, eq-eqb, ne_eqb, eqb-true, leb-false, leb-true}
 use mathlib.Core.Bool.{and-true, and-false}
 use borrow.Author.Tests.{not-true, not-false}
 use Rattle.arithmetic.specs.LittleEndian.{le, num_at, u64_at}

@@ -1,15 +1,15 @@
 -- Lists of out points: how long they are, as lists and in bytes.
-use Rattle.std.proofs.Common.{◌≡◌, ℕ, ◌+◌, ◌*◌, ◌^◌, ◌<◌, ◌≤◌, min, Bool, true, false, not, ◌&&◌, eqb, ltb, leb, List, [], ◌∷◌, ◌++◌, length, sym, refl, ap, ◌∙◌, arith, length-append, ltb-true, eqb-true, le-leb, leb-false, leb-true}
+use Rattle.std.proofs.Common.{◌≡◌, ℕ, ◌+◌, ◌*◌, ◌^◌, ◌<◌, ◌≤◌, min, Bool, true, false, not, ◌&&◌, eqb, ltb, leb, List, [], ◌∷◌, length, sym, refl, ◌∙◌, arith, length-append, eqb-true, le-leb, leb-false, leb-true}
 use borrow.Author.Tests.{lt-leb, not-true, not-false}
 use Rattle.arithmetic.proofs.LittleEndianLaws.{length-to_le}
-use Rattle.molecule.specs.Layout.{span, fix_count}
+use Rattle.molecule.specs.Layout.{fix_count}
 use Rattle.molecule.specs.Molecule.{readable, size}
 use Rattle.molecule.proofs.Offsets.{span-length}
 use Rattle.molecule.proofs.Valid.{fixed}
 use Rattle.molecule.proofs.HeaderLaws.{fixvec-readable}
 use Rattle.transaction.specs.Ckb.{OutPoints as OutPointsForm, OutPoint as OutPointForm}
 use Rattle.out_points.specs.declared.{OutPoint.OutPoint}
-use Rattle.out_points.specs.OutPoints.{point_of, points, point_bytes, bytes_of, point_list}
+use Rattle.out_points.specs.OutPoints.{point_of, points, bytes_of, point_list}
 use Rattle.out_points.proofs.PointLaws.{length-point}
 use Rattle.out_points.proofs.EqualLaws.{and_both}
 

@@ -1,9 +1,9 @@
 -- Out points read and written: one law for each way out of the functions.
-use Rattle.std.proofs.Common.{◌≡◌, ℕ, ◌+◌, ◌-◌, ◌<◌, ◌≤◌, List, [], ◌∷◌, ◌++◌, length, sym, refl, ap, ◌∙◌, ap₂, append_assoc, arith, length-append}
+use Rattle.std.proofs.Common.{◌≡◌, ℕ, ◌+◌, ◌-◌, ◌<◌, ◌≤◌, List, ◌++◌, length, sym, refl, ap, ◌∙◌, append_assoc, arith, length-append}
 use Rattle.arithmetic.specs.LittleEndian.{to_le, u32_at, u64_at}
 use Rattle.arithmetic.proofs.LittleEndianLaws.{num_none, length-to_le}
 use Rattle.molecule.specs.Layout.{fix_item}
-use Rattle.molecule.specs.Write.{put_at, put_end, Put, splice}
+use Rattle.molecule.specs.Write.{put_at, put_end, Put}
 use Rattle.molecule.proofs.WriteLaws.{put_short, end_short, put_is, end_is, did, then, and_put, as_bytes}
 use Rattle.out_points.specs.declared.{Byte32.Byte32, OutPoint.OutPoint}
 use Rattle.out_points.specs.OutPoints.{byte32_at, out_point_at, point_of, hash_bytes, point_bytes}

@@ -1,5 +1,5 @@
 -- Laws of specs/Places.antt, one for each way out of the function that computes it.
-use mathlib.Core.Path.{◌≡◌, refl, sym, ap, ◌∙◌}
+use mathlib.Core.Path.{◌≡◌, refl, sym, ◌∙◌}
 use Prim.Native.Nat.{ℕ, ◌+◌, ◌*◌, min}
 use mathlib.Core.List.{List}
 use native.Mathlib.Omega.{arith}

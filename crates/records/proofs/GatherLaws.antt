@@ -36,7 +36,7 @@ use Rattle.accounts.specs.Answers.{in_tokens}
 use Rattle.accounts.specs.Paid.{and_cell}
 use Rattle.accounts.proofs.CapacityLaws.{Sums, sums-more, sums-end}
 use Rattle.records.specs.declared.Resolved.{Resolved}
-use Rattle.records.specs.Resolved.{brought, resolved, gathered, or_unreadable}
+use Rattle.records.specs.Resolved.{resolved, gathered, or_unreadable}
 
 -- ---- the cells of records that are all live
 

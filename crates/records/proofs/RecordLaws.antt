@@ -21,7 +21,6 @@ use Rattle.rules.specs.Judge.{has_lock, live, live_cells, spent}
 use Rattle.rules.proofs.CellLaws.{records_yes, records_no}
 use Rattle.error.specs.declared.Refusal.{Refusal}
 use Rattle.error.specs.Refusal.{number, values}
-use Rattle.rules.specs.Told.{refusal}
 use Rattle.records.specs.declared.Resolved.{Resolved}
 use Rattle.records.specs.Resolved.{brought, resolved, brings, gathered, or_unreadable}
 

@@ -1,5 +1,5 @@
 -- What a table means after bytes were put into it: the bytes that a write leaves, then the rows.
-use Rattle.std.proofs.Common.{◌≡◌, ℕ, zero, suc, ◌+◌, ◌-◌, ◌*◌, ◌^◌, ◌<◌, ◌≤◌, true, eqb, leb, List, [], ◌∷◌, ◌++◌, length, take, drop, sym, refl, ap, ◌∙◌, ap₂, append_assoc, le_refl, add-zero, mul-le-mul, one-mul, arith, length-drop, take-append-drop, length-take-le, drop-drop, take_at, eqb-true, leb-true}
+use Rattle.std.proofs.Common.{◌≡◌, ℕ, zero, suc, ◌+◌, ◌-◌, ◌*◌, ◌^◌, ◌<◌, ◌≤◌, true, eqb, leb, List, ◌∷◌, ◌++◌, length, take, drop, sym, refl, ap, ◌∙◌, ap₂, append_assoc, le_refl, add-zero, mul-le-mul, one-mul, arith, length-drop, take-append-drop, length-take-le, drop-drop, take_at, eqb-true, leb-true}
 use mathlib.Core.Bool.{and-eq-true_iff}
 use lib.Seq.{take-append-le, drop-append-le, drop-append-add}
 use Rattle.arithmetic.specs.LittleEndian.{le, to_le}

@@ -1,5 +1,5 @@
 -- Bytes that move down within a slice, block by block: what has moved stands at its new place, and what has not is as it was.
-use Rattle.std.proofs.Common.{◌≡◌, ℕ, ◌+◌, ◌-◌, ◌<◌, ◌≤◌, min, List, ◌++◌, length, take, drop, sym, refl, ap, ◌∙◌, ap₂, arith, length-append, length-drop, length-take-le, drop-drop, take_at, take-add, drop_at}
+use Rattle.std.proofs.Common.{◌≡◌, ℕ, ◌+◌, ◌-◌, ◌<◌, ◌≤◌, min, List, ◌++◌, length, take, drop, sym, refl, ap, ◌∙◌, ap₂, arith, drop-drop, take_at, take-add}
 use Rattle.molecule.specs.Write.{splice, put_at, Put}
 use Rattle.molecule.proofs.WriteLaws.{put_yes, splice_zero, splice-length, then, none}
 use Rattle.rows.proofs.StretchLaws.{length_part, drop-splice}

@@ -5,7 +5,6 @@ use mathlib.Core.Bool.{false≢true}
 use Rattle.arithmetic.specs.LittleEndian.{AllBytes}
 use Rattle.lists.specs.Lists.{eq_bytes}
 use Rattle.lists.proofs.EqualLaws.{eq_true, eq_refl}
-use Rattle.molecule.specs.Partial.{All}
 use Rattle.rows.specs.declared.{Found.Found}
 use Rattle.rows.specs.Rows.{is_table, row_count, row_at, rows_of, rows_bytes, has_key, find, pushed, replaced, removed}
 use Rattle.rows.proofs.TableLaws as laws

@@ -1,6 +1,6 @@
 -- What a table means after push, replace and remove, what `find` answers, and rows as bytes: the proofs of what RowTheorems.antt states.
 use Rattle.std.proofs.Common.{◌≡◌, ℕ, zero, suc, ◌+◌, ◌-◌, ◌*◌, ◌^◌, ◌<◌, ◌≤◌, Bool, true, false, cond, ◌&&◌, eqb, ltb, leb, List, [], ◌∷◌, ◌++◌, length, take, drop, set, replicate, sym, refl, ap, ◌∙◌, ap₂, append_assoc, append-nil, mul-zero, mul-suc, mul-add, add-one, arith, length-append, take-append-drop, drop_of_length-le, length-take-le, take_all, take_at, take-add, drop_at, ltb-false, ltb-true, eqb-true, leb-true}
-use mathlib.Core.Bool.{and-eq-true_iff, false≢true}
+use mathlib.Core.Bool.{and-eq-true_iff}
 use mathlib.Core.List.{flatten}
 use native.Mathlib.Nat.{le_of_mul-le-mul_left}
 use lib.ListN.{length-replicate, replicate-append-replicate}
@@ -14,8 +14,6 @@ use Rattle.molecule.proofs.Offsets.{span-length}
 use Rattle.molecule.proofs.ItemsLaws.{bytes_take}
 use Rattle.molecule.proofs.LayoutLaws.{fix_count-word, fix_count_said}
 use Rattle.molecule.proofs.WriteLaws.{put_yes}
-use Rattle.lists.specs.Lists.{eq_bytes}
-use Rattle.lists.proofs.EqualLaws.{eq_true, eq_refl}
 use Rattle.lists.proofs.RunLaws.{item_run, next_run}
 use Rattle.rows.proofs.StretchLaws.{drop-splice, length_part, span-split}
 use Rattle.rows.specs.declared.{Found.Found}

@@ -1,26 +1,25 @@
 -- An accepted update is a step, in capacity and in the expected token.
 use mathlib.Core.Path.{◌≡◌, refl, sym, ap, ◌∙◌, subst}
-use Prim.Native.Nat.{ℕ, zero, suc, ◌+◌, ◌-◌, ◌^◌, ◌≤◌, ◌<◌, zero-le}
-use native.Mathlib.Nat.{le_of_suc-le-suc, not-suc-le-zero}
+use Prim.Native.Nat.{ℕ, suc, ◌+◌, ◌-◌, ◌^◌, ◌≤◌}
 use native.Mathlib.Omega.{arith}
-use mathlib.Core.Bool.{Bool, true, false, not, cond, ◌&&◌, ◌||◌}
+use mathlib.Core.Bool.{Bool, true, false, not, cond, ◌||◌}
 use mathlib.Core.List.{List, [], ◌∷◌}
 use mathlib.Core.Option.{Option, none, some, none-ne-some}
-use lib.ListN.{length, get_or, drop}
+use lib.ListN.{length, drop}
 use lib.Dec.{T, leb, ltb, eqb, eqb→eq, leb→le}
-use Rattle.rules.specs.Outcome.{Outcome, fine, refused, check, check_with, given, ◌>>=◌, ◌>>◌}
+use Rattle.rules.specs.Outcome.{Outcome, fine, refused, check, ◌>>◌}
 use Rattle.transaction.specs.Tx.{Tx, tx_at, read_tx}
 use Rattle.rules.specs.Cells.{Cell, read_ours, read_records, cells}
 use Rattle.molecule.specs.Partial.{only, All}
 use Rattle.molecule.specs.Molecule.{option, readable}
 use Rattle.molecule.proofs.ReadableLaws.{readable-option}
 use Rattle.transaction.specs.Ckb.{Transaction}
-use Rattle.rules.specs.Surplus.{total, first, added, Measure, capacities, capacity_of, amount_of, token_of, is_of, has_amount, tokens, nothing, expected, is_empty}
+use Rattle.rules.specs.Surplus.{total, first, added, Measure, capacities, capacity_of, amount_of, token_of, is_of, has_amount, expected, is_empty}
 use Rattle.rules.specs.Judge.{Call, Figures, tx_of, judge, judge_against, spent, comparison, live, live_cells, counted, tally, settled, account, growth, token_delta, funding_output_delta, covered, token_account, accounts, contribution}
 use Rattle.rules.specs.Run.{all_cells, handed_back, next, update_for_peer}
 use Rattle.rules.proofs.Telescope.{prefix_length}
 use Rattle.rules.specs.Step.{Settled, with_data, Extends, Step}
-use Rattle.rules.proofs.Tests.{both, agree_prefix, drop_more, fine_inj, bind_fine, check-fine, check_with-fine, check_last, then-fine, given-fine, never}
+use Rattle.rules.proofs.Tests.{agree_prefix, drop_more, fine_inj, bind_fine, check-fine, check_with-fine, check_last, then-fine, given-fine, never}
 
 -- ---- comparison
 

@@ -2,20 +2,19 @@
 use mathlib.Core.Path.{◌≡◌, refl, sym, ap, ap₂, ◌∙◌}
 use Prim.Native.Nat.{ℕ, zero, suc, ◌+◌, ◌-◌, ◌≤◌, ◌<◌, max}
 use mathlib.Core.List.{List, [], ◌∷◌}
-use mathlib.Core.Bool.{Bool, true, false}
-use mathlib.Core.Option.{Option, none, some}
+use mathlib.Core.Bool.{true, false}
+use mathlib.Core.Option.{none, some}
 use native.Mathlib.Omega.{arith}
-use borrow.Author.Tests.{eq-eqb, ne_eqb}
-use lib.ListN.{length, get_or, drop}
+use borrow.Author.Tests.{ne_eqb}
+use lib.ListN.{length, drop}
 use lib.Dec.{eqb}
-use Rattle.molecule.specs.Layout.{start, span, item_count, item_of, entry_of}
+use Rattle.molecule.specs.Layout.{span, item_count, item_of, entry_of}
 use Rattle.molecule.specs.Partial.{only}
 use Rattle.molecule.specs.Molecule.{option, readable}
 use Rattle.molecule.proofs.LayoutLaws.{entry_past}
-use Rattle.molecule.proofs.Offsets.{span-length}
 use Rattle.lists.proofs.SpanLaws.{span-on, span-whole, span-drop}
 use Rattle.transaction.specs.Ckb.{Transaction, Records}
-use Rattle.transaction.specs.Tx.{Tx, tx_at, raw_field, read_tx}
+use Rattle.transaction.specs.Tx.{tx_at, raw_field, read_tx}
 use Rattle.rules.specs.Cells.{Cell, pair, cells, read_ours, record_at, read_records}
 use Rattle.rules.specs.Surplus.{is_empty, added}
 

@@ -1,9 +1,8 @@
 -- A chain of checks with one number: a test that fails refuses it wherever it stands.
-use mathlib.Core.Path.{◌≡◌, refl, sym, ap, ◌∙◌}
+use mathlib.Core.Path.{◌≡◌, refl, ◌∙◌}
 use Prim.Native.Nat.{ℕ}
-use mathlib.Core.List.{List, []}
 use mathlib.Core.Bool.{Bool, true, false, ◌&&◌}
-use Rattle.rules.specs.Outcome.{Outcome, fine, refused, check, check_with, ◌>>◌}
+use Rattle.rules.specs.Outcome.{Outcome, check, check_with, ◌>>◌}
 
 module _ (n : ℕ) where
   pub skip : (a : Bool) {r : Outcome (Unit {0})} → check n false ≡ r → check n false ≡ (check n a >> r)

@@ -1,11 +1,10 @@
 -- The surplus law over a whole list of updates, for any entry that owes a step: several tokens, other limits or arrivals in another order need no new
 -- induction.
-use mathlib.Core.Path.{◌≡◌, refl, sym, ap, ap₂, ◌∙◌, subst}
-use Prim.Native.Nat.{ℕ, zero, suc, ◌+◌, ◌-◌, ◌≤◌, ◌<◌}
+use mathlib.Core.Path.{◌≡◌, refl, ap, ap₂, ◌∙◌, subst}
+use Prim.Native.Nat.{ℕ}
 use mathlib.Core.List.{List, [], ◌∷◌, ◌++◌, map}
-use mathlib.Core.Option.{Option, none, some}
-use lib.ListN.{length, get_or, drop}
-use lib.IntN.{ℤ, pos}
+use mathlib.Core.Option.{some}
+use lib.IntN.{pos}
 use Rattle.rules.specs.Outcome.{Outcome, fine, refused}
 use Rattle.transaction.specs.Tx.{Tx}
 use Rattle.rules.specs.Cells.{Cell, read_ours, cells}

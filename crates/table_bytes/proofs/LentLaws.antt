@@ -7,7 +7,7 @@ use lib.ListN.{length}
 use Rattle.error.specs.declared.{Refusal.Refusal, Answer.Answer}
 use Rattle.error.specs.Refusal.{number, answered}
 use Rattle.molecule.specs.Write.{put_at}
-use Rattle.out_points.specs.Tables.{Outcome, done, refused, told}
+use Rattle.out_points.specs.Tables.{Outcome, told}
 use Rattle.table_bytes.specs.Lent.{After, leaving, lent_table, lent_with, lent_with_two, lent_read, with_bytes, told_number}
 
 module _ {T M : Type 0} (bytes : M → List ℕ) (k : ℕ) (s : List ℕ) where

@@ -11,8 +11,8 @@ use Rattle.error.specs.declared.{Answer.Answer}
 use Rattle.molecule.specs.{Layout.word, Partial.All}
 use Rattle.molecule.proofs.Offsets.{span-length}
 use Rattle.out_points.specs.OutPoints.{Fit}
-use Rattle.out_points.specs.Tables.{Outcome, done, refused, told}
-use Rattle.hold_records.specs.declared.{Hold.Hold, Held.Held}
+use Rattle.out_points.specs.Tables.{done, refused, told}
+use Rattle.hold_records.specs.declared.{Hold.Hold}
 use Rattle.hold_records.specs.Holds.{records_of, cells_of}
 use Rattle.table_bytes.specs.Lent as bytes
 use Rattle.table_bytes.specs.Lent.{leaving, lent_table, lent_with, lent_with_two, with_bytes}

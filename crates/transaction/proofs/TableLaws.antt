@@ -6,7 +6,7 @@ use mathlib.Core.Bool.{Bool, true, false, not, ◌&&◌, and-true, and-false}
 use borrow.Author.Tests.{eq-eqb, ne_eqb, not-true, not-false}
 use lib.Dec.{eqb}
 use lib.ListN.{length}
-use Rattle.molecule.specs.Molecule.{byte, fixvec, dynvec, table, option, end, ◌&◌, size, readable}
+use Rattle.molecule.specs.Molecule.{byte, fixvec, dynvec, option, end, ◌&◌, size, readable}
 use Rattle.molecule.proofs.Valid.{fixed}
 use Rattle.molecule.specs.Layout.{span, has_items, field_of}
 use Rattle.molecule.proofs.ReadableLaws.{all_readable, sized}

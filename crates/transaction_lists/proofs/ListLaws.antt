@@ -1,15 +1,15 @@
 -- Laws of specs/Lists.antt: one for each way out of the functions.
-use mathlib.Core.Path.{◌≡◌, refl, sym, ap, ap₂, ◌∙◌}
+use mathlib.Core.Path.{◌≡◌, refl, sym, ap, ◌∙◌}
 use Prim.Native.Nat.{ℕ, zero, suc, ◌+◌, ◌≤◌, ◌<◌}
 use mathlib.Core.Bool.{Bool, true, false, not, cond}
-use mathlib.Core.List.{List, [], ◌∷◌, ◌++◌}
-use native.Mathlib.Nat.{add-zero, zero-add, add-suc}
+use mathlib.Core.List.{List, []}
+use native.Mathlib.Nat.{add-zero, zero-add}
 use native.Mathlib.Omega.{arith}
 use borrow.Author.Tests.{lt-ltb, le-ltb, not-true, not-false}
 use Rattle.arithmetic.specs.LittleEndian.{u32_at}
-use lib.ListN.{length, take, drop, get_or, get_or-eq_default}
+use lib.ListN.{length, get_or, get_or-eq_default}
 use Rattle.molecule.specs.Molecule.{readable}
-use Rattle.molecule.specs.Layout.{span, part, item_count, item_of, fix_count, fix_item, entry_of}
+use Rattle.molecule.specs.Layout.{span, part, item_count, item_of, fix_item, entry_of}
 use Rattle.molecule.proofs.Offsets.{span-length}
 use Rattle.transaction.specs.Ckb.{Transaction}
 use Rattle.transaction.specs.Tx.{Tx, tx_at, raw_field, witnesses_of}

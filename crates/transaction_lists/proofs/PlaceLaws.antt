@@ -6,10 +6,9 @@ use mathlib.Core.List.{List}
 use native.Mathlib.Omega.{arith}
 use borrow.Author.Tests.{lt-ltb, le-ltb, not-true}
 use lib.ListN.{length}
-use Rattle.molecule.specs.Layout.{inside, part_start, field_start, fix_start, item_start, entry_start}
+use Rattle.molecule.specs.Layout.{inside, part_start, fix_start, item_start, entry_start}
 use Rattle.molecule.specs.Molecule.{readable}
 use Rattle.transaction.specs.Ckb.{Transaction}
-use Rattle.transaction.specs.Tx.{raw_field, raw_start, witnesses_of}
 use Rattle.transaction_lists.specs.Lists.{list_in, start_of, place_in}
 use Rattle.reader.specs.Places.{table_at, table_start, fixvec_at, fixvec_start, raw_at, witnesses_at}
 use Rattle.reader.proofs.TransactionLaws.{reads_cell-deps, reads_header-deps, reads_inputs, reads_outputs, reads_outputs_data, reads_witnesses}

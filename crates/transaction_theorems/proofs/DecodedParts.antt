@@ -1,7 +1,7 @@
 -- The parts of a decoded table or struct, and the items of a decoded list, of any type: each is the encoding of its part of the value, and is
 -- read as that part.
 use mathlib.Core.Path.{◌≡◌, refl, sym, ap, ap₂, ◌∙◌}
-use Prim.Native.Nat.{ℕ, zero, suc, ◌+◌, ◌-◌, ◌*◌, ◌≤◌, ◌<◌}
+use Prim.Native.Nat.{ℕ, zero, suc, ◌+◌, ◌*◌, ◌≤◌, ◌<◌}
 use mathlib.Core.List.{List, [], ◌∷◌, map}
 use mathlib.Core.Option.{Option, none, some, bind-eq-some_iff, none-ne-some}
 use native.Mathlib.Decide.{dec_lt}
@@ -15,7 +15,7 @@ use Rattle.arithmetic.proofs.LittleEndianLaws.{num_some}
 use Rattle.molecule.specs.Partial.{each, All}
 use Rattle.molecule.specs.Molecule.{Ty, byte, array, struct, fixvec, dynvec, table, Fields, end, ◌&◌, Value, Values, size, sizes, encode, pieces, decode, decodes}
 use Rattle.molecule.proofs.Valid.{fixed, has_bytes, valid, all_valid}
-use Rattle.molecule.specs.Layout.{part, span, field_of, item_count, item_of, fix_count, fix_item, entry_of}
+use Rattle.molecule.specs.Layout.{span, field_of, item_count, item_of, fix_count, fix_item, entry_of}
 use Rattle.molecule.proofs.PartialLaws.{only-some, both_some}
 use Rattle.molecule.proofs.ChunksLaws.{bytes-pieces}
 use Rattle.molecule.proofs.MoleculeLaws.{all_fixed_valid, one_byte_lem, fixvec_read, encode-decode}

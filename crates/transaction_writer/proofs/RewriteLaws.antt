@@ -1,19 +1,18 @@
 -- Writing the fields of a readable transaction yields it again (docs/RULES.md, demand 2: "writing its fields, within the rules' limit, yields it again").
-use mathlib.Core.Path.{◌≡◌, refl, sym, ap, ap₂, ◌∙◌, subst}
-use Prim.Native.Nat.{ℕ, ◌+◌, ◌≤◌, ◌<◌}
+use mathlib.Core.Path.{◌≡◌, sym, ap, ◌∙◌, subst}
+use Prim.Native.Nat.{ℕ}
 use mathlib.Core.Bool.{Bool, true, false, not, ◌&&◌, and-eq-true_iff}
-use mathlib.Core.List.{List, [], ◌∷◌}
+use mathlib.Core.List.{List}
 use native.Mathlib.Omega.{arith}
 use borrow.Author.Tests.{eqb-true, not-false}
-use lib.Dec.{T, eqb}
-use lib.ListN.{length, take, drop, get_or, get_or-eq_default}
+use lib.ListN.{length, get_or, get_or-eq_default}
 use lib.Seq.{take_all}
 use Rattle.arithmetic.specs.LittleEndian.{le, to_le, AllBytes, u32_at}
 use Rattle.arithmetic.proofs.LittleEndianLaws.{to_le-le, num_some}
 use Rattle.error.specs.declared.Refusal.{Refusal}
 use Rattle.molecule.specs.Partial.{All, pick}
-use Rattle.molecule.specs.Items.{join, split}
-use Rattle.molecule.specs.Molecule.{Ty, byte, fixvec, dynvec, table, Fields, end, ◌&◌, size, readable}
+use Rattle.molecule.specs.Items.{join}
+use Rattle.molecule.specs.Molecule.{fixvec, dynvec, table, Fields, end, ◌&◌, size, readable}
 use Rattle.molecule.proofs.Valid.{fixed}
 use Rattle.molecule.specs.Layout.{span, has_items, field_of}
 use Rattle.molecule.proofs.ItemsLaws.{join-split, split-bytes}
@@ -48,8 +47,8 @@ word_back f h b =
 
 -- ---- the raw transaction
 
-abbrev raw_fields_lem : Fields
-raw_fields_lem = Uint32 & fixvec CellDep & fixvec Byte32 & fixvec CellInput & dynvec CellOutput & dynvec Bytes & end
+abbrev raw_fields : Fields
+raw_fields = Uint32 & fixvec CellDep & fixvec Byte32 & fixvec CellInput & dynvec CellOutput & dynvec Bytes & end
 
 module _ (r : List ℕ) (h : readable RawTransaction r ≡ true) where
   abbrev field : ℕ → List ℕ
@@ -58,24 +57,24 @@ module _ (r : List ℕ) (h : readable RawTransaction r ≡ true) where
   fields_readable : (readable Uint32 (field 0)) && (readable (fixvec CellDep) (field 1) && (readable (fixvec Byte32) (field 2) && (readable (fixvec CellInput) (field 3)
       && (readable (dynvec CellOutput) (field 4) && (readable (dynvec Bytes) (field 5) && true))))) ≡ true
   unfolding count all_readable span
-  fields_readable = (parts raw_fields_lem r h).1
+  fields_readable = (parts raw_fields r h).1
 
   pub raw_again : AllBytes r → raw_bytes (u32_at (field 0) 0) (field 1) (field 2) (field 3) (field 4) (field 5) ≡ r
   unfolding raw_bytes count span size fixed
   raw_again b =
       let first = ((and-eq-true_iff (readable Uint32 (field 0)) _).0 fields_readable).0 in
       let four : length (field 0) ≡ 4 = eqb-true _ _ (sym (readable_fixed Uint32 tt (field 0)) ∙ first) in
-      rw (word_back (field 0) four (table-bytes raw_fields_lem r h b).0) (table-join raw_fields_lem r h b)
+      rw (word_back (field 0) four (table-bytes raw_fields r h b).0) (table-join raw_fields r h b)
 
 -- ---- the transaction
 
-abbrev tx_fields_lem : Fields
-tx_fields_lem = RawTransaction & dynvec Bytes & end
+abbrev tx_fields : Fields
+tx_fields = RawTransaction & dynvec Bytes & end
 
 module _ (s : List ℕ) (h : readable Transaction s ≡ true) where
   both-readable : readable RawTransaction (field_of s 2 0) && (readable (dynvec Bytes) (field_of s 2 1) && true) ≡ true
   unfolding count all_readable span
-  both-readable = (parts tx_fields_lem s h).1
+  both-readable = (parts tx_fields s h).1
 
   raw_readable : readable RawTransaction (field_of s 2 0) ≡ true
   raw_readable = ((and-eq-true_iff (readable RawTransaction (field_of s 2 0)) _).0 both-readable).0
@@ -84,7 +83,7 @@ module _ (s : List ℕ) (h : readable Transaction s ≡ true) where
   pub written_again : AllBytes s
       → tx_bytes (tx_at s).version (raw_field s 1) (raw_field s 2) (raw_field s 3) (raw_field s 4) (raw_field s 5) (witnesses_of s) ≡ s
   unfolding tx_bytes raw_field witnesses_of count span
-  written_again b = rw (raw_again (field_of s 2 0) raw_readable (table-bytes tx_fields_lem s h b).0) (table-join tx_fields_lem s h b)
+  written_again b = rw (raw_again (field_of s 2 0) raw_readable (table-bytes tx_fields s h b).0) (table-join tx_fields s h b)
 
   -- the lists of a readable transaction are in their forms
   pub lists_in_form : in_form (raw_field s 1) (raw_field s 2) (raw_field s 3) (raw_field s 4) (raw_field s 5) (witnesses_of s) ≡ true

@@ -1,12 +1,12 @@
 -- Laws of specs/Change.antt: one for each way out of the functions.
 use mathlib.Core.Path.{◌≡◌, sym, ap, ap₂, ◌∙◌}
-use Prim.Native.Nat.{ℕ, ◌+◌, ◌-◌, ◌*◌, ◌^◌, ◌≤◌, ◌<◌, min}
-use mathlib.Core.Bool.{Bool, true, false, not, cond}
-use mathlib.Core.List.{List, [], ◌∷◌, ◌++◌}
+use Prim.Native.Nat.{ℕ, ◌+◌, ◌-◌, ◌^◌, ◌≤◌, ◌<◌, min}
+use mathlib.Core.Bool.{Bool, true, false, not}
+use mathlib.Core.List.{List, ◌++◌}
 use native.Mathlib.Nat.{le_trans}
 use native.Mathlib.Omega.{arith}
-use borrow.Author.Tests.{le-leb, lt-leb, leb-true, leb-false, lt-ltb, eq-eqb, ne_eqb, eqb-true, eqb-false, not-true, not-false}
-use lib.ListN.{length, take, drop, length-take, length-drop}
+use borrow.Author.Tests.{le-leb, lt-leb, leb-true, leb-false, lt-ltb, eq-eqb, eqb-true, not-true, not-false}
+use lib.ListN.{length, drop, length-take, length-drop}
 use lib.Dec.{leb, eqb}
 use Rattle.error.specs.Refusal.{number, values}
 use Rattle.error.specs.declared.Refusal.{Refusal}
@@ -23,13 +23,13 @@ use Rattle.molecule.proofs.ReadableLaws.{dynamic, below}
 use Rattle.molecule.proofs.WriteLaws.{put_yes, splice_zero}
 use Rattle.transaction.specs.Ckb.{Script, TokenCells}
 use Rattle.transaction.specs.Tx.{args_of}
-use Rattle.rules.specs.Outcome.{Outcome, fine, refused, check, check_with, ◌>>◌}
+use Rattle.rules.specs.Outcome.{Outcome, fine, check, check_with, ◌>>◌}
 use Rattle.rules.proofs.Checks.{skip, fail, pass, last_is}
 use Rattle.rules.proofs.Tests.{is_true, check-fine, check_last}
 use Rattle.udt_cells.specs.declared.{Picked.Picked, UdtInputsOutputs.UdtInputsOutputs}
 use Rattle.cell_output.specs.CellOutput.{cell_output}
-use Rattle.udt_cells.specs.Pick.{Pick, told, pick_typed}
-use Rattle.udt_cells.specs.Change.{Built, built, answered, capacity_for, put_first, with_change, lent, unless_refused, udt_inputs_outputs}
+use Rattle.udt_cells.specs.Pick.{told, pick_typed}
+use Rattle.udt_cells.specs.Change.{Built, answered, capacity_for, put_first, with_change, lent, unless_refused, udt_inputs_outputs}
 use Rattle.cell_output.proofs.CellOutputLaws.{output-length}
 
 -- ---- the capacity

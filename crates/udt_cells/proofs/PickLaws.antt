@@ -1,11 +1,11 @@
 -- Laws of specs/Pick.antt: one for each way out of the functions.
-use mathlib.Core.Path.{◌≡◌, refl, sym, ap, ◌∙◌}
+use mathlib.Core.Path.{◌≡◌, sym, ap, ◌∙◌}
 use Prim.Native.Nat.{ℕ, ◌+◌, ◌-◌, ◌^◌, ◌≤◌, ◌<◌}
-use mathlib.Core.Bool.{Bool, true, false, not, cond}
+use mathlib.Core.Bool.{false}
 use mathlib.Core.List.{List, [], ◌∷◌}
 use borrow.Author.Tests.{le-leb, lt-leb, lt-ltb, le-ltb, eq-eqb, ne_eqb}
-use lib.ListN.{length, take}
-use lib.Dec.{leb, ltb, eqb}
+use lib.ListN.{length}
+use lib.Dec.{leb}
 use Rattle.error.specs.Refusal.{number, values}
 use Rattle.error.specs.declared.Refusal.{Refusal}
 use Rattle.arithmetic.specs.Amount.{halves, sum, difference, amount_at}
@@ -15,8 +15,7 @@ use Rattle.units.proofs.CountLaws.{tokens-sum, tokens-below, tokens-over, tokens
 use Rattle.molecule.specs.Layout.{span, item_count, item_of, items_of}
 use Rattle.lists.proofs.SpanLaws.{span-on, span-end, span-whole}
 use Rattle.transaction.specs.Tx.{data_of}
-use Rattle.rules.specs.Outcome.{Outcome, fine, refused, check, check_with, ◌>>◌, ◌>>=◌}
-use Rattle.rules.specs.Surplus.{is_empty}
+use Rattle.rules.specs.Outcome.{Outcome, fine, check, check_with, ◌>>◌, ◌>>=◌}
 use Rattle.rules.proofs.CellLaws.{empty-is}
 use Rattle.udt_cells.specs.declared.{Total.Total, Picked.Picked}
 use Rattle.udt_cells.specs.Pick.{Pick, told, summed, plus_cell, enough_or, pick_from, pick_typed}

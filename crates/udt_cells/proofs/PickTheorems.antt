@@ -1,15 +1,15 @@
 -- What holds of every pick: the cells that it takes hold what is wanted and the change, and later cells are unread.
 use mathlib.Core.Path.{◌≡◌, refl, sym, ap, ◌∙◌, subst}
-use Prim.Native.Nat.{ℕ, zero, suc, ◌+◌, ◌-◌, ◌≤◌, ◌<◌}
-use mathlib.Core.Bool.{Bool, true, false, cond}
+use Prim.Native.Nat.{ℕ, suc, ◌+◌, ◌-◌, ◌≤◌}
+use mathlib.Core.Bool.{Bool, true, false}
 use mathlib.Core.List.{List, [], ◌∷◌, ◌++◌}
 use native.Mathlib.Omega.{arith}
 use borrow.Author.Tests.{leb-true}
-use lib.ListN.{length, take}
+use lib.ListN.{take}
 use lib.Dec.{leb}
 use Rattle.arithmetic.specs.LittleEndian.{le}
 use Rattle.transaction.specs.Tx.{data_of}
-use Rattle.rules.specs.Outcome.{Outcome, fine, refused, check, ◌>>=◌, ◌>>◌}
+use Rattle.rules.specs.Outcome.{Outcome, fine, ◌>>=◌}
 use Rattle.rules.proofs.Tests.{never, fine_inj, bind_fine, check-fine}
 use Rattle.udt_cells.specs.Pick.{Pick, plus_cell, enough_or, pick_from}
 use Rattle.udt_cells.proofs.PickLaws.{enough}

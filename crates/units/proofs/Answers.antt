@@ -1,6 +1,6 @@
 -- What the answers of this crate's functions tell a caller: an answer in a unit is the amount's answer.
 use mathlib.Core.Path.{◌≡◌, refl, ap}
-use Rattle.arithmetic.specs.declared.amount.{Amount.Amount, CheckedAmount.CheckedAmount, AmountRead.AmountRead}
+use Rattle.arithmetic.specs.declared.amount.{CheckedAmount.CheckedAmount, AmountRead.AmountRead}
 use Rattle.units.specs.declared.{Shannons.Shannons, CheckedShannons.CheckedShannons, Tokens.Tokens, CheckedTokens.CheckedTokens, TokensRead.TokensRead}
 use Rattle.units.specs.Units.{in_shannons, in_tokens, checked_shannons, checked_tokens, tokens_read}
 

@@ -1,5 +1,5 @@
 -- Answers in shannons and in tokens, told in numbers.
-use mathlib.Core.Path.{◌≡◌, refl, sym, ap, ap₂, ◌∙◌}
+use mathlib.Core.Path.{◌≡◌, refl, ap, ◌∙◌}
 use Prim.Native.Nat.{ℕ, ◌+◌, ◌-◌, ◌^◌, ◌≤◌, ◌<◌, min}
 use mathlib.Core.List.{List}
 use native.Mathlib.Omega.{arith}
@@ -9,7 +9,7 @@ use Rattle.arithmetic.specs.Amount.{value, amount_of, sum, difference, amount_at
 use Rattle.arithmetic.proofs.AmountLaws.{value-amount_of}
 use Rattle.arithmetic.proofs.Answers.{sum_is, sum_below, sum_over, difference-is, difference-within, difference-over, read_amount, read_long, read_under}
 use Rattle.units.specs.declared.{Shannons.Shannons, CheckedShannons.CheckedShannons, Tokens.Tokens, CheckedTokens.CheckedTokens, TokensRead.TokensRead}
-use Rattle.units.specs.Units.{in_shannons, in_tokens, shannon_count, token_count, checked_shannons, checked_tokens, tokens_read, capped_sum}
+use Rattle.units.specs.Units.{in_shannons, shannon_count, token_count, checked_shannons, checked_tokens, tokens_read, capped_sum}
 use Rattle.units.proofs.Answers.{shannons-is, shannons_isnt, tokens-is, tokens_isnt, tokens_read_is, tokens_read_isnt}
 
 pub shannons-of : (x : ℕ) → shannon_count (in_shannons (amount_of x)) ≡ x

@@ -9,8 +9,7 @@ use Rattle.error.specs.Refusal.{number, values}
 use Rattle.units.specs.declared.{Shannons.Shannons, Tokens.Tokens}
 use Rattle.units.specs.Units.{shannon_count, token_count}
 use Rattle.rules.specs.declared.Update.{Update}
-use Rattle.rules.specs.Outcome.{Outcome, fine, refused}
-use Rattle.rules.specs.Judge.{Figures}
+use Rattle.rules.specs.Outcome.{Outcome}
 use Rattle.rules.specs.Told.{refusal, told}
 use Rattle.words.specs.Words.{four_of, set_words, number_of, values_of, in_words, writing, surplus_words}
 

@@ -1,4 +1,3 @@
-use Rattle.std.proofs.Common.{◌-◌}
 use Rattle.base_inputs.proofs.Ways.{ways}
 use Rattle.base_inputs.proofs.picked_size.Goals as goal
 

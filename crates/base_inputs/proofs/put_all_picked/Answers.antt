@@ -1,4 +1,3 @@
-use Rattle.std.proofs.Common.{◌-◌}
 use Rattle.base_inputs.proofs.Ways.{ways}
 use Rattle.base_inputs.proofs.put_all_picked.Goals as goal
 

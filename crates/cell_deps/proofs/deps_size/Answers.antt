@@ -1,4 +1,3 @@
-use Rattle.std.proofs.Common.{◌-◌}
 use Rattle.cell_deps.proofs.Ways.{ways}
 use Rattle.cell_deps.proofs.deps_size.Goals as goal
 

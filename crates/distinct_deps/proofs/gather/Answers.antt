@@ -1,4 +1,3 @@
-use Rattle.std.proofs.Common.{◌-◌}
 use Rattle.distinct_deps.proofs.Ways.{ways}
 use Rattle.distinct_deps.proofs.gather.Goals as goal
 

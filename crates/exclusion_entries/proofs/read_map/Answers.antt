@@ -1,4 +1,3 @@
-use Rattle.std.proofs.Common.{◌-◌}
 use Rattle.exclusion_entries.proofs.Ways.{ways}
 use Rattle.exclusion_entries.proofs.read_map.Goals as goal
 

@@ -1,4 +1,3 @@
-use Rattle.std.proofs.Common.{◌-◌}
 use Rattle.exclusion_marks.proofs.Ways.{ways}
 use Rattle.exclusion_marks.proofs.put_excluded.Goals as goal
 

@@ -1,4 +1,3 @@
-use Rattle.std.proofs.Common.{◌-◌}
 use Rattle.held_bytes.proofs.Ways.{ways}
 use Rattle.held_bytes.proofs.read_held.Goals as goal
 

@@ -1,4 +1,3 @@
-use Rattle.std.proofs.Common.{◌-◌}
 use Rattle.held_cells.proofs.Ways.{ways}
 use Rattle.held_cells.proofs.append.Goals as goal
 

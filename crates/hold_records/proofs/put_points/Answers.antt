@@ -1,4 +1,3 @@
-use Rattle.std.proofs.Common.{◌-◌}
 use Rattle.hold_records.proofs.Ways.{ways}
 use Rattle.hold_records.proofs.put_points.Goals as goal
 

@@ -1,4 +1,3 @@
-use Rattle.std.proofs.Common.{◌-◌}
 use Rattle.std.proofs.Common.{rules}
 use Rattle.item_index.proofs.FindLaws.{search_up, search_down}
 use Rattle.item_index.proofs.Ways.{ways}

@@ -1,4 +1,3 @@
-use Rattle.std.proofs.Common.{◌-◌}
 use Rattle.std.proofs.Common.{rules}
 use Rattle.item_index.proofs.FindLaws.{halve_same, halve_down}
 use Rattle.item_index.proofs.Ways.{ways}

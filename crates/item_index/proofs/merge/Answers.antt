@@ -1,4 +1,3 @@
-use Rattle.std.proofs.Common.{◌-◌}
 use Rattle.item_index.proofs.MergeLaws.{merge_right, merge_left}
 use Rattle.item_index.proofs.Ways.{ways}
 use Rattle.item_index.proofs.merge.Goals as goal

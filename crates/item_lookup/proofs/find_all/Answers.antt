@@ -1,4 +1,3 @@
-use Rattle.std.proofs.Common.{◌-◌}
 use Rattle.item_lookup.proofs.Ways.{ways}
 use Rattle.item_lookup.proofs.find_all.Goals as goal
 

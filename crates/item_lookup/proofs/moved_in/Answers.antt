@@ -1,4 +1,4 @@
-use Rattle.std.proofs.Common.{◌-◌, arith}
+use Rattle.std.proofs.Common.{arith}
 use Rattle.std.proofs.lemmas.Bool.{not_from_true}
 use Rattle.lists.proofs.LoopLaws.{among_more}
 use Rattle.item_lookup.proofs.Ways.{ways}

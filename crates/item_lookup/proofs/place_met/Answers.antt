@@ -1,4 +1,4 @@
-use Rattle.std.proofs.Common.{◌-◌, rules}
+use Rattle.std.proofs.Common.{rules}
 use Rattle.item_lookup.proofs.ChainLaws.{met_here}
 use Rattle.item_lookup.proofs.place_met.Goals as goal
 

@@ -1,4 +1,3 @@
-use Rattle.std.proofs.Common.{◌-◌}
 use Rattle.item_places.proofs.Ways.{ways}
 use Rattle.item_places.proofs.put_places.Goals as goal
 

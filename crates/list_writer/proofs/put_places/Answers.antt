@@ -1,4 +1,3 @@
-use Rattle.std.proofs.Common.{◌-◌}
 use Rattle.list_writer.proofs.Ways.{ways}
 use Rattle.list_writer.proofs.put_places.Goals as goal
 

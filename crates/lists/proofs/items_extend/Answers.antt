@@ -1,5 +1,3 @@
-use Rattle.std.proofs.Common.{◌-◌}
-use Rattle.lists.proofs.LoopLaws.{left-more}
 use Rattle.lists.proofs.Ways.{ways}
 use Rattle.lists.proofs.items_extend.Goals as goal
 

@@ -1,4 +1,3 @@
-use Rattle.std.proofs.Common.{◌-◌}
 use Rattle.lists.proofs.Ways.{ways}
 use Rattle.lists.proofs.same_by_long_blocks.Goals as goal
 

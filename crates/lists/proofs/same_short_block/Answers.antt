@@ -1,4 +1,3 @@
-use Rattle.std.proofs.Common.{◌-◌}
 use Rattle.lists.proofs.Ways.{ways}
 use Rattle.lists.proofs.same_short_block.Goals as goal
 use Rattle.lists.proofs.same_short_block.Goals.{then-a-at, else-a-at}

@@ -1,4 +1,3 @@
-use Rattle.std.proofs.Common.{◌-◌}
 use Rattle.molecule.proofs.Ways.{ways}
 use Rattle.molecule.proofs.is_bytes_vec.Goals as goal
 

@@ -1,4 +1,3 @@
-use Rattle.std.proofs.Common.{◌-◌}
 use Rattle.negotiation.proofs.Ways.{ways}
 use Rattle.negotiation.proofs.is_updates.Goals as goal
 

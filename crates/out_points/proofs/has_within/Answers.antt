@@ -1,4 +1,3 @@
-use Rattle.std.proofs.Common.{◌-◌}
 use Rattle.out_points.proofs.Ways.{ways}
 use Rattle.out_points.proofs.has_within.Goals as goal
 

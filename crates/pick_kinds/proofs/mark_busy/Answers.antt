@@ -1,4 +1,3 @@
-use Rattle.std.proofs.Common.{◌-◌}
 use Rattle.pick_kinds.proofs.Ways.{ways}
 use Rattle.pick_kinds.proofs.mark_busy.Goals as goal
 

@@ -1,4 +1,3 @@
-use Rattle.std.proofs.Common.{◌-◌}
 use Rattle.picks.proofs.Ways.{ways}
 use Rattle.picks.proofs.put_refused.Goals as goal
 

@@ -1,4 +1,3 @@
-use Rattle.std.proofs.Common.{◌-◌}
 use Rattle.picks.proofs.Ways.{ways}
 use Rattle.picks.proofs.tally.Goals as goal
 

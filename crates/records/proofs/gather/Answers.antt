@@ -1,4 +1,3 @@
-use Rattle.std.proofs.Common.{◌-◌}
 use Rattle.records.proofs.Ways.{ways}
 use Rattle.records.proofs.gather.Goals as goal
 

@@ -1,4 +1,3 @@
-use Rattle.std.proofs.Common.{◌-◌}
 use Rattle.rows.proofs.Ways.{ways}
 use Rattle.rows.proofs.find.Goals as goal
 

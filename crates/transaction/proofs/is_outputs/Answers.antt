@@ -1,4 +1,3 @@
-use Rattle.std.proofs.Common.{◌-◌}
 use Rattle.transaction.proofs.Ways.{ways}
 use Rattle.transaction.proofs.is_outputs.Goals as goal
 

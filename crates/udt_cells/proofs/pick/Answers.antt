@@ -1,4 +1,3 @@
-use Rattle.std.proofs.Common.{◌-◌}
 use Rattle.udt_cells.proofs.Ways.{ways}
 use Rattle.udt_cells.proofs.pick.Goals as goal
 

@@ -1,4 +1,3 @@
-use Rattle.std.proofs.Common.{◌-◌}
 use Rattle.unavailable_picks.proofs.Ways.{ways}
 use Rattle.unavailable_picks.proofs.count_busy.Goals as goal
 

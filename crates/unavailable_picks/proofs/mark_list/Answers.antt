@@ -1,4 +1,3 @@
-use Rattle.std.proofs.Common.{◌-◌}
 use Rattle.unavailable_picks.proofs.Ways.{ways}
 use Rattle.unavailable_picks.proofs.mark_list.Goals as goal
 

@@ -1,4 +1,3 @@
-use Rattle.std.proofs.Common.{◌-◌}
 use Rattle.verdict_line.proofs.Ways.{ways}
 use Rattle.verdict_line.proofs.put_values.Goals as goal
 

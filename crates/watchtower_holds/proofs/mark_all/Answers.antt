@@ -1,4 +1,3 @@
-use Rattle.std.proofs.Common.{◌-◌}
 use Rattle.watchtower_holds.proofs.MarkLaws.{free_first, free_none}
 use Rattle.watchtower_holds.proofs.Ways.{ways}
 use Rattle.watchtower_holds.proofs.mark_all.Goals as goal

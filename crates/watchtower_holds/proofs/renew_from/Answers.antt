@@ -1,4 +1,3 @@
-use Rattle.std.proofs.Common.{◌-◌}
 use Rattle.std.proofs.Common.{rules}
 use Rattle.watchtower_holds.proofs.HintLaws.{go_search}
 use Rattle.watchtower_holds.proofs.Ways.{ways}

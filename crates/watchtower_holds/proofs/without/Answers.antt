@@ -1,4 +1,3 @@
-use Rattle.std.proofs.Common.{◌-◌}
 use Rattle.watchtower_holds.proofs.Ways.{ways}
 use Rattle.watchtower_holds.proofs.without.Goals as goal
 

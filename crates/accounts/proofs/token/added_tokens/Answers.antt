@@ -1,4 +1,3 @@
-use Rattle.std.proofs.Common.{◌-◌}
 use Rattle.accounts.proofs.Ways.{ways}
 use Rattle.accounts.proofs.token.added_tokens.Goals as goal
 

@@ -1,4 +1,3 @@
-use Rattle.std.proofs.Common.{◌-◌}
 use Rattle.case_file.proofs.Ways.{ways}
 use Rattle.case_file.proofs.items.all_zero.Goals as goal
 

@@ -1,4 +1,3 @@
-use Rattle.std.proofs.Common.{◌-◌}
 use Rattle.distinct_deps.proofs.ChooseLaws.{choose_old, choose_new}
 use Rattle.distinct_deps.proofs.Ways.{ways}
 use Rattle.distinct_deps.proofs.in_turn.choose_in_turn.Goals as goal

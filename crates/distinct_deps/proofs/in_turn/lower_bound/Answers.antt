@@ -1,4 +1,3 @@
-use Rattle.std.proofs.Common.{◌-◌}
 use Rattle.std.proofs.Common.{rules}
 use Rattle.distinct_deps.proofs.SortedLaws.{halve_same, halve_down}
 use Rattle.distinct_deps.proofs.Ways.{ways}

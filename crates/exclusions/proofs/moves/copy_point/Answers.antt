@@ -1,4 +1,3 @@
-use Rattle.std.proofs.Common.{◌-◌}
 use Rattle.exclusions.proofs.MovesWays.{ways}
 use Rattle.exclusions.proofs.moves.copy_point.Goals as goal
 

@@ -1,4 +1,3 @@
-use Rattle.std.proofs.Common.{◌-◌}
 use Rattle.exclusions.proofs.MoveLaws.{down_end}
 use Rattle.exclusions.proofs.MovesWays.{ways}
 use Rattle.exclusions.proofs.moves.move_down.Goals as goal

@@ -1,4 +1,3 @@
-use Rattle.std.proofs.Common.{◌-◌}
 use Rattle.item_index.proofs.Ways.{ways}
 use Rattle.item_index.proofs.ordering.compare_bytes.Goals as goal
 

@@ -1,4 +1,3 @@
-use Rattle.std.proofs.Common.{◌-◌}
 use Rattle.molecule.proofs.Ways.{ways}
 use Rattle.molecule.proofs.write.copy.Goals as goal
 
