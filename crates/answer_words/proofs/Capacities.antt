@@ -62,7 +62,7 @@ module _ (cells udt source : List ℕ) (bu : AllBytes udt) (bs : AllBytes source
   unfolding with_change
   change-low e taken change =
       let r : check 3 true ≡ lent cells udt source = unfold check in unfold check_with in sym e in
-      let h = laws.capacity-below source udt bs bu (laws.lent-script cells udt source true r refl) (laws.lent-option cells udt source true r refl) in
+      let h = laws.capacity-below source udt bs bu (laws.lent_script cells udt source true r refl) (laws.lent-option cells udt source true r refl) in
       let bytes = cell_output (capacity_for source udt) source udt in
       either (eqb change 0) (built taken 0 0, out) (put_first bytes (built taken change (capacity_for source udt)) out)
       (built-low taken 0 0 out (omega arith)) (put_low bytes taken change (capacity_for source udt) out h)

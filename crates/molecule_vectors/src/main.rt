@@ -8,9 +8,12 @@ mod rewrite;
 mod types;
 
 use arithmetic::little_endian;
-use libc::{STDIN_FILENO, STDOUT_FILENO};
 use molecule::write;
 use transaction_writer::Written;
+
+const STDIN_FILENO: i32 = 0;
+
+const STDOUT_FILENO: i32 = 1;
 
 // Room for the longest vector and more.
 const ROOM: usize = 2048;

@@ -24,4 +24,4 @@ dynamic_updates = tt
 -- r is what `is_updates` answers of s, as its contract says: yes exactly if s has fewer than 2^32 bytes and is the encoding of a value
 pub read_exactly : (s : List ℕ) → AllBytes s → (r : Bool) → r ≡ readable Updates s
     → (r ≡ true) ↔ ((length s < 2 ^ 32) × ((v : Value Updates) × Good Updates v × (encode Updates v ≡ s)))
-read_exactly s b r e = let x = molecule.read-exactly Updates valid_updates dynamic_updates s b in (λ y. x.0 (sym e ∙ y), λ w. e ∙ x.1 w)
+read_exactly s b r e = let x = molecule.read_exactly Updates valid_updates dynamic_updates s b in (λ y. x.0 (sym e ∙ y), λ w. e ∙ x.1 w)

@@ -2,14 +2,3 @@ pub mod PlaceLaws
 pub mod StandsLaws
 pub mod TransactionLaws
 pub mod Ways
-pub mod Held
-pub mod Moves
-pub mod ReadsNumber
-pub mod ReadsBytes
-pub mod ReadsItem
-pub mod ReadsFixItem
-pub mod OneNumber
-pub mod TwoNumber
-pub mod OneItem
-pub mod TwoItem
-pub mod TwoFixItem

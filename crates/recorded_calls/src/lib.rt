@@ -3,7 +3,10 @@
 #![tactic(auto)]
 
 use arithmetic::little_endian;
-use libc::{STDIN_FILENO, STDOUT_FILENO};
+
+const STDIN_FILENO: i32 = 0;
+
+const STDOUT_FILENO: i32 = 1;
 
 // What stands in a lent buffer before the call.
 pub const FILL: u8 = 165;

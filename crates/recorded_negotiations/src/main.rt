@@ -5,8 +5,11 @@
 
 use arithmetic::{Amount, CheckedAmount, little_endian};
 use error::Refusal;
-use libc::{STDIN_FILENO, STDOUT_FILENO};
 use rules::Update;
+
+const STDIN_FILENO: i32 = 0;
+
+const STDOUT_FILENO: i32 = 1;
 
 // Room for the longest part, in which one transaction is over the limit of size.
 const ROOM: usize = 140_000;

@@ -5,11 +5,12 @@
 
 use arithmetic::{Amount, little_endian};
 use funding_cell::{FundingCell, FundingRequest};
-use libc::STDOUT_FILENO;
 use recorded_calls::FILL;
 use transaction_writer::Written;
 use udt_cells::UdtInputsOutputs;
 use units::{Shannons, Tokens};
+
+const STDOUT_FILENO: i32 = 1;
 
 // Room for the longest part behind the first one, and for the longest lent buffer.
 const ROOM: usize = 600_000;

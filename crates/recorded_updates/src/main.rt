@@ -4,8 +4,11 @@
 #![tactic(auto)]
 
 use arithmetic::little_endian;
-use libc::{STDIN_FILENO, STDOUT_FILENO};
 use molecule::write;
+
+const STDIN_FILENO: i32 = 0;
+
+const STDOUT_FILENO: i32 = 1;
 
 // Room for the longest part and for the longest file, which is longer than a case file may be.
 const ROOM: usize = 66_000;

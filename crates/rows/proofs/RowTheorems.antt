@@ -20,7 +20,7 @@ pub record Table (k n : ℕ) (s : List ℕ) : Type 0 where
 
 module _ (k n : ℕ) where
   pub zeros-table : 0 < k → n < 2 ^ 32 → Table k n (replicate (4 + k * n) 0)
-  zeros-table p q = record { wide = p; fits = q; form = laws.isTable-zeros k n }
+  zeros-table p q = record { wide = p; fits = q; form = laws.is_table-zeros k n }
 
 module _ {k n : ℕ} {s : List ℕ} (t : Table k n s) where
   -- ---- its rows: as many as it counts, no more than n, each of k bytes
@@ -29,45 +29,45 @@ module _ {k n : ℕ} {s : List ℕ} (t : Table k n s) where
   rows-counted = laws.rows-counted k s
 
   pub rows_most : row_count s ≤ n
-  rows_most = laws.rows-most k n s t.wide t.form
+  rows_most = laws.rows_most k n s t.wide t.form
 
   pub row_length : (i : ℕ) → i < row_count s → length (row_at k s i) ≡ k
-  row_length = laws.row-length k n s t.wide t.form
+  row_length = laws.row_length k n s t.wide t.form
 
   -- with the bytes behind them they are the bytes lent
   pub rows_again : AllBytes s → rows_bytes (rows_of k s) ++ drop (4 + k * row_count s) s ≡ s
-  rows_again = laws.rows-again k n s t.wide t.form
+  rows_again = laws.rows_again k n s t.wide t.form
 
   -- ---- push: the row stands behind all others; a full table stays as it was
 
   module _ (row : List ℕ) (l : length row ≡ k) where
     pub push_rows : row_count s < n → rows_of k (pushed k row s) ≡ rows_of k s ++ (row ∷ [])
-    push_rows = laws.push-rows k n s t.wide t.form t.fits row l
+    push_rows = laws.push_rows k n s t.wide t.form t.fits row l
 
     pub push_count : row_count s < n → row_count (pushed k row s) ≡ row_count s + 1
-    push_count = laws.push-count k n s t.wide t.form t.fits row l
+    push_count = laws.push_count k n s t.wide t.form t.fits row l
 
     pub push_none : n ≤ row_count s → pushed k row s ≡ s
-    push_none = laws.push-none k n s t.wide t.form row l
+    push_none = laws.push_none k n s t.wide t.form row l
 
   pub push_table : (row : List ℕ) → Table k n (pushed k row s)
-  push_table row = record { wide = t.wide; fits = t.fits; form = laws.push-table k n s t.wide t.form t.fits row }
+  push_table row = record { wide = t.wide; fits = t.fits; form = laws.push_table k n s t.wide t.form t.fits row }
 
   module _ (i : ℕ) where
     -- ---- replace: the row stands in place of row i; past the last there is none, and all stays as it was
 
     module _ (row : List ℕ) where
       pub replace_rows : length row ≡ k → rows_of k (replaced k i row s) ≡ set (rows_of k s) i row
-      replace_rows = laws.replace-rows k n s t.wide t.form i row
+      replace_rows = laws.replace_rows k n s t.wide t.form i row
 
       pub replace_count : row_count (replaced k i row s) ≡ row_count s
-      replace_count = laws.replace-count k n s t.wide t.form i row
+      replace_count = laws.replace_count k n s t.wide t.form i row
 
       pub replace_none : row_count s ≤ i → replaced k i row s ≡ s
-      replace_none = laws.replace-none k n s t.wide t.form i row
+      replace_none = laws.replace_none k n s t.wide t.form i row
 
       pub replace_table : Table k n (replaced k i row s)
-      replace_table = record { wide = t.wide; fits = t.fits; form = laws.replace-table k n s t.wide t.form i row }
+      replace_table = record { wide = t.wide; fits = t.fits; form = laws.replace_table k n s t.wide t.form i row }
 
     -- ---- remove: row i is gone, and the others are in their order; past the last there is none, and all stays as it was
 

@@ -1,9 +1,12 @@
 // Reads a transaction from standard input, at most 65,536 bytes, and prints what stands in it, or why it is refused.
 #![tactic(auto)]
 
-use libc::{STDIN_FILENO, STDOUT_FILENO};
 use reader::lists;
 use transaction::fields;
+
+const STDIN_FILENO: i32 = 0;
+
+const STDOUT_FILENO: i32 = 1;
 
 fn text(s: &[u8]) {
     io::write_all(STDOUT_FILENO, s);

@@ -44,7 +44,7 @@ all_exactly [] ok d = tt
 all_exactly (t ∷ ts) ok d = (exactly, all_exactly ts ok.1 d.1)
   where
     exactly : ReadExactly t
-    exactly s b r e = let x = molecule.read-exactly t ok.0 d.0 s b in (λ y. x.0 (sym e ∙ y), λ w. e ∙ x.1 w)
+    exactly s b r e = let x = molecule.read_exactly t ok.0 d.0 s b in (λ y. x.0 (sym e ∙ y), λ w. e ∙ x.1 w)
 
 -- a cell dep or nothing has 37 bytes or none
 dep-below : (s : List ℕ) (v : Value (option CellDep)) → decode (option CellDep) s ≡ some v → length s < 2 ^ 32

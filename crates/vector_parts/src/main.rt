@@ -4,7 +4,9 @@
 
 mod parts;
 
-use libc::{STDIN_FILENO, STDOUT_FILENO};
+const STDIN_FILENO: i32 = 0;
+
+const STDOUT_FILENO: i32 = 1;
 
 #[derive(Clone, Copy)]
 struct Count {

@@ -1,0 +1,11 @@
+use Rattle.accounts.proofs.Ways.{ways}
+use Rattle.accounts.proofs.token.add_amount.Goals as goal
+
+pub returns-in-Short : goal.returns-in-Short
+returns-in-Short c = search ways
+
+pub returns-in-Fits : goal.returns-in-Fits
+returns-in-Fits c = search ways
+
+pub returns-in-Overflow : goal.returns-in-Overflow
+returns-in-Overflow c = search ways

@@ -1,0 +1,26 @@
+use Rattle.base_lists.proofs.Ways.{ways}
+use Rattle.base_lists.proofs.outputs.put_outputs.Goals as goal
+
+pub returns-then-is_zero-clause-out_after : goal.returns-then-is_zero-clause-out_after
+returns-then-is_zero-clause-out_after c = search ways
+
+pub returns-then-is_zero-clause-value : goal.returns-then-is_zero-clause-value
+returns-then-is_zero-clause-value c = search ways
+
+pub returns-clause-out_after : goal.returns-clause-out_after
+returns-clause-out_after c = search ways
+
+pub returns-clause-value : goal.returns-clause-value
+returns-clause-value c = search ways
+
+pub returns-then-cell_size-gt-MAX_BYTES-clause-out_after : goal.returns-then-cell_size-gt-MAX_BYTES-clause-out_after
+returns-then-cell_size-gt-MAX_BYTES-clause-out_after c = search ways
+
+pub returns-then-cell_size-gt-MAX_BYTES-clause-value : goal.returns-then-cell_size-gt-MAX_BYTES-clause-value
+returns-then-cell_size-gt-MAX_BYTES-clause-value c = search ways
+
+pub returns-then-cell_size-gt-MAX_BYTES-2-clause-out_after : goal.returns-then-cell_size-gt-MAX_BYTES-2-clause-out_after
+returns-then-cell_size-gt-MAX_BYTES-2-clause-out_after c = search ways
+
+pub returns-then-cell_size-gt-MAX_BYTES-2-clause-value : goal.returns-then-cell_size-gt-MAX_BYTES-2-clause-value
+returns-then-cell_size-gt-MAX_BYTES-2-clause-value c = search ways

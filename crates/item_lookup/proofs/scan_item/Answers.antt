@@ -1,0 +1,12 @@
+use Rattle.std.proofs.Common.{◌-◌}
+use Rattle.item_lookup.proofs.Ways.{ways}
+use Rattle.item_lookup.proofs.scan_item.Goals as goal
+
+pub returns-then-same : goal.returns-then-same
+returns-then-same c = search ways
+
+pub loop-j-preserved : goal.loop-j-preserved
+loop-j-preserved c = search ways
+
+pub returns : goal.returns
+returns c = search ways

@@ -1,0 +1,5 @@
+use Rattle.molecule.proofs.Ways.{ways}
+use Rattle.molecule.proofs.word.Goals as goal
+
+pub returns : goal.returns
+returns c = search ways

@@ -1,0 +1,11 @@
+use Rattle.transaction_lists.proofs.Ways.{ways}
+use Rattle.transaction_lists.proofs.item_count.Goals as goal
+
+pub returns-then-not-is_transaction : goal.returns-then-not-is_transaction
+returns-then-not-is_transaction c = search ways
+
+pub returns-then-list-ge-LISTS : goal.returns-then-list-ge-LISTS
+returns-then-list-ge-LISTS c = search ways
+
+pub returns : goal.returns
+returns c = search ways

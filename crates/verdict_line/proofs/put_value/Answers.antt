@@ -1,0 +1,5 @@
+use Rattle.verdict_line.proofs.Ways.{ways}
+use Rattle.verdict_line.proofs.put_value.Goals as goal
+
+pub returns : goal.returns
+returns c = search ways
