@@ -1,5 +1,5 @@
 -- Laws of specs/Amount.antt: a number and its amount, and one law for each way out of the functions.
-use Rattle.std.proofs.Common.{◌≡◌, ℕ, zero, suc, ◌+◌, ◌-◌, ◌*◌, ◌/◌, ◌%◌, ◌^◌, ◌<◌, ◌≤◌, min, Bool, true, false, eqb, ltb, leb, List, [], ◌∷◌, ◌++◌, length, get_or, take, drop, sym, refl, ap, ◌∙◌, ap₂, le_trans, lt_of_lt_of_le, le_of_lt, mul_assoc, mul_comm, mul-le-mul_left, one-mul, pow-suc, zero-add, arith, length-take-le, take-add, ltb-false, ltb-true, le-ltb, lt-ltb, eq-eqb, ne_eqb, eqb-true, le-leb}
+use Rattle.std.proofs.Common.{◌≡◌, ℕ, zero, suc, ◌+◌, ◌-◌, ◌*◌, ◌/◌, ◌%◌, ◌^◌, ◌<◌, ◌≤◌, min, Bool, true, false, eqb, ltb, List, [], ◌∷◌, ◌++◌, length, get_or, take, drop, sym, refl, ap, ◌∙◌, ap₂, le_trans, lt_of_lt_of_le, mul_assoc, mul_comm, mul-le-mul_left, one-mul, pow-suc, zero-add, arith, length-take-le, take-add, ltb-false, ltb-true, le-ltb, lt-ltb, eq-eqb, ne_eqb, eqb-true, le-leb}
 use native.Mathlib.Nat.{pow-zero}
 use borrow.Author.Tests.{lt-leb, eqb-false}
 use Rattle.arithmetic.specs.declared.amount.{Amount.Amount, CheckedAmount.CheckedAmount, AmountRead.AmountRead}

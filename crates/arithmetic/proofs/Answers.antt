@@ -1,5 +1,5 @@
 -- What the answers of this crate's functions tell a caller.
-use Rattle.std.proofs.Common.{◌≡◌, ℕ, ◌+◌, ◌-◌, ◌^◌, ◌<◌, ◌≤◌, Bool, true, false, cond, ltb, leb, ◌⊎◌, List, length, take, refl, ap, inl, inr, ⊎_elim, arith, ltb-false, ltb-true, leb-false, leb-true}
+use Rattle.std.proofs.Common.{◌≡◌, ℕ, ◌+◌, ◌-◌, ◌^◌, ◌<◌, ◌≤◌, Bool, true, false, cond, ltb, leb, ◌⊎◌, List, length, take, refl, inl, inr, ⊎_elim, arith, ltb-false, ltb-true, leb-false, leb-true}
 use Rattle.arithmetic.specs.declared.amount.{Amount.Amount, CheckedAmount.CheckedAmount, AmountRead.AmountRead}
 use Rattle.arithmetic.specs.LittleEndian.{le}
 use Rattle.arithmetic.specs.Amount.{value, amount_of, sum, difference, amount_at}

@@ -1,5 +1,5 @@
 -- Worked examples, by computation of the definitions.
-use Rattle.std.proofs.Common.{◌≡◌, ℕ, ◌-◌, ◌^◌, true, false, ltb, leb, List, [], ◌∷◌, refl}
+use Rattle.std.proofs.Common.{◌≡◌, ◌-◌, ◌^◌, true, [], ◌∷◌, refl}
 use Rattle.arithmetic.specs.declared.amount.{CheckedAmount.CheckedAmount, AmountRead.AmountRead}
 use Rattle.arithmetic.specs.LittleEndian.{le, to_le}
 use Rattle.arithmetic.specs.Amount.{halves, value, amount_of, sum, difference, is_less, amount_at}

@@ -14,14 +14,14 @@ use Rattle.rules.specs.Outcome.{Outcome, fine, refused, given, ◌>>=◌}
 use Rattle.rules.specs.Cells.{read_ours}
 use Rattle.rules.specs.Surplus.{capacities, expected}
 use Rattle.rules.specs.Judge.{Call, Figures, judge, tx_of}
-use Rattle.rules.specs.Told.{told, inForceOf}
+use Rattle.rules.specs.Told.{told, in_force_of}
 use Rattle.rules.specs.Run.{update_for_peer, handed_back, next, verdicts, in_force, forces, Ran}
 use Rattle.rules.proofs.Accept.{accepted}
 use Rattle.rules.proofs.Law.{exact, kept-inputs, kept-records, stay-readable, ran_answers, ran_handed, ran_bytes}
 use Rattle.funding_tx.specs.Negotiation.{told_of, handed_of, Called, Lawful, Refusals, Demand3}
 
 -- what in_force hands back is what the rules say
-pub hands {ℓ} : {A : Type ℓ} (v : Outcome Figures) (u : Update) (ours peer : A) → told u ≡ v → inForceOf u ours peer ≡ handed_back v ours peer
+pub hands {ℓ} : {A : Type ℓ} (v : Outcome Figures) (u : Update) (ours peer : A) → told u ≡ v → in_force_of u ours peer ≡ handed_back v ours peer
 hands v (Update.Accepted c t) ours peer e = rw (← e)
 hands v (Update.Refused x) ours peer e = rw (← e)
 

@@ -18,7 +18,7 @@ use Rattle.rules.specs.Outcome.{Outcome, fine, refused, check, check_with, given
 use Rattle.rules.specs.Cells.{Cell, read_records}
 use Rattle.rules.specs.Surplus.{total, capacity_of}
 use Rattle.rules.specs.Judge.{Call, Figures, scripts, limits, comparison, spent, tally, account, token_account, accounts, contribution, judge, judge_against}
-use Rattle.rules.specs.Told.{told, inForceOf}
+use Rattle.rules.specs.Told.{told, in_force_of}
 use Rattle.rules.specs.Run.{handed_back, next, update_for_peer}
 use Rattle.rules.proofs.Checks.{skip, fail, pass, last_is}
 use Rattle.rules.proofs.CellLaws.{read_yes, read_no, ours_yes, ours_no}
@@ -127,12 +127,12 @@ module _ (lock type o : List ℕ) (c : Call) {known : Bool} (e : known ≡ reada
 -- ---- a whole call
 
 pub next-is : (lock type o p s source : List ℕ) (rate : ℕ) (u : Update) {x : List ℕ}
-    → told u ≡ judge lock type o (record { peer = p; records = s; source = source; rate = rate }) → x ≡ inForceOf u o p
+    → told u ≡ judge lock type o (record { peer = p; records = s; source = source; rate = rate }) → x ≡ in_force_of u o p
     → x ≡ next (update_for_peer lock type) o (record { peer = p; records = s; source = source; rate = rate })
 next-is lock type o p s source rate u e h = h ∙ hands (judge lock type o (record { peer = p; records = s; source = source; rate = rate })) u o p e
 
 pub next-reference {ℓ} : {A : Type ℓ} (lock type o p s source : List ℕ) (rate : ℕ) (u : Update) (x y : A) {r : A}
-    → told u ≡ judge lock type o (record { peer = p; records = s; source = source; rate = rate }) → r ≡ inForceOf u x y
+    → told u ≡ judge lock type o (record { peer = p; records = s; source = source; rate = rate }) → r ≡ in_force_of u x y
     → r ≡ handed_back (judge lock type o (record { peer = p; records = s; source = source; rate = rate })) x y
 next-reference lock type o p s source rate u x y e h = h ∙ hands (judge lock type o (record { peer = p; records = s; source = source; rate = rate })) u x y e
 

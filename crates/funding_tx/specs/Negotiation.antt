@@ -9,7 +9,7 @@ use Rattle.rules.specs.Cells.{read_ours}
 use Rattle.molecule.specs.Partial.{All}
 use Rattle.rules.specs.Surplus.{capacities, expected}
 use Rattle.rules.specs.Judge.{Call, Figures, judge, tx_of}
-use Rattle.rules.specs.Told.{told, inForceOf}
+use Rattle.rules.specs.Told.{told, in_force_of}
 use Rattle.rules.specs.Run.{Exact, update_for_peer, verdicts, in_force, forces, kept, kept_records, inputs_of, records_of, Returned, Ran}
 
 -- the answers of a list of calls, told in numbers, and the bytes that each handed back
@@ -24,7 +24,7 @@ module _ (lock udt : List ℕ) where
   -- the other (src/lib.rt), word for word; the other clause of `in_force`, that these are the lent bytes themselves and no copy, is not needed here.
   pub record Called (ours : List ℕ) (call : Call) (update : Update) (handed : List ℕ) : Type 0 where
     pub answer : told update ≡ judge lock udt ours call
-    pub bytes : handed ≡ inForceOf update ours call.peer
+    pub bytes : handed ≡ in_force_of update ours call.peer
 
   -- what holds of a list of calls from a start, each given the bytes that the one before handed back
   pub record Lawful (start : List ℕ) (calls : List Call) (returned : List (Returned Update)) (end : List ℕ) : Type 0 where

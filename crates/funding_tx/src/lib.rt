@@ -5,7 +5,7 @@ ghost use Rattle.std.specs.Prelude.{◌≡◌};
 ghost use Rattle.rules.specs.Outcome.{check};
 ghost use Rattle.transaction.specs.Tx.{tx_at};
 ghost use Rattle.rules.specs.Judge.{scripts, judge, judge_against};
-ghost use Rattle.rules.specs.Told.{told, inForceOf};
+ghost use Rattle.rules.specs.Told.{told, in_force_of};
 ghost use Rattle.rules.specs.Run.{handed_back, next, update_for_peer};
 
 use error::Refusal;
@@ -86,8 +86,8 @@ pub fn update_for_peer(
 
 // The transaction in force after an answer: the peer's bytes after an acceptance, ours after a refusal.
 pub fn in_force<'a>(update: Update, ours: &'a [u8], peer: &'a [u8]) -> &'a [u8]
-    ensures reference { result ≡ inForceOf update ours.entry peer.entry }
-    ensures bytes { result.now ≡ inForceOf update ours.now peer.now }
+    ensures reference { result ≡ in_force_of update ours.entry peer.entry }
+    ensures bytes { result.now ≡ in_force_of update ours.now peer.now }
 {
     match update {
         Update::Accepted {

@@ -17,7 +17,7 @@ use Rattle.transaction.specs.Tx.{tx_at}
 use Rattle.rules.specs.declared.Update.{Update}
 use Rattle.rules.specs.Outcome.{Outcome, fine, refused}
 use Rattle.rules.specs.Judge.{Call, Figures, judge, judge_against}
-use Rattle.rules.specs.Told.{told, inForceOf}
+use Rattle.rules.specs.Told.{told, in_force_of}
 use Rattle.rules.specs.Run.{Entry, handed_back, next, verdicts, in_force, update_for_peer}
 use Rattle.rules.proofs.Accept.{readable-next}
 use Rattle.funding_tx.proofs.Demand3.{hands}
@@ -153,7 +153,7 @@ module _ {lock udt start s out₀ : List ℕ} {known : Bool} {n i at accepted : 
       }
 
   pub run_more : (u : Update) {out' : List ℕ} {at' accepted' : ℕ} → i < n → told u ≡ judge lock udt (transaction_at start s at) (call_at s i) → out' ≡ splice out (5 * i) (words (told u))
-      → at' ≡ inForceOf u at (i + 1) → accepted' ≡ inForceOf u accepted (accepted + 1) → Running lock udt start s out₀ known n (i + 1) at' accepted' out'
+      → at' ≡ in_force_of u at (i + 1) → accepted' ≡ in_force_of u accepted (accepted + 1) → Running lock udt start s out₀ known n (i + 1) at' accepted' out'
   run_more u l e h ha hc =
       let v = verdict_at lock udt start s at i in
       rw (ha ∙ hands v u at (i + 1) e, hc ∙ hands v u accepted (accepted + 1) e) (more l (rw e at h))

@@ -8,7 +8,7 @@ ghost use Rattle.molecule.specs.Write.{splice};
 ghost use Rattle.transaction.specs.Ckb.{Transaction};
 ghost use Rattle.rules.specs.Judge.{judge};
 ghost use Rattle.rules.specs.Outcome.{fine};
-ghost use Rattle.rules.specs.Told.{told, inForceOf};
+ghost use Rattle.rules.specs.Told.{told, in_force_of};
 ghost use Rattle.rules.specs.Run.{verdicts, update_for_peer};
 ghost use Rattle.negotiation.specs.Updates as form;
 ghost use Rattle.negotiation.specs.Updates.{Updates, bytes_of, bytes_start, rate_of, call_at, calls_of, transaction_at, place_at};
@@ -153,7 +153,7 @@ fn put_words(answers: &mut [u64], at: usize, update: Update)
 
 // Which of two goes with an answer: the second after an acceptance, the first after a refusal.
 fn after(update: Update, ours: usize, peer: usize) -> usize
-    ensures { result ≡ inForceOf update ours peer }
+    ensures { result ≡ in_force_of update ours peer }
 {
     match update {
         Update::Accepted {

@@ -14,6 +14,6 @@ told (Update.Accepted capacity token) = fine (record { capacity = shannon_count 
 told (Update.Refused e) = refusal e
 
 -- which of two is in force after an answer: the peer's after an acceptance, ours after a refusal
-abbrev pub inForceOf {ℓ} : {A : Type ℓ} → Update → A → A → A
-inForceOf (Update.Accepted capacity token) ours peer = peer
-inForceOf (Update.Refused e) ours peer = ours
+abbrev pub in_force_of {ℓ} : {A : Type ℓ} → Update → A → A → A
+in_force_of (Update.Accepted capacity token) ours peer = peer
+in_force_of (Update.Refused e) ours peer = ours

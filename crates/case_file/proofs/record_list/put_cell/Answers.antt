@@ -1,0 +1,5 @@
+use Rattle.case_file.proofs.Ways.{ways}
+use Rattle.case_file.proofs.record_list.put_cell.Goals as goal
+
+pub returns : goal.returns
+returns c = search ways

@@ -1,0 +1,11 @@
+use Rattle.held_bytes.proofs.Ways.{ways}
+use Rattle.held_bytes.proofs.calls.lock_held.Goals as goal
+
+pub returns-then-held-ne-HELD_BYTES : goal.returns-then-held-ne-HELD_BYTES
+returns-then-held-ne-HELD_BYTES c = search ways
+
+pub returns-then-not-put_cells : goal.returns-then-not-put_cells
+returns-then-not-put_cells c = search ways
+
+pub returns : goal.returns
+returns c = search ways

@@ -1,0 +1,9 @@
+use Rattle.std.proofs.Common.{◌-◌}
+use Rattle.negotiation.proofs.Ways.{ways}
+use Rattle.negotiation.proofs.copy.Goals as goal
+
+pub loop-i-preserved : goal.loop-i-preserved
+loop-i-preserved c = search ways
+
+pub returns : goal.returns
+returns c = search ways

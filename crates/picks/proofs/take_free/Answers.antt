@@ -1,0 +1,19 @@
+use Rattle.std.proofs.Common.{rules}
+use Rattle.picks.proofs.TakenLaws.{both-room, left_is}
+use Rattle.picks.proofs.Ways.{ways}
+use Rattle.picks.proofs.take_free.Goals as goal
+
+pub overflow_sub-rest : goal.overflow_sub-rest
+overflow_sub-rest c = search ways
+
+pub returns-then-not-both_fit-clause-refused_after : goal.returns-then-not-both_fit-clause-refused_after
+returns-then-not-both_fit-clause-refused_after c = search ways
+
+pub returns-then-from-count-clause-refused_after : goal.returns-then-from-count-clause-refused_after
+returns-then-from-count-clause-refused_after c = search ways
+
+pub put_taken_and_refused-requires : goal.put_taken_and_refused-requires
+put_taken_and_refused-requires c = (search rules, search (rules, left_is), search (rules, both-room))
+
+pub returns-clause-refused_after : goal.returns-clause-refused_after
+returns-clause-refused_after c = search ways

@@ -1,0 +1,18 @@
+use Rattle.std.proofs.Common.{◌-◌}
+use Rattle.picks.proofs.Ways.{ways}
+use Rattle.picks.proofs.tally.Goals as goal
+
+pub loop-i-init : goal.loop-i-init
+loop-i-init c = search ways
+
+pub loop-i-preserved-then-last-lt-MOST_RECORDS : goal.loop-i-preserved-then-last-lt-MOST_RECORDS
+loop-i-preserved-then-last-lt-MOST_RECORDS c = search ways
+
+pub loop-i-preserved-else-last-lt-MOST_RECORDS : goal.loop-i-preserved-else-last-lt-MOST_RECORDS
+loop-i-preserved-else-last-lt-MOST_RECORDS c = search ways
+
+pub loop-i-preserved : goal.loop-i-preserved
+loop-i-preserved c = search ways
+
+pub returns : goal.returns
+returns c = search ways
