@@ -2,6 +2,8 @@
 // form that tools/recorded_tables.py describes.
 #![tactic(auto)]
 
+ghost use Rattle.std.specs.Prelude.{◌≡◌, length};
+
 use arithmetic::little_endian;
 
 const STDIN_FILENO: i32 = 0;
@@ -19,6 +21,13 @@ const ALIKE: usize = 16;
 const OVER: usize = 17;
 
 pub const COUNTS: usize = 18;
+
+// N zeros. The contract gives the length alone: a proof that sees the zeros of a long array counts them one by one.
+pub fn zeros<const N: usize>() -> [u8; N]
+    ensures { length result ≡ N }
+{
+    [0; N]
+}
 
 pub fn plus(a: usize, b: usize) -> usize {
     if usize::MAX - a < b {

@@ -255,7 +255,7 @@ fn judge_parts(counts: &mut [u64], buf: &mut [u8], n: u32) {
 
 fn main() {
     let n = recorded_calls::read_number();
-    let mut buf = [0u8; ROOM];
+    let mut buf = recorded_calls::zeros::<ROOM>();
     let mut counts = [0u64; COUNTS];
     judge_parts(&mut counts, &mut buf, n);
     print(&counts);

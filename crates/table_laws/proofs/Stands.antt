@@ -204,10 +204,13 @@ module _ {T O : Type 0} {F : Table T O} (f : Faithful F) where
       (take-fine (λ l. Made x l _) (F.held s) picked spent taker now out₁ out₂
       (kept x _ _ (λ k. stands-append x (unended (F.held s) now) _ (stands-keep x (is_live now) (records_of (F.held s)) k q)))) q
 
-  pub still : {s t : T} (x : Hold) {y : Hold} → Stands x (records_of (F.held s)) → Followed F x s t y → Stands y (records_of (F.held t)) × (y.point ≡ x.point)
-  still x q run.start = (q, refl)
-  still x q (run.then {s} {t} {u} {y} {z} cs c e) =
-      let (r, k) = still x q cs in by k (subst (Made y (records_of (F.held u))) e (made y c r))
+  still_from : (x : Hold) {s t : T} {y : Hold} → Stands x (records_of (F.held s)) → Followed F x s t y → Stands y (records_of (F.held t)) × (y.point ≡ x.point)
+  still_from x q run.start = (q, refl)
+  still_from x q (run.then {s} {t} {u} {y} {z} cs c e) =
+      let (r, k) = still_from x q cs in by k (subst (Made y (records_of (F.held u))) e (made y c r))
     where
       by : y.point ≡ x.point → Made y (records_of (F.held u)) (some z) → Stands z (records_of (F.held u)) × (z.point ≡ x.point)
       by k (becomes m n) = (m, n ∙ k)
+
+  pub still : {s t : T} (x : Hold) {y : Hold} → Stands x (records_of (F.held s)) → Followed F x s t y → Stands y (records_of (F.held t)) × (y.point ≡ x.point)
+  still x q f = still_from x q f

@@ -1,0 +1,5 @@
+use Rattle.check_update.proofs.Ways.{ways}
+use Rattle.check_update.proofs.main.Goals as goal
+
+pub slice_bounds-write_all-end : goal.slice_bounds-write_all-end
+slice_bounds-write_all-end c = search ways
