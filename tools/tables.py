@@ -4,7 +4,8 @@
 A table is a line of TABLES: the laws' prefix, the type of the schema, its fields' types, and the test that the code makes of each field:
 ('len', k) for `field_len(s, n, i) != k`, ('is', TYPE) for `!is_..(field(s, n, i))`. The last test is what the function returns.
 Of a table in BY_WORDS the code tests the words of the header: there is one law, what `readable` is of its fields, and crates/transaction/proofs/WordLaws.antt
-has the ways out. Run it in the repository's root after a change of TABLES."""
+has the ways out. Of HEAD's imports a file has those that its laws use. Run it in the repository's root after a change of TABLES."""
+import re
 
 HEAD = '''-- %s: one law for each way out of the function that tests one. Written by tools/tables.py.
 use mathlib.Core.Path.{◌≡◌, refl, sym, ◌∙◌}
@@ -20,7 +21,6 @@ use Rattle.molecule.specs.Layout.{span, has_items, field_of}
 use Rattle.molecule.proofs.ReadableLaws.{all_readable, sized}
 use Rattle.molecule.proofs.HeaderLaws.{count, table-readable}
 %s
-
 '''
 
 TABLES = [
@@ -106,12 +106,22 @@ def laws(name, ty, fields, tests):
     return out, names
 
 
+def used(line, words):
+    """A line of the head, with those of its names that the laws use; nothing where there are none."""
+    if not line.startswith('use '):
+        return [line]
+    module, names = line[:-1].split('{')
+    names = [name for name in names.split(', ') if name.strip('◌') in words]
+    return ['%s{%s}' % (module, ', '.join(names))] if names else []
+
+
 for crate, what, types, tables in CRATES:
     text, names = [], []
     for t in tables:
         a, b = laws(*t)
         text += a
         names += b
-    head = HEAD % (what, '\n'.join('use ' + u for u in types))
-    open('crates/%s/proofs/TableLaws.antt' % crate, 'w').write(head + '\n'.join(text).rstrip() + '\n')
+    words = set(re.findall(r'[^\s(){},]+', '\n'.join(text)))
+    head = [kept for line in (HEAD % (what, '\n'.join('use ' + u for u in types))).split('\n') for kept in used(line, words)]
+    open('crates/%s/proofs/TableLaws.antt' % crate, 'w').write('\n'.join(head + text).rstrip() + '\n')
     print(', '.join(names))
