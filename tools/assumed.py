@@ -3,13 +3,22 @@
 
     tools/assumed.py
 
-Every folder of crates/ is listed in crates.txt; no function that another crate can call has a `requires`, and each of the library's has an `ensures` (programs
-that run tests and what they share, known by their use of `io` or `check`, have none); no source declares a C function; no proof has a hole (`?`, `?name`, `{! .. !}`), an axiom or a postulate. Prints what it counted, or each place where that is not so, and then ends with 1. It is no verdict: that is `rt ci`.
+- Every folder of crates/ is listed in crates.txt, and no crate lists `libc` or `os`; the file HANDLES, if there is one, allows none: so no function may end the
+  process, wait for ever, start threads or open sockets, in place of meeting its contract.
+- Every crate's root file has `#![tactic(auto)]`, by which the check tries its tactics.
+- No function that another crate can call has a `requires`, and each of the library's has an `ensures`. (Programs, and what those that run tests share, known by
+  their use of `io` or `check`, have none.)
+- No source declares a C function, and no proof, definition or clause has a hole (`?`, `?name`, `{! .. !}`) or an axiom.
+
+Prints what it counted, or each place where that is not so, and then ends with 1. It is no verdict: that is `rt ci`.
 """
 import glob, os, re, sys
 
 HERE = os.path.dirname(os.path.dirname(os.path.abspath(__file__)))
 TESTS = {'io', 'check'}
+PAST_THE_HANDLES = {'libc', 'os'}
+HOLE = re.compile(r'(?<![\w-])\?|\{!')
+AXIOM = re.compile(r'\b(axiom|postulate|sorry|Prim\.Axiom)\b')
 
 
 def functions(text):
@@ -24,15 +33,36 @@ def functions(text):
         yield header, m.group(1)
 
 
+def listed():
+    """What each crate of crates.txt uses: a line is NAME, perhaps a word or more, a colon, and what it uses."""
+    found = {}
+    for line in open(os.path.join(HERE, 'crates.txt')):
+        name, colon, uses = line.split('#')[0].partition(':')
+        if colon:
+            found[name.split()[0]] = set(uses.split())
+    return found
+
+
 def main():
     wrong, count = [], 0
-    rows = [l.split(':') for l in open(os.path.join(HERE, 'crates.txt')) if l.strip() and not l.startswith('#')]
-    listed, programs = {c for c, _ in rows}, {c for c, uses in rows if TESTS & set(uses.split())}
+    uses = listed()
     folders = set(os.listdir(os.path.join(HERE, 'crates')))
-    wrong += [f'crates/{c}: not in crates.txt' for c in sorted(folders - listed)] + [f'crates.txt: no folder {c}' for c in sorted(listed - folders)]
+    wrong += [f'crates/{c}: not in crates.txt' for c in sorted(folders - set(uses))] + [f'crates.txt: no folder {c}' for c in sorted(set(uses) - folders)]
+    wrong += [f'crates.txt: {c} lists {name}' for c in sorted(uses) for name in sorted(uses[c] & PAST_THE_HANDLES)]
+    handles = os.path.join(HERE, 'HANDLES')
+    if os.path.exists(handles) and open(handles).read().strip() != 'Handles allowed: none.':
+        wrong.append('HANDLES: it allows more than none')
+    programs = {c for c in uses if uses[c] & TESTS}
+    for crate in sorted(folders):
+        source = os.path.join(HERE, 'crates', crate, 'src')
+        root = next((name for name in ('main.rt', 'lib.rt') if os.path.exists(os.path.join(source, name))), None)
+        if root == 'main.rt':
+            programs.add(crate)
+        if root is None or not re.search(r'^#!\[tactic\(auto\)\]$', open(os.path.join(source, root)).read(), re.M):
+            wrong.append(f'crates/{crate}: its root file has no line #![tactic(auto)]')
     for path in sorted(glob.glob(os.path.join(HERE, 'crates/*/src/**/*.rt'), recursive=True)):
         short, text = os.path.relpath(path, HERE), open(path).read()
-        if re.search(r'^ *extern "C" *\{', text, re.M):
+        if re.search(r'^ *(?:unsafe )?extern "C" *\{', text, re.M):
             wrong.append(f'{short}: it declares C functions of its own')
         for header, name in functions(text):
             count += 1
@@ -40,13 +70,18 @@ def main():
                 wrong.append(f'{short}: {name} has a `requires`')
             if not re.search(r'\bensures\b', header) and short.split('/')[1] not in programs:
                 wrong.append(f'{short}: {name} has no `ensures`')
-    laws = glob.glob(os.path.join(HERE, 'crates/*/proofs/**/*.antt'), recursive=True) + glob.glob(os.path.join(HERE, 'crates/*/specs/**/*.antt'), recursive=True)
+        for number, line in enumerate(text.split('\n'), 1):
+            code = line.split('//')[0]
+            if AXIOM.search(code) or re.match(r' *(requires|ensures|ghost)\b', code) and HOLE.search(code):
+                wrong.append(f'{short}:{number}: {line.strip()}')
+    laws = [path for part in ('proofs', 'specs') for path in glob.glob(os.path.join(HERE, f'crates/*/{part}/**/*.antt'), recursive=True)]
     for path in sorted(laws):
         for number, line in enumerate(open(path), 1):
             code = line.split('--')[0]
-            if re.search(r'\b(axiom|postulate|primitive|trustMe)\b|(?<![\w-])\?|\{!', code):
+            if AXIOM.search(code) or HOLE.search(code):
                 wrong.append(f'{os.path.relpath(path, HERE)}:{number}: {line.strip()}')
-    print('\n'.join(wrong) or f'{len(listed)} crates; {count} public functions, none with a `requires`, each of the library with a contract; no hole and no axiom in {len(laws)} files')
+    print('\n'.join(wrong) or f'{len(uses)} crates, each with its tactics and none past the handles; {count} public functions, none with a `requires`, each of the library with a '
+          f'contract; no hole and no axiom in {len(laws)} files of proofs and definitions')
     sys.exit(1 if wrong else 0)
 
 

@@ -4,32 +4,39 @@
     tools/mutants.py CRATE [ROUNDS [SEED]]
     tools/mutants.py CRATE --listed
 
-Copies crates/ and target/ to a folder of its own, makes small changes in the function bodies of CRATE and runs `rt dev CRATE` on them. A change is a constant one more or
-less (of a `const` too), another comparison, a sum for a difference, true for false, another refusal, two arguments of a call swapped. In each round (4) functions that
-do not call one another are changed, one change in each, so that one run tells of each by itself whether its proof still holds; each round takes the functions that were
-changed least often so far. The contracts are left as they are: only lines outside `requires` and `ensures` are changed. With --listed the changes are those of
-crates/CRATE/wrong_programs.txt: a comment, the function it is in, what stands there once and what stands there instead, and an empty line.
+Copies CRATE and the crates that it uses to a folder of its own, sees that CRATE is proved there as it stands (`rt check` begins with what a check in this
+repository kept), makes small changes in the function bodies of CRATE and checks again. A change is a constant one more or less (of a `const` too), another
+comparison, a sum for a difference, true for false, another refusal, two arguments of a call swapped. In each round (4) functions that do not call one another
+are changed, one change in each, so that one check tells of each by itself whether its proof still holds; each round takes the functions that were changed least
+often so far. The contracts are left as they are: only lines of bodies are changed. With --listed the changes are those of crates/CRATE/wrong_programs.txt: a
+comment, the function it is in, what stands there once and what stands there instead, and an empty line.
 
-Prints a line for each: refused, no program (the front end refuses it) or SURVIVED, which is either a program that computes the same or a contract that says too little,
-and how many there were of each. Ends with 1 if any survived.
+Prints a line for each: refused, with the place; no program, where the front end refuses it; no verdict, where the prover could not tell; or SURVIVED, which is
+either a program that computes the same or a contract that says too little. A change that is refused `for its shape` has taken away what a proof file names, as
+the goal of a branch that is written otherwise now, and so says little of the contract. Then how many there were of each. Ends with 1 if any survived.
 """
 import os, random, re, shutil, subprocess, sys, tempfile
 from collections import Counter
 
 HERE = os.path.dirname(os.path.dirname(os.path.abspath(__file__)))
 
+# what the prover says of a function
+TOLD = re.compile(r'^fn (.+?): (proved|not proved|no proof|could not tell)\b', re.M)
+# and of a name in a proof file that is there no longer
+GONE = re.compile(r'has no field|is not in scope|has no `')
+
 OPERATORS = {' < ': [' <= '], ' <= ': [' < '], ' == ': [' != '], ' != ': [' == '], ' + ': [' - '], ' - ': [' + '], ' * ': [' + '], ' += ': [' -= ']}
 
 
 class Function:
-    """A function of a source file: its path as the prover prints it, and the places of the lines of its body."""
+    """A function of a source file: its path, its name as the prover prints it, and the places of the lines of its body."""
 
     def __init__(self, path, name):
         self.path, self.name, self.lines, self.changes, self.calls = path, name, [], [], set()
 
 
 def functions(path, text, module):
-    """The functions with a body: between a line `{`, or one that ends in ` {` after `fn`, and the `}` at its indentation."""
+    """The functions with a body: from the line that ends in `{`, at the indentation of `fn`, to the `}` there."""
     found, at, now, inside, indent, of = [], 0, None, False, '', ''
     for line in text.splitlines(keepends=True):
         bare = line.rstrip('\n')
@@ -39,13 +46,13 @@ def functions(path, text, module):
         elif bare == '}':
             of = of if inside and indent else ''
         if not inside and head:
-            now = Function(path, '::'.join(p for p in (module, of if head[1] else '', head[2]) if p))
-        if not inside and now and (bare.strip() == '{' or head and bare.endswith(' {')):
-            inside, indent = True, bare[:len(bare) - len(bare.lstrip())]
+            now, indent = Function(path, '::'.join(p for p in (module, of if head[1] else '', head[2]) if p)), head[1]
+        if not inside and now and (bare == indent + '{' or re.match(re.escape(indent) + r'\S.* \{$', bare)):
+            inside = True
         elif inside and bare == indent + '}':
             found.append(now)
             now, inside = None, False
-        elif inside and not bare.lstrip().startswith('//'):
+        elif inside and not bare.lstrip().startswith(('//', 'prove!')):
             now.lines.append((at, at + len(line)))
         at += len(line)
     return found
@@ -116,18 +123,35 @@ def apart(chosen, f):
     return all(f.name not in g.calls and g.name not in f.calls and f is not g for g in chosen)
 
 
+def used():
+    """What each crate of crates.txt uses of the repository, and its line."""
+    found = {}
+    for line in open(os.path.join(HERE, 'crates.txt')):
+        name, colon, uses = line.split('#')[0].partition(':')
+        if colon:
+            found[name.split()[0]] = uses.split(), line
+    return {name: ([use for use in uses if use in found], line) for name, (uses, line) in found.items()}
+
+
 class Copy:
-    """A copy of the repository in which changes are tried."""
+    """A copy of the crate, and of those that it uses, in which changes are tried."""
 
     def __init__(self, crate, texts):
         self.crate, self.texts, self.folder = crate, texts, tempfile.mkdtemp(prefix='mutants-')
-        self.tally = Counter()
-        for name in ('crates', 'target', 'crates.txt'):
-            source = os.path.join(HERE, name)
-            if os.path.isdir(source):
-                shutil.copytree(source, os.path.join(self.folder, name), symlinks=True)
-            elif os.path.exists(source):
-                shutil.copy(source, self.folder)
+        self.tally, crates, wanted = Counter(), used(), []
+        left = [crate]
+        while left:
+            name = left.pop()
+            if name not in wanted:
+                wanted.append(name)
+                left += crates[name][0]
+        with open(os.path.join(self.folder, 'crates.txt'), 'w') as f:
+            f.writelines(crates[name][1] for name in wanted)
+        for name in wanted:
+            for part in ('src', 'specs', 'proofs'):
+                source = os.path.join(HERE, 'crates', name, part)
+                if os.path.isdir(source):
+                    shutil.copytree(source, os.path.join(self.folder, 'crates', name, part))
 
     def say(self, answer, path, change, more=''):
         start, end, new = change
@@ -138,32 +162,47 @@ class Copy:
         self.tally[answer] += 1
 
     def run(self, picked):
-        """What the prover says of these changes [(path, change)], and what it prints of each function."""
+        """What the prover says of these changes [(path, change)], and of each function."""
         for path, text in self.texts.items():
             for _, (start, end, new) in sorted((p for p in picked if p[0] == path), key=lambda p: -p[1][0]):
                 text = text[:start] + new + text[end:]
             with open(os.path.join(self.folder, path), 'w') as f:
                 f.write(text)
-        run = subprocess.run(['rt', 'dev', self.crate], cwd=self.folder, capture_output=True, text=True, env={**os.environ, 'RT_JOBS': '1'})
-        said = run.stdout + run.stderr
-        return said, dict(re.findall(r'^fn (\S+?): ((?:not )?proved|no proof)', said, re.M))
+        how = {'stdin': subprocess.DEVNULL, 'stdout': subprocess.PIPE, 'stderr': subprocess.STDOUT, 'text': True, 'errors': 'replace'}
+        run = subprocess.run(['rt', 'check'], cwd=os.path.join(self.folder, 'crates', self.crate), **how)
+        told = {name: what for name, what in TOLD.findall(run.stdout) if name.startswith(self.crate + '::')}
+        if not told and not re.search(r'^\S+\.rt:\d+:\d+: error', run.stdout, re.M):
+            sys.exit(f'`rt check` of {self.crate} judged nothing:\n' + '\n'.join(run.stdout.splitlines()[-10:]))
+        return run.stdout, told
+
+    def as_it_stands(self):
+        """The functions that the prover tells of, all proved."""
+        said, told = self.run([])
+        if not re.search(r'^logic=proved ', said, re.M):
+            sys.exit(f'{self.crate} is not proved as it stands, so nothing is tried:\n' + '\n'.join(said.splitlines()[-10:]))
+        return {name for name, what in told.items() if what == 'proved'}
 
     def at(self, said, f):
-        """Where the proof of f fails: `a fact`, or what else the prover complains of (the proof does not fit code of another shape)."""
-        folder = '/'.join(f.name.split('::')[1:])
-        errors = re.findall(r'/proofs/' + re.escape(folder) + r'/Proof\.antt:\d+:\d+: error: (.*)', said)
-        if any(re.search(r'`search`: no proof of|`omega`|is not the same as|was not admitted', e) for e in errors):
+        """Where the proof of f fails: at a fact, or for its shape, where a proof file names what the change took away."""
+        errors = re.findall(r'^(?:note: )?(?:\./)?proofs/' + re.escape('/'.join(f.name.split('::')[1:])) + r'/\w+\.antt:\d+:\d+: (?:error: )?(.*)', said, re.M)
+        gone = [e for e in errors if GONE.search(e)]
+        if gone:
+            return 'for its shape: ' + gone[0][:200]
+        first, last = (self.texts[f.path].count('\n', 0, place) + 1 for place in (f.lines[0][0], f.lines[-1][0]))
+        places = re.findall(r'^note: ' + re.escape(os.path.join('src', os.path.basename(f.path))) + r':(\d+):\d+: it is not proved', said, re.M)
+        line = re.search(r'^fn ' + re.escape(f.name) + r': .*', said, re.M)[0]
+        if errors or 'did not prove' in line or any(first <= int(n) <= last for n in places):
             return 'at a fact'
-        return 'for its shape: ' + (errors[0] if errors else re.search(r'^fn ' + re.escape(f.name) + r': .*', said, re.M)[0])[:200]
+        return 'otherwise: ' + line[:200]
 
     def try_apart(self, picked):
         """Changes [(function, change)] in functions that do not call one another."""
         while picked:
             said, told = self.run([(f.path, c) for f, c in picked])
-            if any(name.startswith(self.crate + '::') for name in told):
+            if told:
                 for f, c in picked:
-                    stands = told.get(f.name) == 'proved'
-                    self.say('SURVIVED' if stands else 'refused', f.path, c, f.name if stands else self.at(said, f))
+                    answer = {'proved': 'SURVIVED', 'not proved': 'refused', 'no proof': 'refused'}.get(told.get(f.name), 'no verdict')
+                    self.say(answer, f.path, c, self.at(said, f) if answer == 'refused' else f.name)
                 return
             wrong = self.refused_by_front_end(said, picked)
             for p in wrong:
@@ -172,8 +211,8 @@ class Copy:
 
     def refused_by_front_end(self, said, picked):
         """Those at a line that the front end complains of; where it names none of them, those that it refuses alone."""
-        lines = set(re.findall(r'(crates/[\w/]+\.rt):(\d+)', said))
-        at = [p for p in picked if (p[0].path, str(self.texts[p[0].path].count('\n', 0, p[1][0]) + 1)) in lines]
+        lines = set(re.findall(r'^(src/[\w/]+\.rt):(\d+)', said, re.M))
+        at = [p for p in picked if (os.path.join('src', os.path.basename(p[0].path)), str(self.texts[p[0].path].count('\n', 0, p[1][0]) + 1)) in lines]
         if at or len(picked) == 1:
             return at or picked
         half = len(picked) // 2
@@ -185,8 +224,9 @@ class Copy:
 
     def try_constant(self, path, change):
         said, told = self.run([(path, change)])
-        failed = [f for f, t in told.items() if t != 'proved']
-        self.say('refused' if failed else 'SURVIVED' if told else 'no program', path, change, ', '.join(failed[:3]))
+        failed = [f for f, t in told.items() if t in ('not proved', 'no proof')]
+        unsure = not failed and set(told.values()) != {'proved'}
+        self.say('no program' if not told else 'refused' if failed else 'no verdict' if unsure else 'SURVIVED', path, change, ', '.join(failed[:3]))
 
 
 def main():
@@ -212,6 +252,10 @@ def main():
     wrong = listed(crate, texts, all_functions) if sys.argv[2:3] == ['--listed'] else []
     copy = Copy(crate, texts)
     try:
+        known = copy.as_it_stands()
+        strange = [f.name for f in all_functions if f.name not in known]
+        if strange:
+            sys.exit(f"`rt check` has no line `proved` of {', '.join(strange)}")
         if sys.argv[2:3] == ['--listed']:
             left = wrong
             while left:

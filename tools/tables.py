@@ -4,23 +4,23 @@
 A table is a line of TABLES: the laws' prefix, the type of the schema, its fields' types, and the test that the code makes of each field:
 ('len', k) for `field_len(s, n, i) != k`, ('is', TYPE) for `!is_..(field(s, n, i))`. The last test is what the function returns.
 Of a table in BY_WORDS the code tests the words of the header: there is one law, what `readable` is of its fields, and crates/transaction/proofs/WordLaws.antt
-has the ways out. Run it in the repository's root after a change of TABLES; `rt fmt` afterwards."""
+has the ways out. Of HEAD's imports a file has those that its laws use. Run it in the repository's root after a change of TABLES."""
+import re
 
 HEAD = '''-- %s: one law for each way out of the function that tests one. Written by tools/tables.py.
-use mathlib.Core.Path.{_≡_, refl, sym, _∙_}
+use mathlib.Core.Path.{◌≡◌, refl, sym, ◌∙◌}
 use Prim.Native.Nat.{ℕ}
 use mathlib.Core.List.{List}
-use mathlib.Core.Bool.{Bool, true, false, not, _&&_, and-true, and-false}
-use borrow.Author.Tests.{eq-eqb, ne-eqb, not-true, not-false}
+use mathlib.Core.Bool.{Bool, true, false, not, ◌&&◌, and-true, and-false}
+use borrow.Author.Tests.{eq-eqb, ne_eqb, not-true, not-false}
 use lib.Dec.{eqb}
 use lib.ListN.{length}
-use Rattle·molecule.specs.Molecule.{byte, fixvec, dynvec, table, option, end, _&_, size, readable}
-use Rattle·molecule.proofs.Valid.{fixed}
-use Rattle·molecule.specs.Layout.{span, hasItems, fieldOf}
-use Rattle·molecule.proofs.ReadableLaws.{allReadable, sized}
-use Rattle·molecule.proofs.HeaderLaws.{count, table-readable}
+use Rattle.molecule.specs.Molecule.{byte, fixvec, dynvec, table, option, end, ◌&◌, size, readable}
+use Rattle.molecule.proofs.Valid.{fixed}
+use Rattle.molecule.specs.Layout.{span, has_items, field_of}
+use Rattle.molecule.proofs.ReadableLaws.{all_readable, sized}
+use Rattle.molecule.proofs.HeaderLaws.{count, table-readable}
 %s
-
 '''
 
 TABLES = [
@@ -40,49 +40,49 @@ BY_WORDS = ['script', 'output']
 # of each crate: what its tables are, where their types stand, and the tables
 CRATES = [
     ('transaction', 'The tables of CKB (RFC 0019)',
-     ['Rattle·transaction·specs.specs.Ckb.{Uint32, Uint64, Byte32, Bytes, OutPoint, CellInput, CellDep, Script, CellOutput, RawTransaction, Transaction, TokenCell, Record}'], TABLES),
-    ('negotiation', 'The table of an update', ['Rattle·transaction.specs.Ckb.{Uint64, Bytes}', 'Rattle·negotiation·specs.specs.Updates.{Update}'],
+     ['Rattle.transaction.specs.Ckb.{Uint32, Uint64, Byte32, Bytes, OutPoint, CellInput, CellDep, Script, CellOutput, RawTransaction, Transaction, TokenCell, Record}'], TABLES),
+    ('negotiation', 'The table of an update', ['Rattle.transaction.specs.Ckb.{Uint64, Bytes}', 'Rattle.negotiation.specs.Updates.{Update}'],
      [('update', 'Update', ['Bytes', 'Bytes', 'Bytes', 'Uint64'], [('is', 'Bytes'), ('is', 'Bytes'), ('is', 'Bytes'), ('len', 8)])]),
 ]
 
 
 def laws(name, ty, fields, tests):
-    n, out, names = len(tests), [], [name + '-head']
-    parts = ['eqb (length (fieldOf s %d %d)) %d' % (n, i, a) if k == 'len' else 'readable %s (fieldOf s %d %d)' % (a, n, i)
+    n, out, names = len(tests), [], [name + '_head']
+    parts = ['eqb (length (field_of s %d %d)) %d' % (n, i, a) if k == 'len' else 'readable %s (field_of s %d %d)' % (a, n, i)
              for i, (k, a) in enumerate(tests)]
     nest = 'true'
     for p in reversed(parts):
         nest = '%s && (%s)' % (p, nest) if nest != 'true' else '%s && true' % p
     fixed = ', '.join('sized %s tt %d refl' % (fields[i], a) for i, (k, a) in enumerate(tests) if k == 'len')
     by_words = name in BY_WORDS
-    out += [('pub ' if by_words else '') + '%s-fields : (s : List ℕ) → readable %s s ≡ (hasItems s %d && (%s))' % (name, ty, n, nest),
-            'unfolding size fixed count allReadable span',
-            '%s-fields s = table-readable (%s & end) s%s' % (name, ' & '.join(fields), ' ∙ simp (%s)' % fixed if fixed else ''), '']
+    out += [('pub ' if by_words else '') + '%s_fields : (s : List ℕ) → readable %s s ≡ (has_items s %d && (%s))' % (name, ty, n, nest),
+            'unfolding size fixed count all_readable span',
+            '%s_fields s = table-readable (%s & end) s%s' % (name, ' & '.join(fields), ' ∙ simp (%s)' % fixed if fixed else ''), '']
     if by_words:
         return out, []
     out += ['module _ (s : List ℕ) where',
-            '  pub %s-head : {r : Bool} → r ≡ hasItems s %d → not r ≡ true → false ≡ readable %s s' % (name, n, ty),
-            '  %s-head e h = sym (%s-fields s ∙ simp (sym e ∙ not-true _ h))' % (name, name), '']
+            '  pub %s_head : {r : Bool} → r ≡ has_items s %d → not r ≡ true → false ≡ readable %s s' % (name, n, ty),
+            '  %s_head e h = sym (%s_fields s ∙ simp (sym e ∙ not-true _ h))' % (name, name), '']
     for i, (k, a) in enumerate(tests[:-1]):
-        law = '%s-%d' % (name, i)
+        law = '%s_%d' % (name, i)
         names.append(law)
         if k == 'len':
-            out += ['  pub %s : {m : ℕ} → m ≡ length (fieldOf s %d %d) → (m ≡ %d → ⊥) → false ≡ readable %s s' % (law, n, i, a, ty),
-                    '  %s e h = sym (%s-fields s ∙ simp (← e, ne-eqb _ _ h, and-false))' % (law, name), '']
+            out += ['  pub %s : {m : ℕ} → m ≡ length (field_of s %d %d) → (m ≡ %d → ⊥) → false ≡ readable %s s' % (law, n, i, a, ty),
+                    '  %s e h = sym (%s_fields s ∙ simp (← e, ne_eqb _ _ h, and-false))' % (law, name), '']
         else:
-            out += ['  pub %s : {f : List ℕ} {r : Bool} → f ≡ fieldOf s %d %d → r ≡ readable %s f → not r ≡ true → false ≡ readable %s s' % (law, n, i, a, ty),
-                    '  %s g e h = sym (%s-fields s ∙ simp (← g, sym e ∙ not-true _ h, and-false))' % (law, name), '']
-    imp, pre, args, facts = ['{q r : Bool}'], ['q ≡ hasItems s %d' % n, 'not q ≡ false'], ['e', 'h'], ['sym e ∙ not-false _ h']
+            out += ['  pub %s : {f : List ℕ} {r : Bool} → f ≡ field_of s %d %d → r ≡ readable %s f → not r ≡ true → false ≡ readable %s s' % (law, n, i, a, ty),
+                    '  %s g e h = sym (%s_fields s ∙ simp (← g, sym e ∙ not-true _ h, and-false))' % (law, name), '']
+    imp, pre, args, facts = ['{q r : Bool}'], ['q ≡ has_items s %d' % n, 'not q ≡ false'], ['e', 'h'], ['sym e ∙ not-false _ h']
     back = []
     for i, (k, a) in enumerate(tests[:-1]):
         if k == 'len':
             imp.append('{m%d : ℕ}' % i)
-            pre += ['m%d ≡ length (fieldOf s %d %d)' % (i, n, i), 'm%d ≡ %d' % (i, a)]
+            pre += ['m%d ≡ length (field_of s %d %d)' % (i, n, i), 'm%d ≡ %d' % (i, a)]
             args += ['e%d' % i, 'h%d' % i]
             facts.append('eq-eqb _ _ (sym e%d ∙ h%d)' % (i, i))
         else:
             imp.append('{f%d : List ℕ} {q%d : Bool}' % (i, i))
-            pre += ['f%d ≡ fieldOf s %d %d' % (i, n, i), 'q%d ≡ readable %s f%d' % (i, a, i), 'not q%d ≡ false' % i]
+            pre += ['f%d ≡ field_of s %d %d' % (i, n, i), 'q%d ≡ readable %s f%d' % (i, a, i), 'not q%d ≡ false' % i]
             args += ['g%d' % i, 'e%d' % i, 'h%d' % i]
             back.append('← g%d' % i)
             facts.append('sym e%d ∙ not-false _ h%d' % (i, i))
@@ -90,20 +90,29 @@ def laws(name, ty, fields, tests):
     if k == 'len':
         imp[0] = '{q : Bool}'
         imp.append('{m%d : ℕ}' % i)
-        pre.append('m%d ≡ length (fieldOf s %d %d)' % (i, n, i))
+        pre.append('m%d ≡ length (field_of s %d %d)' % (i, n, i))
         args.append('e%d' % i)
         back.append('← e%d' % i)
         answer, end = 'eqb m%d %d' % (i, a), ''
     else:
         imp.append('{f%d : List ℕ}' % i)
-        pre += ['f%d ≡ fieldOf s %d %d' % (i, n, i), 'r ≡ readable %s f%d' % (a, i)]
+        pre += ['f%d ≡ field_of s %d %d' % (i, n, i), 'r ≡ readable %s f%d' % (a, i)]
         args += ['g%d' % i, 'e%d' % i]
         back.append('← g%d' % i)
         answer, end = 'r', ' (sym e%d)' % i
-    names.append(name + '-all')
-    out += ['  pub %s-all : %s → %s → %s ≡ readable %s s' % (name, ' '.join(imp), ' → '.join(pre), answer, ty),
-            '  %s-all %s = sym (%s-fields s ∙ simp (%s, and-true)%s)' % (name, ' '.join(args), name, ', '.join(back + facts), end), '']
+    names.append(name + '_all')
+    out += ['  pub %s_all : %s → %s → %s ≡ readable %s s' % (name, ' '.join(imp), ' → '.join(pre), answer, ty),
+            '  %s_all %s = sym (%s_fields s ∙ simp (%s, and-true)%s)' % (name, ' '.join(args), name, ', '.join(back + facts), end), '']
     return out, names
+
+
+def used(line, words):
+    """A line of the head, with those of its names that the laws use; nothing where there are none."""
+    if not line.startswith('use '):
+        return [line]
+    module, names = line[:-1].split('{')
+    names = [name for name in names.split(', ') if name.strip('◌') in words]
+    return ['%s{%s}' % (module, ', '.join(names))] if names else []
 
 
 for crate, what, types, tables in CRATES:
@@ -112,6 +121,7 @@ for crate, what, types, tables in CRATES:
         a, b = laws(*t)
         text += a
         names += b
-    head = HEAD % (what, '\n'.join('use ' + u for u in types))
-    open('crates/%s/proofs/TableLaws.antt' % crate, 'w').write(head + '\n'.join(text).rstrip() + '\n')
+    words = set(re.findall(r'[^\s(){},]+', '\n'.join(text)))
+    head = [kept for line in (HEAD % (what, '\n'.join('use ' + u for u in types))).split('\n') for kept in used(line, words)]
+    open('crates/%s/proofs/TableLaws.antt' % crate, 'w').write('\n'.join(head + text).rstrip() + '\n')
     print(', '.join(names))

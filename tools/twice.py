@@ -5,9 +5,8 @@
 
 Two laws of crates/*/proofs/*.antt are the same here if their statements are, with the parameters of the modules around them and up to the names of the variables
 that they bind; two definitions or records, there or in crates/*/specs/*.antt, if their clauses or fields are the same too. Statements of fewer than LENGTH characters (20
-where none is given) are left out, and so are what stands under a `where`, what APART names, and crates/reader, whose walks tools/reader_walks.py writes. Prints each group with its
-places, and how many there are. It goes by the text alone: it does not find two laws whose premises stand in another order, and it takes two things of one name for the
-same thing.
+where none is given) are left out, and so are what stands under a `where` and what APART names. Prints each group with its places, and how many there are. It goes by the
+text alone: it does not find two laws whose premises stand in another order, and it takes two things of one name for the same thing.
 """
 import glob, os, re, sys
 
@@ -51,7 +50,7 @@ def clauses(lines, i, deep, name, imported):
     out = []
     for line in body:
         left = line.split(' = ')[0] if line.startswith(name + ' ') else ''
-        words = [w for w in WORD.findall(left) if w not in imported and re.match(r"[a-z_][\w′₁₂₃₄-]*$", w)]
+        words = [w for w in WORD.findall(left) if w not in imported and re.match(r"[a-z_][\w'₁₂₃₄-]*$", w)]
         out.append(renamed(' '.join('§' if w == name else w for w in WORD.findall(line)), words))
     return ' | '.join(out)
 
@@ -59,7 +58,7 @@ def clauses(lines, i, deep, name, imported):
 def laws(path):
     """(text, name, line) of each law, definition and record of a file."""
     lines = open(path).read().split('\n')
-    imported = {w for l in lines if l.startswith('use ') for w in re.findall(r"[^\s{},.]+", l)}
+    imported = {w for l in lines if l.startswith('use ') for w in re.findall(r"[^\s{},]+", l.partition('{')[2] or l.split()[-1])}
     around, inside, i = [], None, 0
     while i < len(lines):
         line, deep = lines[i], indent(lines[i])
@@ -101,7 +100,7 @@ def main():
     for path in sorted(glob.glob(os.path.join(HERE, 'crates/*/proofs/*.antt')) + glob.glob(os.path.join(HERE, 'crates/*/specs/*.antt'))):
         short = os.path.relpath(path, HERE)
         for text, name, line in laws(path):
-            if len(text) >= least and not short.startswith('crates/reader/'):
+            if len(text) >= least:
                 groups.setdefault(text, []).append((short, line, name))
     twice = [(text, group) for text, group in groups.items() if len({path for path, _, _ in group}) > 1 and {name for _, _, name in group} not in APART]
     for text, group in twice:

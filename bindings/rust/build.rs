@@ -47,8 +47,15 @@ fn archive_folder() -> Result<PathBuf, String> {
     }
     let root = canonical(&Path::new(env!("CARGO_MANIFEST_DIR")).join("../.."))?;
     let folder = root.join("target/staticlib");
-    for decides in ["crates", "crates.txt", "tools/staticlib"] {
+    for decides in ["crates.txt", "tools/staticlib"] {
         println!("cargo:rerun-if-changed={}", root.join(decides).display());
+    }
+    // each crate's own folders: beside them lies out/, where rt keeps its work
+    for entry in root.join("crates").read_dir().map_err(|why| format!("crates: {why}"))? {
+        let entry = entry.map_err(|why| format!("crates: {why}"))?.path();
+        for part in ["src", "specs", "proofs"].map(|part| entry.join(part)).iter().filter(|part| part.is_dir()) {
+            println!("cargo:rerun-if-changed={}", part.display());
+        }
     }
     if folder.join(ARCHIVE).is_file() {
         warn_if_stale(&root);

@@ -129,7 +129,7 @@ fn crossing(kind: &str) -> &'static [&'static str] {
 fn library() -> BTreeMap<String, Vec<&'static str>> {
     let text = library_text();
     let mut found = BTreeMap::new();
-    for declaration in text.split("#[no_mangle]").skip(1) {
+    for declaration in text.split("#[unsafe(no_mangle)]").skip(1) {
         let declaration = declaration.trim_start().strip_prefix("pub extern \"C\" fn ").expect("a function for C");
         let (parameters, rest) = declaration.split_once('(').expect("parameters").1.split_once(')').expect("an end");
         let answer = rest.trim_start().strip_prefix("->").expect("an answer").split_whitespace().next().expect("a type");
