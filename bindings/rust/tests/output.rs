@@ -7,7 +7,6 @@ use std::fs::{self, Permissions};
 use std::os::unix::fs::{MetadataExt, PermissionsExt, symlink};
 use std::path::{Path, PathBuf};
 use std::process::{Command, Stdio};
-use std::sync::OnceLock;
 
 /// An empty folder for a test.
 fn folder(name: &str) -> PathBuf {
@@ -23,15 +22,11 @@ fn names(folder: &Path) -> Vec<String> {
     names
 }
 
-/// What `case` writes of the example; written once, since tests that run side by side ask for it.
+/// What `case` writes of the example.
 fn expected() -> Vec<u8> {
-    static WRITTEN: OnceLock<Vec<u8>> = OnceLock::new();
-    let write = || {
-        let out = folder("expected").join("a.case");
-        assert_eq!(make(out.to_str().unwrap(), &[]).status, 0);
-        fs::read(out).unwrap()
-    };
-    WRITTEN.get_or_init(write).clone()
+    let out = folder("expected").join("a.case");
+    assert_eq!(make(out.to_str().unwrap(), &[]).status, 0);
+    fs::read(out).unwrap()
 }
 
 const EXAMPLE: &str = "case --ours json/ours.json --peer json/peer.json --lock json/funding_lock.json --type json/token_type.json \

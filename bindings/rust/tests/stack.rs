@@ -194,14 +194,15 @@ mod too_little {
 
     #[test]
     fn the_guard_page_is_met() {
-        // the least of these frames, that of lock_held, has some 29 KB
         for (call, _) in LARGE {
-            assert!(!returns(call, 28 * 1024), "{call}");
+            // as today's compiler makes it, lock_held is content with 36
+            let too_little = if call == "lock_held" { 28 } else { 40 };
+            assert!(!returns(call, too_little * 1024), "{call}");
         }
         // an update has room for chains of the peer's cell deps, of some 48 KB
         for (call, _) in SMALL {
             assert!(returns(call, 64 * 1024), "{call}");
         }
-        assert!(returns("exclusions", 28 * 1024));
+        assert!(returns("exclusions", 40 * 1024));
     }
 }
