@@ -1,8 +1,10 @@
 -- Laws of specs/LittleEndian.antt: `le` and `to_le` are inverse, and one law for each way out of the functions that read and make numbers.
-use Rattle.std.proofs.Common.{◌≡◌, ℕ, zero, suc, ◌+◌, ◌-◌, ◌*◌, ◌/◌, ◌%◌, ◌^◌, ◌<◌, ◌≤◌, List, [], ◌∷◌, ◌++◌, length, get_or, take, drop, sym, refl, ap, ◌∙◌, ap₂, mul_assoc, mul_comm, one-mul, pow-suc, zero-add, add-one, arith, length-drop, length-take-le, drop-cons, drop-drop, take-add, le-leb}
-use native.Mathlib.Nat.{pow-zero}
+use Rattle.std.proofs.Common.{w32, ◌≡◌, ℕ, zero, suc, ◌+◌, ◌-◌, ◌*◌, ◌/◌, ◌%◌, ◌^◌, ◌<◌, ◌≤◌, List, [], ◌∷◌, ◌++◌, length, get_or, take, drop, sym, refl, ap, ◌∙◌, ap₂, mul_assoc, mul_comm, one-mul, pow-suc, zero-add, add-one, arith, length-drop, length-take-le, drop-cons, drop-drop, take-add, le-leb}
+use native.Mathlib.Nat.{pow-zero, div-div-eq-div-mul}
 use borrow.Author.Tests.{lt-leb}
 use lib.ListN.{get_or-eq_default}
+use Rattle.std.specs.Int.{byte_at, byte_worth, bytes_low_first, sum_through, from_le_bytes, to_le_bytes}
+use Rattle.std.proofs.Math.Seq.{take-suc}
 use Rattle.arithmetic.specs.LittleEndian.{le, to_le, AllBytes, num_at, u32_at, u64_at}
 
 pub length-to_le : (w n : ℕ) → length (to_le w n) ≡ w
@@ -91,11 +93,6 @@ u32_far s at h = num_none 4 s at (omega arith)
 pub u32_past : (s : List ℕ) (i : ℕ) → length s / 4 ≤ i → 0 ≡ u32_at s (4 * i)
 u32_past s i h = num_none 4 s (4 * i) (omega arith)
 
-pub u32_is : (s : List ℕ) (at : ℕ) {a b c d : ℕ} → at + 4 ≤ length s
-    → a ≡ get_or s at 0 → b ≡ get_or s (at + 1) 0 → c ≡ get_or s (at + 2) 0 → d ≡ get_or s (at + 3) 0 → a + 256 * (b + 256 * (c + 256 * d)) ≡ u32_at s at
-unfolding le
-u32_is s at {a} {b} {c} {d} n ea eb ec ed = rw (ea, eb, ec, ed) (sym (num_some 4 s at n ∙ ap le (four s at n) ∙ omega arith))
-
 -- ---- a number in two halves
 
 pub le-append : (xs ys : List ℕ) → le (xs ++ ys) ≡ le xs + 256 ^ length xs * le ys
@@ -125,14 +122,35 @@ u64_is s at h k ea eb =
     ∙ ap (λ (n : ℕ). le (take 4 (drop at s)) + 256 ^ n * le (take 4 (drop (at + 4) s))) (length-take-le 4 (drop at s) (simp length-drop (omega arith)))
     ∙ ap₂ (λ (a b : ℕ). a + 4294967296 * b) (sym (num_some 4 s at h₄)) (sym (num_some 4 s (at + 4) h₈))))
 
--- the bytes that u32_bytes and u64_bytes make
-pub four_bytes : (x : ℕ) → x % 256 ∷ x / 256 % 256 ∷ x / 256 / 256 % 256 ∷ x / 256 / 256 / 256 % 256 ∷ [] ≡ to_le 4 x
-unfolding to_le
-four_bytes x = refl
+-- ---- the library's words for bytes
 
-pub eight_bytes : (x : ℕ)
-    → x % 256 ∷ x / 256 % 256 ∷ x / 256 / 256 % 256 ∷ x / 256 / 256 / 256 % 256 ∷ x / 256 / 256 / 256 / 256 % 256
-    ∷ x / 256 / 256 / 256 / 256 / 256 % 256 ∷ x / 256 / 256 / 256 / 256 / 256 / 256 % 256
-    ∷ x / 256 / 256 / 256 / 256 / 256 / 256 / 256 % 256 ∷ [] ≡ to_le 8 x
+-- its bytes of a number, from byte i on
+low_first : (i w n : ℕ) → bytes_low_first i w n ≡ to_le w (n / 256 ^ i)
 unfolding to_le
-eight_bytes x = refl
+low_first i zero n = refl
+low_first zero (suc w) n = ap₂ ◌∷◌ (omega arith) (low_first 1 w n ∙ ap (to_le w) (omega arith))
+low_first (suc i) (suc w) n = ap (λ (l : List ℕ). n / 256 ^ suc i % 256 ∷ l) (low_first (suc (suc i)) w n ∙ ap (to_le w) (next (suc i)))
+  where
+    next : (j : ℕ) → n / 256 ^ suc j ≡ n / 256 ^ j / 256
+    next j = ap (λ (m : ℕ). n / m) (pow-suc 256 j) ∙ sym (div-div-eq-div-mul n (256 ^ j) 256)
+
+pub bytes-of : (w n : ℕ) {r : List ℕ} → r ≡ bytes_low_first 0 w n → r ≡ to_le w n
+bytes-of w n e = e ∙ low_first 0 w n ∙ ap (to_le w) (omega arith)
+
+-- its number of the first k + 1 bytes
+sum-le : (s : List ℕ) (k : ℕ) → k < length s → sum_through (λ (i : ℕ). byte_worth i (get_or s i 0)) k ≡ le (take (suc k) s)
+unfolding le
+sum-le [] zero h = omega arith
+sum-le (b ∷ s) zero h = omega arith
+sum-le s (suc k) h =
+    rw (take-suc s (suc k) 0 h)
+    (ap (λ (n : ℕ). n + get_or s (suc k) 0 * 256 ^ suc k) (sum-le s k (omega arith))
+    ∙ sym (le-append (take (suc k) s) (get_or s (suc k) 0 ∷ []) ∙ rw (length-take-le (suc k) s (omega arith)) (omega arith)))
+
+pub number-of : (s : List ℕ) (k : ℕ) {r : ℕ} → k < length s → r ≡ sum_through (λ (i : ℕ). byte_worth i (get_or s i 0)) k → r ≡ le (take (suc k) s)
+number-of s k h e = e ∙ sum-le s k h
+
+pub u32_is : (s : List ℕ) (at : ℕ) {r : ℕ} → at + 4 ≤ length s
+    → r ≡ from_le_bytes w32 (get_or s at 0 ∷ get_or s (at + 1) 0 ∷ get_or s (at + 2) 0 ∷ get_or s (at + 3) 0 ∷ []) → r ≡ u32_at s at
+unfolding le
+u32_is s at n e = e ∙ sym (num_some 4 s at n ∙ ap le (four s at n) ∙ omega arith)

@@ -6,18 +6,7 @@ ghost use Rattle.arithmetic.specs.LittleEndian.{to_le, u32_at, u64_at};
 pub fn byte(s: &[u8], at: usize) -> u8
     ensures { result ≡ slice_index s.now at }
 {
-    if at < s.len() {
-        return s[at];
-    }
-    0
-}
-
-// The byte at `at`, where there is one.
-fn get(s: &[u8], at: usize) -> u8
-    requires { at + 1 ≤ length s.now }
-    ensures { result ≡ slice_index s.now at }
-{
-    s[at]
+    if at < s.len() { s[at] } else { 0 }
 }
 
 // The u32 of the four bytes at `at`. Its callers have one test of the length each, and no byte is tested for itself.
@@ -25,22 +14,14 @@ fn four(s: &[u8], at: usize) -> u32
     requires { at + 4 ≤ length s.now }
     ensures { result ≡ u32_at s.now at }
 {
-    let a = get(s, at) as u32;
-    let b = get(s, at + 1) as u32;
-    let c = get(s, at + 2) as u32;
-    let d = get(s, at + 3) as u32;
-    a + 256 * (b + 256 * (c + 256 * d))
+    u32::from_le_bytes([s[at], s[at + 1], s[at + 2], s[at + 3]])
 }
 
 // The u32 at `at`, and 0 where fewer than 4 bytes stand there.
 pub fn u32_at(s: &[u8], at: usize) -> u32
     ensures { result ≡ u32_at s.now at }
 {
-    let n = s.len();
-    if n < 4 {
-        return 0;
-    }
-    if n - 4 < at {
+    if s.len() < 4 || s.len() - 4 < at {
         return 0;
     }
     four(s, at)
@@ -60,42 +41,22 @@ pub fn u32_of(s: &[u8], i: usize) -> u32
 pub fn u64_at(s: &[u8], at: usize) -> u64
     ensures { result ≡ u64_at s.now at }
 {
-    let n = s.len();
-    if n < 8 {
+    if s.len() < 8 || s.len() - 8 < at {
         return 0;
     }
-    if n - 8 < at {
-        return 0;
-    }
-    let low = u32_at(s, at) as u64;
-    let high = u32_at(s, at + 4) as u64;
-    low + 4294967296 * high
+    u64::from(u32_at(s, at)) + 0x1_0000_0000 * u64::from(u32_at(s, at + 4))
 }
 
 // The bytes of a u32.
 pub fn u32_bytes(x: u32) -> [u8; 4]
     ensures { result ≡ to_le 4 x }
 {
-    [
-        (x % 256) as u8,
-        (x / 256 % 256) as u8,
-        (x / 256 / 256 % 256) as u8,
-        (x / 256 / 256 / 256 % 256) as u8,
-    ]
+    x.to_le_bytes()
 }
 
 // The bytes of a u64.
 pub fn u64_bytes(x: u64) -> [u8; 8]
     ensures { result ≡ to_le 8 x }
 {
-    [
-        (x % 256) as u8,
-        (x / 256 % 256) as u8,
-        (x / 256 / 256 % 256) as u8,
-        (x / 256 / 256 / 256 % 256) as u8,
-        (x / 256 / 256 / 256 / 256 % 256) as u8,
-        (x / 256 / 256 / 256 / 256 / 256 % 256) as u8,
-        (x / 256 / 256 / 256 / 256 / 256 / 256 % 256) as u8,
-        (x / 256 / 256 / 256 / 256 / 256 / 256 / 256 % 256) as u8,
-    ]
+    x.to_le_bytes()
 }

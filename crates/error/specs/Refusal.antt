@@ -1,6 +1,6 @@
 -- The refusals of the table in docs/RULES.md, "A peer's update arrives": the number of each, and the values that it carries, in their order.
-use Rattle.std.specs.Prelude.{ℕ, List, [], ◌∷◌}
-use Rattle.error.specs.declared.{Refusal.Refusal, Answer.Answer}
+use Rattle.std.specs.Prelude.{ℕ, List, [], ◌∷◌, Result, Ok, Err, codes}
+use Rattle.error.specs.declared.{Refusal.Refusal}
 
 unfoldable pub number : Refusal → ℕ
 -- entry: our bytes unreadable
@@ -54,6 +54,24 @@ values Refusal.TooManyHolds = []
 values Refusal.TooManyExclusions = []
 
 -- an answer's number: 0 where the call is done
-unfoldable pub answered : Answer → ℕ
-answered Answer.Done = 0
-answered (Answer.Refused why) = number why
+unfoldable pub answered : {T : Type 0} → Result T Refusal → ℕ
+answered (Ok _) = 0
+answered (Err why) = number why
+
+-- the sentence of each, for people
+unfoldable pub sentence : Refusal → List ℕ
+sentence Refusal.OurTransactionUnreadable = codes "our own transaction's bytes are no transaction"
+sentence Refusal.PeerTransactionUnreadable = codes "the peer's bytes are no transaction"
+sentence Refusal.LentBytesUnreadable = codes "a lent script, list, record, hash or table is unreadable, the records are not one for each added input, or there is no such list or item"
+sentence Refusal.PeerFundingTxExceedsLimit = codes "the peer's transaction is over the size limit, or adds too many inputs, outputs or cell deps"
+sentence Refusal.InvalidPeerFundingTx = codes "the peer's funding transaction is invalid"
+sentence (Refusal.PeerInputUsesOurFundingLock index) = codes "an input that the peer added spends a cell under our own source lock"
+sentence Refusal.OverflowError = codes "a figure, or a sum of figures, is too wide"
+sentence (Refusal.PeerFundingFeeTooLow paid required rate size) = codes "the fee is too low"
+sentence Refusal.InsufficientCells = codes "the token cells ended before their total reached the wanted amount"
+sentence Refusal.TokenTotalOverflow = codes "the total of the picked token cells is 2^128 or more"
+sentence Refusal.MissingCellDep = codes "tokens were picked, and the token's cell deps or the lock's were not supplied"
+sentence Refusal.TokenCellDataTooShort = codes "a token cell's data is under 16 bytes"
+sentence Refusal.BufferTooShort = codes "the result is over the lent buffer, or over 133,116 bytes"
+sentence Refusal.TooManyHolds = codes "the call would leave more than 256 hold records"
+sentence Refusal.TooManyExclusions = codes "the call would leave more than 64 excluded transactions or 512 out points"

@@ -1,50 +1,43 @@
-// Why a request is refused: the numbers 1 to 15, with the values that each carries.
-#![tactic(auto)]
+// Why a request is refused: the numbers 1 to 15, with the values that each carries, and its sentence for people.
+#![tactic(auto, using(crate::proofs::Ways::ways), unfolding(crate::specs::Refusal::sentence, crate::specs::Refusal::number, crate::specs::Refusal::values, crate::specs::Refusal::answered))]
 
-ghost use Rattle.std.specs.Prelude.{◌≡◌, length, get_or};
-ghost use Rattle.error.specs.Refusal.{number, values, answered};
+ghost use Rattle.std.specs.Prelude.{◌≡◌, length, get_or, Some};
+ghost use Rattle.error.specs.Refusal.{number, values, answered, sentence};
 
-// A refusal. The comment on each case begins with its sentence for people.
-#[derive(Clone, Copy)]
+use std::error::Error;
+use std::fmt;
+
+// A refusal.
+#[derive(Clone, Copy, Debug, PartialEq, Eq, Hash)]
 pub enum Refusal {
-    /// Our own transaction's bytes are no transaction.
     OurTransactionUnreadable,
-    /// The peer's bytes are no transaction.
     PeerTransactionUnreadable,
-    /// A lent script, list, record, hash or table is unreadable, the records are not one for each added input, or there is no such list or item.
     LentBytesUnreadable,
-    /// The peer's transaction is over the size limit, or adds too many inputs, outputs or cell deps.
     PeerFundingTxExceedsLimit,
-    /// The peer's funding transaction is invalid.
     InvalidPeerFundingTx,
-    /// An input that the peer added spends a cell under our own source lock. With its index among all inputs.
+    /// With its index among all inputs.
     PeerInputUsesOurFundingLock {
         input_index: usize,
     },
-    /// A figure, or a sum of figures, is too wide.
     OverflowError,
-    /// The fee is too low. With the fee paid and the one that the rate requires for a transaction of this size, in shannons.
+    /// With the fee paid and the one that the rate requires for a transaction of this size, in shannons.
     PeerFundingFeeTooLow {
         peer_fee: u64,
         required_fee: u64,
         funding_fee_rate: u64,
         tx_size: u64,
     },
-    /// The token cells ended before their total reached the wanted amount.
     InsufficientCells,
-    /// The total of the picked token cells is 2^128 or more.
     TokenTotalOverflow,
-    /// Tokens were picked, and the token's cell deps or the lock's were not supplied.
     MissingCellDep,
-    /// A token cell's data is under 16 bytes.
     TokenCellDataTooShort,
-    /// The result is over the lent buffer, or over 133,116 bytes.
     BufferTooShort,
-    /// The call would leave more than 256 hold records.
     TooManyHolds,
-    /// The call would leave more than 64 excluded transactions or 512 out points.
     TooManyExclusions,
 }
+
+// What a call answers that changes a table or fills a lent buffer.
+pub type Answer = Result<(), Refusal>;
 
 impl Refusal {
     // Its number for programs.
@@ -57,14 +50,9 @@ impl Refusal {
             Refusal::LentBytesUnreadable => 3,
             Refusal::PeerFundingTxExceedsLimit => 4,
             Refusal::InvalidPeerFundingTx => 5,
-            Refusal::PeerInputUsesOurFundingLock { input_index: _ } => 6,
+            Refusal::PeerInputUsesOurFundingLock { .. } => 6,
             Refusal::OverflowError => 7,
-            Refusal::PeerFundingFeeTooLow {
-                peer_fee: _,
-                required_fee: _,
-                funding_fee_rate: _,
-                tx_size: _,
-            } => 8,
+            Refusal::PeerFundingFeeTooLow { .. } => 8,
             Refusal::InsufficientCells => 9,
             Refusal::TokenTotalOverflow => 10,
             Refusal::MissingCellDep => 11,
@@ -80,26 +68,9 @@ impl Refusal {
         ensures { result ≡ length (values self) }
     {
         match self {
-            Refusal::OurTransactionUnreadable => 0,
-            Refusal::PeerTransactionUnreadable => 0,
-            Refusal::LentBytesUnreadable => 0,
-            Refusal::PeerFundingTxExceedsLimit => 0,
-            Refusal::InvalidPeerFundingTx => 0,
-            Refusal::PeerInputUsesOurFundingLock { input_index: _ } => 1,
-            Refusal::OverflowError => 0,
-            Refusal::PeerFundingFeeTooLow {
-                peer_fee: _,
-                required_fee: _,
-                funding_fee_rate: _,
-                tx_size: _,
-            } => 4,
-            Refusal::InsufficientCells => 0,
-            Refusal::TokenTotalOverflow => 0,
-            Refusal::MissingCellDep => 0,
-            Refusal::TokenCellDataTooShort => 0,
-            Refusal::BufferTooShort => 0,
-            Refusal::TooManyHolds => 0,
-            Refusal::TooManyExclusions => 0,
+            Refusal::PeerInputUsesOurFundingLock { .. } => 1,
+            Refusal::PeerFundingFeeTooLow { .. } => 4,
+            _ => 0,
         }
     }
 
@@ -108,56 +79,69 @@ impl Refusal {
         ensures { result ≡ get_or (values self) i 0 }
     {
         match self {
-            Refusal::OurTransactionUnreadable => 0,
-            Refusal::PeerTransactionUnreadable => 0,
-            Refusal::LentBytesUnreadable => 0,
-            Refusal::PeerFundingTxExceedsLimit => 0,
-            Refusal::InvalidPeerFundingTx => 0,
-            Refusal::PeerInputUsesOurFundingLock { input_index } => {
-                if i == 0 {
-                    return input_index as u64;
-                }
-                0
-            }
-            Refusal::OverflowError => 0,
+            Refusal::PeerInputUsesOurFundingLock { input_index } if i == 0 => input_index as u64,
             Refusal::PeerFundingFeeTooLow {
                 peer_fee,
                 required_fee,
                 funding_fee_rate,
                 tx_size,
-            } => {
-                let values = [peer_fee, required_fee, funding_fee_rate, tx_size];
-                if i < 4 {
-                    return values[i];
-                }
-                0
+            } if i < 4 => [peer_fee, required_fee, funding_fee_rate, tx_size][i],
+            _ => 0,
+        }
+    }
+
+    // Its sentence for people.
+    pub fn sentence(self) -> &'static str
+        ensures { result.now ≡ sentence self }
+    {
+        match self {
+            Refusal::OurTransactionUnreadable => "our own transaction's bytes are no transaction",
+            Refusal::PeerTransactionUnreadable => "the peer's bytes are no transaction",
+            Refusal::LentBytesUnreadable => {
+                "a lent script, list, record, hash or table is unreadable, the records are not one for each added input, or there is no such list or item"
             }
-            Refusal::InsufficientCells => 0,
-            Refusal::TokenTotalOverflow => 0,
-            Refusal::MissingCellDep => 0,
-            Refusal::TokenCellDataTooShort => 0,
-            Refusal::BufferTooShort => 0,
-            Refusal::TooManyHolds => 0,
-            Refusal::TooManyExclusions => 0,
+            Refusal::PeerFundingTxExceedsLimit => {
+                "the peer's transaction is over the size limit, or adds too many inputs, outputs or cell deps"
+            }
+            Refusal::InvalidPeerFundingTx => "the peer's funding transaction is invalid",
+            Refusal::PeerInputUsesOurFundingLock { .. } => {
+                "an input that the peer added spends a cell under our own source lock"
+            }
+            Refusal::OverflowError => "a figure, or a sum of figures, is too wide",
+            Refusal::PeerFundingFeeTooLow { .. } => "the fee is too low",
+            Refusal::InsufficientCells => {
+                "the token cells ended before their total reached the wanted amount"
+            }
+            Refusal::TokenTotalOverflow => "the total of the picked token cells is 2^128 or more",
+            Refusal::MissingCellDep => {
+                "tokens were picked, and the token's cell deps or the lock's were not supplied"
+            }
+            Refusal::TokenCellDataTooShort => "a token cell's data is under 16 bytes",
+            Refusal::BufferTooShort => "the result is over the lent buffer, or over 133,116 bytes",
+            Refusal::TooManyHolds => "the call would leave more than 256 hold records",
+            Refusal::TooManyExclusions => {
+                "the call would leave more than 64 excluded transactions or 512 out points"
+            }
         }
     }
 }
 
-// What a call answers that changes a table or fills a lent buffer.
-#[derive(Clone, Copy)]
-pub enum Answer {
-    Done,
-    Refused(Refusal),
+impl fmt::Display for Refusal {
+    ghost output = { λ r. Some (sentence r) };
+
+    fn fmt<W: fmt::Write>(&self, f: &mut fmt::Formatter<W>) -> fmt::Result {
+        f.write_str(self.sentence())
+    }
 }
 
-impl Answer {
-    // Its number for programs, 0 where the call is done.
-    pub fn number(self) -> u8
-        ensures { result ≡ answered self }
-    {
-        match self {
-            Answer::Done => 0,
-            Answer::Refused(why) => why.number(),
-        }
+impl Error for Refusal {}
+
+// An answer's number for programs, 0 where the call is done.
+pub fn number<T: Drop>(answer: Result<T, Refusal>) -> u8
+    ensures { result ≡ answered answer }
+{
+    match answer {
+        Ok(_) => 0,
+        Err(why) => why.number(),
     }
 }

@@ -1,172 +1,126 @@
 // Units as types of their own: a shannon figure meets no token figure in a sum, and milliseconds no block number.
-#![tactic(auto)]
+#![tactic(auto, using(crate::proofs::Ways::ways), unfolding(crate::specs::Units::capped_sum, crate::specs::Units::later, crate::specs::Units::is_at_least, crate::specs::Fee::required_fee, crate::specs::Fee::change_capacity))]
 
 pub mod fee;
 
-ghost use Rattle.std.specs.Prelude.{◌≡◌};
-ghost use Rattle.arithmetic.specs.Amount.{amount_of, sum, difference, is_less, is_same, is_zero, amount_at};
-ghost use Rattle.units.specs.Units.{in_shannons, in_tokens, checked_shannons, checked_tokens, tokens_read, capped_sum, later, is_before, is_at_least};
+ghost use Rattle.std.specs.Prelude.{◌≡◌, ℕ};
+ghost use Rattle.std.specs.Option.{option_map};
+ghost use Rattle.arithmetic.specs.Amount.{sum, difference, amount_at};
+ghost use Rattle.units.specs.Units.{in_shannons, in_tokens, capped_sum, later, is_at_least};
 
-use arithmetic::{Amount, AmountRead, CheckedAmount};
+use arithmetic::amount;
+
+// A figure of 128 bits in a unit: figures of one unit are added, taken from one another and compared, and no others.
+pub trait Figure: Copy {
+    // How many they are, and so many.
+    ghost count: { Self → ℕ };
+
+    ghost of: { ℕ → Self };
+
+    fn new(n: u128) -> Self
+        ensures { result ≡ of n };
+
+    fn count(self) -> u128
+        ensures { result ≡ count self };
+
+    // The sum, where it is below 2^128.
+    final fn checked_add(self, other: Self) -> Option<Self>
+        ensures { result ≡ option_map of (sum (count self) (count other)) }
+    {
+        self.count()
+            .checked_add(other.count())
+            .map(|n| Self::new(n))
+    }
+
+    // The difference, where it is not below 0.
+    final fn checked_sub(self, other: Self) -> Option<Self>
+        ensures { result ≡ option_map of (difference (count self) (count other)) }
+    {
+        self.count()
+            .checked_sub(other.count())
+            .map(|n| Self::new(n))
+    }
+}
 
 // CKB's unit of capacity: 100,000,000 are one CKByte.
-#[derive(Clone, Copy)]
-pub struct Shannons(pub Amount);
-
-// The answer of a sum or a difference of shannons, or of a figure that CKB holds in 64 bits.
-#[derive(Clone, Copy)]
-pub enum CheckedShannons {
-    Fits(Shannons),
-    Overflow,
-}
+#[derive(Clone, Copy, Debug, Default, PartialEq, Eq, PartialOrd, Ord, Hash)]
+pub struct Shannons(pub u128);
 
 // An amount of a token (RFC 0025).
-#[derive(Clone, Copy)]
-pub struct Tokens(pub Amount);
-
-// The answer of a sum or a difference of tokens.
-#[derive(Clone, Copy)]
-pub enum CheckedTokens {
-    Fits(Tokens),
-    Overflow,
-}
-
-// What reading a token amount finds: `Short` where fewer than 16 bytes stand there.
-#[derive(Clone, Copy)]
-pub enum TokensRead {
-    Tokens(Tokens),
-    Short,
-}
+#[derive(Clone, Copy, Debug, Default, PartialEq, Eq, PartialOrd, Ord, Hash)]
+pub struct Tokens(pub u128);
 
 // A time, or a span of time, in milliseconds.
-#[derive(Clone, Copy)]
+#[derive(Clone, Copy, Debug, Default, PartialEq, Eq, PartialOrd, Ord, Hash)]
 pub struct Millis(pub u64);
 
 // The number of a block.
-#[derive(Clone, Copy)]
+#[derive(Clone, Copy, Debug, Default, PartialEq, Eq, PartialOrd, Ord, Hash)]
 pub struct BlockNumber(pub u64);
 
+impl Figure for Shannons {
+    ghost count = { λ s. s.0 };
+
+    ghost of = { in_shannons };
+
+    fn new(n: u128) -> Shannons {
+        Shannons(n)
+    }
+
+    fn count(self) -> u128 {
+        self.0
+    }
+}
+
+impl Figure for Tokens {
+    ghost count = { λ t. t.0 };
+
+    ghost of = { in_tokens };
+
+    fn new(n: u128) -> Tokens {
+        Tokens(n)
+    }
+
+    fn count(self) -> u128 {
+        self.0
+    }
+}
+
+impl From<u64> for Shannons {
+    ghost from_gives = { λ x s. s ≡ in_shannons x };
+
+    fn from(x: u64) -> Shannons {
+        Shannons(u128::from(x))
+    }
+}
+
+impl From<u64> for Tokens {
+    ghost from_gives = { λ x t. t ≡ in_tokens x };
+
+    fn from(x: u64) -> Tokens {
+        Tokens(u128::from(x))
+    }
+}
+
 impl Shannons {
-    pub const ZERO: Shannons = Shannons(Amount::ZERO);
-
-    pub fn zero() -> Shannons
-        ensures { result ≡ in_shannons (amount_of 0) }
-    {
-        Shannons::ZERO
-    }
-
-    pub fn from_u64(x: u64) -> Shannons
-        ensures { result ≡ in_shannons (amount_of x) }
-    {
-        Shannons(Amount::from_u64(x))
-    }
-
-    pub fn checked_add(self, other: Shannons) -> CheckedShannons
-        ensures { result ≡ checked_shannons (sum self.0 other.0) }
-    {
-        match self.0.checked_add(other.0) {
-            CheckedAmount::Fits(total) => CheckedShannons::Fits(Shannons(total)),
-            CheckedAmount::Overflow => CheckedShannons::Overflow,
-        }
-    }
+    pub const ZERO: Shannons = Shannons(0);
 
     // The sum, and the greatest amount where that is wider: a sum of capacities of 64 bits never is.
     pub fn saturating_add(self, other: Shannons) -> Shannons
         ensures { result ≡ capped_sum self other }
     {
-        match self.0.checked_add(other.0) {
-            CheckedAmount::Fits(total) => Shannons(total),
-            CheckedAmount::Overflow => Shannons(Amount::MAX),
-        }
-    }
-
-    pub fn checked_sub(self, other: Shannons) -> CheckedShannons
-        ensures { result ≡ checked_shannons (difference self.0 other.0) }
-    {
-        match self.0.checked_sub(other.0) {
-            CheckedAmount::Fits(rest) => CheckedShannons::Fits(Shannons(rest)),
-            CheckedAmount::Overflow => CheckedShannons::Overflow,
-        }
-    }
-
-    pub fn less(self, other: Shannons) -> bool
-        ensures { result ≡ is_less self.0 other.0 }
-    {
-        self.0.less(other.0)
-    }
-
-    pub fn same(self, other: Shannons) -> bool
-        ensures { result ≡ is_same self.0 other.0 }
-    {
-        self.0.same(other.0)
-    }
-
-    pub fn is_zero(self) -> bool
-        ensures { result ≡ is_zero self.0 }
-    {
-        self.0.is_zero()
+        Shannons(self.0.saturating_add(other.0))
     }
 }
 
 impl Tokens {
-    pub const ZERO: Tokens = Tokens(Amount::ZERO);
-
-    pub fn zero() -> Tokens
-        ensures { result ≡ in_tokens (amount_of 0) }
-    {
-        Tokens::ZERO
-    }
-
-    pub fn from_u64(x: u64) -> Tokens
-        ensures { result ≡ in_tokens (amount_of x) }
-    {
-        Tokens(Amount::from_u64(x))
-    }
-
-    pub fn checked_add(self, other: Tokens) -> CheckedTokens
-        ensures { result ≡ checked_tokens (sum self.0 other.0) }
-    {
-        match self.0.checked_add(other.0) {
-            CheckedAmount::Fits(total) => CheckedTokens::Fits(Tokens(total)),
-            CheckedAmount::Overflow => CheckedTokens::Overflow,
-        }
-    }
-
-    pub fn checked_sub(self, other: Tokens) -> CheckedTokens
-        ensures { result ≡ checked_tokens (difference self.0 other.0) }
-    {
-        match self.0.checked_sub(other.0) {
-            CheckedAmount::Fits(rest) => CheckedTokens::Fits(Tokens(rest)),
-            CheckedAmount::Overflow => CheckedTokens::Overflow,
-        }
-    }
-
-    pub fn less(self, other: Tokens) -> bool
-        ensures { result ≡ is_less self.0 other.0 }
-    {
-        self.0.less(other.0)
-    }
-
-    pub fn same(self, other: Tokens) -> bool
-        ensures { result ≡ is_same self.0 other.0 }
-    {
-        self.0.same(other.0)
-    }
-
-    pub fn is_zero(self) -> bool
-        ensures { result ≡ is_zero self.0 }
-    {
-        self.0.is_zero()
-    }
+    pub const ZERO: Tokens = Tokens(0);
 
     // The amount of the first 16 bytes of a cell's data.
-    pub fn from_le_bytes(s: &[u8]) -> TokensRead
-        ensures { result ≡ tokens_read (amount_at s.now) }
+    pub fn from_le_bytes(s: &[u8]) -> Option<Tokens>
+        ensures { result ≡ option_map in_tokens (amount_at s.now) }
     {
-        match Amount::from_le_bytes(s) {
-            AmountRead::Amount(a) => TokensRead::Tokens(Tokens(a)),
-            AmountRead::Short => TokensRead::Short,
-        }
+        amount::from_le_bytes(s).map(Tokens)
     }
 }
 
@@ -175,17 +129,7 @@ impl Millis {
     pub fn saturating_add(self, wait: Millis) -> Millis
         ensures { result ≡ later self wait }
     {
-        if u64::MAX - self.0 < wait.0 {
-            return Millis(u64::MAX);
-        }
-        Millis(self.0 + wait.0)
-    }
-
-    // Whether this is earlier than another.
-    pub fn before(self, other: Millis) -> bool
-        ensures { result ≡ is_before self other }
-    {
-        self.0 < other.0
+        Millis(self.0.saturating_add(wait.0))
     }
 }
 
@@ -194,9 +138,6 @@ impl BlockNumber {
     pub fn at_least(self, start: BlockNumber, blocks: u64) -> bool
         ensures { result ≡ is_at_least self start blocks }
     {
-        if self.0 < blocks {
-            return false;
-        }
-        start.0 <= self.0 - blocks
+        blocks <= self.0 && start.0 <= self.0 - blocks
     }
 }

@@ -1,11 +1,6 @@
-use Rattle.arithmetic.proofs.Ways.{ways}
+use Rattle.std.proofs.Common.{◌∙◌}
+use Rattle.arithmetic.proofs.LittleEndianLaws.{u64_is}
 use Rattle.arithmetic.proofs.little_endian.u64_at.Goals as goal
 
-pub returns-then-n-lt8 : goal.returns-then-n-lt8
-returns-then-n-lt8 c = search ways
-
-pub returns-then-n-at : goal.returns-then-n-at
-returns-then-n-at c = search ways
-
 pub returns : goal.returns
-returns c = search ways
+returns c = u64_is c.args.s.now c.args.at c.if-s-lt8.false c.if-s-at.false (c.from.ensures ∙ c.u32_at.ensures) (c.from-2.ensures ∙ c.u32_at-2.ensures)

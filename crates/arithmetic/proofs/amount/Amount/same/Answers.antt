@@ -1,8 +1,0 @@
-use Rattle.arithmetic.proofs.Ways.{ways}
-use Rattle.arithmetic.proofs.amount.Amount.same.Goals as goal
-
-pub returns-then-self-other : goal.returns-then-self-other
-returns-then-self-other c = search ways
-
-pub returns : goal.returns
-returns c = search ways
