@@ -1,3 +1,2 @@
 pub mod Added
-pub mod Answers
 pub mod Paid

@@ -4,19 +4,13 @@ ghost use Rattle.units.specs.Units.{shannon_count};
 ghost use Rattle.rules.specs.Cells.{record_cell};
 ghost use Rattle.rules.specs.Surplus.{total, capacity_of};
 ghost use Rattle.rules.specs.Judge.{covered};
+ghost use Rattle.rules.specs.Told.{told_by};
 ghost use Rattle.accounts.specs.Added.{cells_from};
-ghost use Rattle.accounts.specs.Answers.{in_capacity};
 
+use arithmetic::amount;
 use error::Refusal;
 use transaction::fields;
-use units::{CheckedShannons, Shannons};
-
-// What is left in capacity, or why the update is refused.
-#[derive(Clone, Copy)]
-pub enum CapacitySurplus {
-    Is(Shannons),
-    Refused(Refusal),
-}
+use units::{Figure, Shannons};
 
 // The capacity of a record's cell.
 pub fn record_capacity(resolved: &[u8]) -> Shannons
@@ -33,12 +27,10 @@ fn added_capacity(outputs: &[u8], first: usize) -> Shannons
 {
     let n = molecule::item_count(outputs) as usize;
     let mut sum = Shannons::ZERO;
-    let mut i = first;
-    while i < n {
+    for i in first..n {
         let o = molecule::item(outputs, i);
         let x = fields::capacity(o);
         sum = sum.saturating_add(x);
-        i += 1;
     }
     sum
 }
@@ -51,30 +43,24 @@ fn cover(
     put: Shannons,
     rate: u64,
     size: u64,
-) -> CapacitySurplus
-    ensures { in_capacity result ≡ covered opening (shannon_count gained) (shannon_count grown + shannon_count put) rate size }
+) -> Result<Shannons, Refusal>
+    ensures { told_by shannon_count result ≡ covered opening (shannon_count gained) (shannon_count grown + shannon_count put) rate size }
 {
-    let rest = match gained.checked_sub(grown) {
-        CheckedShannons::Fits(rest) => rest,
-        CheckedShannons::Overflow => return CapacitySurplus::Refused(Refusal::InvalidPeerFundingTx),
-    };
-    let left = match rest.checked_sub(put) {
-        CheckedShannons::Fits(left) => left,
-        CheckedShannons::Overflow => return CapacitySurplus::Refused(Refusal::InvalidPeerFundingTx),
-    };
+    let rest = gained.checked_sub(grown).ok_or(Refusal::InvalidPeerFundingTx)?;
+    let left = rest.checked_sub(put).ok_or(Refusal::InvalidPeerFundingTx)?;
     if !opening {
-        return CapacitySurplus::Is(left);
+        return Ok(left);
     }
     let fee = units::fee::required_fee(rate, size);
-    if left.less(fee) {
-        return CapacitySurplus::Refused(Refusal::PeerFundingFeeTooLow {
-            peer_fee: left.0.capped_u64(),
-            required_fee: fee.0.capped_u64(),
+    if left < fee {
+        return Err(Refusal::PeerFundingFeeTooLow {
+            peer_fee: amount::capped_u64(left.0),
+            required_fee: amount::capped_u64(fee.0),
             funding_fee_rate: rate,
             tx_size: size,
         });
     }
-    CapacitySurplus::Is(left)
+    Ok(left)
 }
 
 // The surplus in capacity of what was gained, with output 0 grown by so much and the outputs from index `first` on added.
@@ -86,8 +72,8 @@ pub fn surplus(
     first: usize,
     rate: u64,
     size: u64,
-) -> CapacitySurplus
-    ensures { in_capacity result ≡ covered opening (shannon_count gained) (shannon_count grown + total capacity_of (cells_from outputs.now [] first)) rate size }
+) -> Result<Shannons, Refusal>
+    ensures { told_by shannon_count result ≡ covered opening (shannon_count gained) (shannon_count grown + total capacity_of (cells_from outputs.now [] first)) rate size }
 {
     let put = added_capacity(outputs, first);
     cover(opening, gained, grown, put, rate, size)

@@ -1,20 +1,21 @@
 // The two accounts of an update, in capacity and in the expected token: what is left of what the peer's added inputs bring in over the growth of output 0 and
 // the outputs that it added.
-#![tactic(auto)]
+#![tactic(auto, using(crate::proofs::Ways::ways))]
 
 pub mod capacity;
 pub mod token;
 
 ghost use Rattle.std.specs.Prelude.{◌≡◌, max};
+ghost use Rattle.std.specs.Option.{option_map};
 ghost use Rattle.arithmetic.specs.Amount.{amount_at};
-ghost use Rattle.units.specs.Units.{tokens_read};
+ghost use Rattle.units.specs.Units.{in_tokens};
 ghost use Rattle.molecule.specs.Layout.{item_count};
 
-use units::{Tokens, TokensRead};
+use units::Tokens;
 
 // The token amount that a cell's data begins with (RFC 0025).
-pub fn read_udt_amount(d: &[u8]) -> TokensRead
-    ensures { result ≡ tokens_read (amount_at d.now) }
+pub fn read_udt_amount(d: &[u8]) -> Option<Tokens>
+    ensures { result ≡ option_map in_tokens (amount_at d.now) }
 {
     Tokens::from_le_bytes(d)
 }
@@ -23,9 +24,5 @@ pub fn read_udt_amount(d: &[u8]) -> TokensRead
 pub fn added_peer_outputs(outputs: &[u8]) -> usize
     ensures { result ≡ max 1 (item_count outputs.now) }
 {
-    let n = molecule::item_count(outputs) as usize;
-    if n == 0 {
-        return 1;
-    }
-    n
+    (molecule::item_count(outputs) as usize).max(1)
 }

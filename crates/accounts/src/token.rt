@@ -1,130 +1,103 @@
-// The account of the expected token.
+// The account of the expected token. A sum of tokens is refused with 5 where an amount is under 16 bytes or too few tokens are brought in, and with 7 where it
+// is too wide.
 ghost use Rattle.std.specs.Prelude.{◌≡◌, true, List, ℕ};
 ghost use Rattle.units.specs.Units.{token_count};
 ghost use Rattle.rules.specs.Cells.{record_cell};
 ghost use Rattle.rules.specs.Surplus.{is_of};
 ghost use Rattle.rules.specs.Judge.{counted, tally, settled};
+ghost use Rattle.rules.specs.Told.{told_by};
 ghost use Rattle.accounts.specs.Added.{cell_in, cells_from};
-ghost use Rattle.accounts.specs.Answers.{in_tokens};
 ghost use Rattle.accounts.specs.Paid.{and_cell, tokens_left};
 
+use error::Refusal;
 use transaction::fields;
-use units::{CheckedTokens, Tokens, TokensRead};
-
-// A sum of tokens. `Invalid` is the refusal 5, for an amount under 16 bytes or too few tokens brought in; `Overflow` is 7.
-#[derive(Clone, Copy)]
-pub enum TokenSum {
-    Is(Tokens),
-    Invalid,
-    Overflow,
-}
+use units::{Figure, Tokens};
 
 // A sum with the amount of one more cell of the type that is asked for, whatever that is; d is its data.
-fn add_amount(d: &[u8], sum: Tokens) -> TokenSum
-    ensures { (type o : List ℕ) → is_of type (record { output = o; cell_data = d.now }) ≡ true → in_tokens result ≡ counted type (token_count sum) (record { output = o; cell_data = d.now }) }
+fn add_amount(d: &[u8], sum: Tokens) -> Result<Tokens, Refusal>
+    ensures { (type o : List ℕ) → is_of type (record { output = o; cell_data = d.now }) ≡ true → told_by token_count result ≡ counted type (token_count sum) (record { output = o; cell_data = d.now }) }
 {
-    let amount = match crate::read_udt_amount(d) {
-        TokensRead::Tokens(amount) => amount,
-        TokensRead::Short => return TokenSum::Invalid,
-    };
-    match sum.checked_add(amount) {
-        CheckedTokens::Fits(total) => TokenSum::Is(total),
-        CheckedTokens::Overflow => TokenSum::Overflow,
-    }
+    let amount = crate::read_udt_amount(d).ok_or(Refusal::InvalidPeerFundingTx)?;
+    sum.checked_add(amount).ok_or(Refusal::OverflowError)
 }
 
 // A sum, if there is one so far, with the tokens of a record; a cell of another type may hold any data.
-pub fn add_record(udt: &[u8], resolved: &[u8], paid: TokenSum) -> TokenSum
-    ensures { in_tokens result ≡ and_cell udt.now (in_tokens paid) (record_cell resolved.now) }
+pub fn add_record(
+    udt: &[u8],
+    resolved: &[u8],
+    paid: Result<Tokens, Refusal>,
+) -> Result<Tokens, Refusal>
+    ensures { told_by token_count result ≡ and_cell udt.now (told_by token_count paid) (record_cell resolved.now) }
 {
-    let sum = match paid {
-        TokenSum::Is(sum) => sum,
-        TokenSum::Invalid => return TokenSum::Invalid,
-        TokenSum::Overflow => return TokenSum::Overflow,
-    };
+    let sum = paid?;
     let o = fields::record_output(resolved);
     let t = fields::type_script(o);
     if !lists::same_script(udt, t) {
-        return TokenSum::Is(sum);
+        return Ok(sum);
     }
     let d = fields::record_data(resolved);
     add_amount(d, sum)
 }
 
 // A sum with the tokens of output i of a list of outputs, whose entry stands in a list of data.
-fn add_output(udt: &[u8], outputs: &[u8], entries: &[u8], i: usize, sum: Tokens) -> TokenSum
-    ensures { in_tokens result ≡ counted udt.now (token_count sum) (cell_in outputs.now entries.now i) }
+fn add_output(
+    udt: &[u8],
+    outputs: &[u8],
+    entries: &[u8],
+    i: usize,
+    sum: Tokens,
+) -> Result<Tokens, Refusal>
+    ensures { told_by token_count result ≡ counted udt.now (token_count sum) (cell_in outputs.now entries.now i) }
 {
     let o = molecule::item(outputs, i);
     let t = fields::type_script(o);
     if !lists::same_script(udt, t) {
-        return TokenSum::Is(sum);
+        return Ok(sum);
     }
     let d = molecule::entry(entries, i);
     add_amount(d, sum)
 }
 
 // The tokens of the outputs from index `first` on.
-fn added_tokens(udt: &[u8], outputs: &[u8], entries: &[u8], first: usize) -> TokenSum
-    ensures { in_tokens result ≡ tally udt.now 0 (cells_from outputs.now entries.now first) }
+fn added_tokens(
+    udt: &[u8],
+    outputs: &[u8],
+    entries: &[u8],
+    first: usize,
+) -> Result<Tokens, Refusal>
+    ensures { told_by token_count result ≡ tally udt.now 0 (cells_from outputs.now entries.now first) }
 {
     let n = molecule::item_count(outputs) as usize;
     let mut sum = Tokens::ZERO;
-    let mut i = first;
-    while i < n {
-        match add_output(udt, outputs, entries, i, sum) {
-            TokenSum::Is(total) => {
-                sum = total;
-            }
-            TokenSum::Invalid => {
-                return TokenSum::Invalid;
-            }
-            TokenSum::Overflow => {
-                return TokenSum::Overflow;
-            }
-        }
-        i += 1;
+    for i in first..n {
+        sum = add_output(udt, outputs, entries, i, sum)?;
     }
-    TokenSum::Is(sum)
+    Ok(sum)
 }
 
 // What is left of what the records brought in over growth and added outputs.
-fn settle(grown: Tokens, put: Tokens, gained: Tokens) -> TokenSum
-    ensures { in_tokens result ≡ settled (token_count grown) (token_count put) (token_count gained) }
+fn settle(grown: Tokens, put: Tokens, gained: Tokens) -> Result<Tokens, Refusal>
+    ensures { told_by token_count result ≡ settled (token_count grown) (token_count put) (token_count gained) }
 {
-    let needed = match grown.checked_add(put) {
-        CheckedTokens::Fits(needed) => needed,
-        CheckedTokens::Overflow => return TokenSum::Overflow,
-    };
-    match gained.checked_sub(needed) {
-        CheckedTokens::Fits(left) => TokenSum::Is(left),
-        CheckedTokens::Overflow => TokenSum::Invalid,
-    }
+    let needed = grown.checked_add(put).ok_or(Refusal::OverflowError)?;
+    gained.checked_sub(needed).ok_or(Refusal::InvalidPeerFundingTx)
 }
 
 // The surplus in tokens of what the records brought in, with output 0 grown by so much and the outputs from index `first` on added; 0 when untyped.
 pub fn surplus(
     udt: &[u8],
-    paid: TokenSum,
+    paid: Result<Tokens, Refusal>,
     grown: Tokens,
     outputs: &[u8],
     entries: &[u8],
     first: usize,
-) -> TokenSum
-    ensures { in_tokens result ≡ tokens_left udt.now (token_count grown) (in_tokens paid) (cells_from outputs.now entries.now first) }
+) -> Result<Tokens, Refusal>
+    ensures { told_by token_count result ≡ tokens_left udt.now (token_count grown) (told_by token_count paid) (cells_from outputs.now entries.now first) }
 {
-    if udt.len() == 0 {
-        return TokenSum::Is(Tokens::ZERO);
+    if udt.is_empty() {
+        return Ok(Tokens::ZERO);
     }
-    let gained = match paid {
-        TokenSum::Is(gained) => gained,
-        TokenSum::Invalid => return TokenSum::Invalid,
-        TokenSum::Overflow => return TokenSum::Overflow,
-    };
-    let put = match added_tokens(udt, outputs, entries, first) {
-        TokenSum::Is(put) => put,
-        TokenSum::Invalid => return TokenSum::Invalid,
-        TokenSum::Overflow => return TokenSum::Overflow,
-    };
+    let gained = paid?;
+    let put = added_tokens(udt, outputs, entries, first)?;
     settle(grown, put, gained)
 }

@@ -1,19 +1,27 @@
 -- The paper's number and values for each answer (docs/RULES.md, "The form each place takes").
+use Rattle.std.specs.Prelude.{Result, Ok, Err}
 use Rattle.units.specs.Units.{shannon_count, token_count}
 use Rattle.error.specs.declared.Refusal.{Refusal}
 use Rattle.error.specs.Refusal.{number, values}
-use Rattle.rules.specs.declared.Update.{Update}
+use Rattle.rules.specs.declared.Surplus.{Surplus}
 use Rattle.rules.specs.Outcome.{Outcome, fine, refused}
 use Rattle.rules.specs.Judge.{Figures}
 
 abbrev pub refusal : {A : Type 0} → Refusal → Outcome A
 refusal e = refused (number e) (values e)
 
-abbrev pub told : Update → Outcome Figures
-told (Update.Accepted capacity token) = fine (record { capacity = shannon_count capacity; token = token_count token })
-told (Update.Refused e) = refusal e
+-- what a call answers, with its value in numbers
+abbrev pub told_by : {T A : Type 0} → (T → A) → Result T Refusal → Outcome A
+told_by f (Ok x) = fine (f x)
+told_by f (Err e) = refusal e
+
+abbrev pub figures : Surplus → Figures
+figures s = record { capacity = shannon_count s.capacity; token = token_count s.token }
+
+abbrev pub told : Result Surplus Refusal → Outcome Figures
+told = told_by figures
 
 -- which of two is in force after an answer: the peer's after an acceptance, ours after a refusal
-abbrev pub in_force_of {ℓ} : {A : Type ℓ} → Update → A → A → A
-in_force_of (Update.Accepted capacity token) ours peer = peer
-in_force_of (Update.Refused e) ours peer = ours
+abbrev pub in_force_of {ℓ} : {A : Type ℓ} → Result Surplus Refusal → A → A → A
+in_force_of (Ok s) ours peer = peer
+in_force_of (Err e) ours peer = ours

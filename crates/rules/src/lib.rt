@@ -4,9 +4,12 @@
 use error::Refusal;
 use units::{Shannons, Tokens};
 
-// An acceptance carries the capacity surplus and the token surplus (0 when untyped), a refusal its number and values.
-#[derive(Clone, Copy)]
-pub enum Update {
-    Accepted { capacity: Shannons, token: Tokens },
-    Refused(Refusal),
+// What an acceptance carries: the surplus in capacity and in the token (0 when untyped).
+#[derive(Clone, Copy, Debug, Default, PartialEq, Eq, Hash)]
+pub struct Surplus {
+    pub capacity: Shannons,
+    pub token: Tokens,
 }
+
+// A refusal carries its number and values.
+pub type Update = Result<Surplus, Refusal>;

@@ -8,9 +8,7 @@ use mathlib.Core.List.{List, []}
 use lib.ListN.{get_or}
 use Rattle.arithmetic.specs.LittleEndian.{AllBytes, u32_at, u64_at}
 use Rattle.units.specs.declared.Shannons.{Shannons}
-use Rattle.arithmetic.specs.Amount.{amount_of}
 use Rattle.units.specs.Units.{in_shannons, shannon_count}
-use Rattle.units.proofs.CountLaws.{shannons-of}
 use Rattle.molecule.specs.Layout.{part, inside, field_of, field_start, item_count, item_of, item_start, fix_count, fix_item, fix_start, content, content_start, entry_of, entry_start}
 use Rattle.molecule.proofs.LayoutLaws.{inside-twice, bytes_field, no_field}
 use Rattle.transaction.specs.Tx.{raw_field, raw_start, witnesses_of, args_of, capacity_of, lock_of, type_of, previous_output_of, first_of, data_of}
@@ -87,15 +85,12 @@ module _ (s : List ℕ) where
 
   -- ---- an output
 
-  pub capacity-below : {x : ℕ} {r : Shannons} → Fits w64 x → r ≡ in_shannons (amount_of x) → shannon_count r < 2 ^ 64
-  capacity-below {x} {r} h e = by (shannon_count r) x (ap shannon_count e ∙ shannons-of x) h.fits
-    where
-      by : (n x : ℕ) → n ≡ x → x < 2 ^ 64 → n < 2 ^ 64
-      by n x e h = omega arith
+  pub capacity-below : {x : ℕ} {r : Shannons} → Fits w64 x → r ≡ in_shannons x → shannon_count r < 2 ^ 64
+  capacity-below {x} {r} h e = let k : shannon_count r ≡ x = ap shannon_count e in omega (arith, h.fits)
 
-  pub capacity-is : {f : List ℕ} {x : ℕ} {r : Shannons} → f ≡ field_of s 3 0 → x ≡ u64_at f 0 → r ≡ in_shannons (amount_of x) → r ≡ in_shannons (amount_of (capacity_of s))
+  pub capacity-is : {f : List ℕ} {x y : ℕ} {r : Shannons} → f ≡ field_of s 3 0 → x ≡ u64_at f 0 → y ≡ x → r ≡ in_shannons y → r ≡ in_shannons (capacity_of s)
   unfolding capacity_of
-  capacity-is e g h = h ∙ ap (λ (n : ℕ). in_shannons (amount_of n)) (rw e at g)
+  capacity-is e g k h = h ∙ ap in_shannons (k ∙ rw e at g)
 
   pub lock-is : {f : List ℕ} → f ≡ field_of s 3 1 → f ≡ lock_of s
   unfolding lock_of

@@ -2,7 +2,6 @@
 // handed back is a stretch of the lent bytes: the first clause says which bytes, the second where in the lent slice they start.
 ghost use Rattle.std.specs.Prelude.{◌≡◌, ◌+◌, ◌^◌, ◌<◌, get_or};
 ghost use Rattle.arithmetic.specs.LittleEndian.{u32_at, u64_at};
-ghost use Rattle.arithmetic.specs.Amount.{amount_of};
 ghost use Rattle.units.specs.Units.{in_shannons, shannon_count};
 ghost use Rattle.molecule.specs.Layout.{part, part_start, inside, field_of, field_start, item_count, item_of, item_start, fix_count, fix_item, fix_start, content_start, entry_of, entry_start};
 ghost use Rattle.transaction.specs.Tx.{raw_field, raw_start, witnesses_of, tx_at, args_of, capacity_of, lock_of, type_of, previous_output_of, first_of, data_of};
@@ -220,11 +219,11 @@ pub fn args(script: &[u8]) -> &[u8]
 
 // The capacity, a number of 64 bits.
 pub fn capacity(output: &[u8]) -> Shannons
-    ensures value { result ≡ in_shannons (amount_of (capacity_of output.now)) }
+    ensures value { result ≡ in_shannons (capacity_of output.now) }
     ensures result_bound { shannon_count result < 2 ^ 64 }
 {
     let f = molecule::field(output, 3, 0);
-    Shannons::from_u64(little_endian::u64_at(f, 0))
+    Shannons(u128::from(little_endian::u64_at(f, 0)))
 }
 
 // The lock.

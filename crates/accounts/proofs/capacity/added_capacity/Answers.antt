@@ -1,9 +1,6 @@
 use Rattle.accounts.proofs.Ways.{ways}
 use Rattle.accounts.proofs.capacity.added_capacity.Goals as goal
 
-pub loop-i-init : goal.loop-i-init
-loop-i-init c = search ways
-
 pub loop-i-preserved : goal.loop-i-preserved
 loop-i-preserved c = search ways
 

@@ -7,6 +7,3 @@ use Rattle.accounts.proofs.capacity.added_capacity.Given as goal
 
 abbrev pub invariant-loop-i : goal.invariant-loop-i
 invariant-loop-i l = Sums (cell_in l.outputs []) l.n l.i l.sum (total capacity_of (cells_from l.outputs [] l.first))
-
-abbrev pub decreases-loop-i : goal.decreases-loop-i
-decreases-loop-i l = l.n - l.i

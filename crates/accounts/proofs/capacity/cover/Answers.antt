@@ -1,17 +1,28 @@
-use Rattle.accounts.proofs.Ways.{ways}
+use Rattle.std.proofs.Common.{rules, arith}
+use Rattle.std.proofs.lemmas.Grind.{common_steps}
+use Rattle.error.specs.Refusal.{number, values}
+use Rattle.arithmetic.specs.Amount.{difference}
+use Rattle.units.specs.Fee.{required_fee}
+use Rattle.rules.specs.Outcome.{check, check_with, ◌>>◌}
+use Rattle.rules.specs.Judge.{covered}
 use Rattle.accounts.proofs.capacity.cover.Goals as goal
 
-pub returns-in-Overflow : goal.returns-in-Overflow
-returns-in-Overflow c = search ways
+pub returns-in_err-rest : goal.returns-in_err-rest
+unfolding covered check check_with ◌>>◌ number values difference
+returns-in_err-rest c = grind (arith, common_steps)
 
-pub returns-in-Overflow-checked_sub : goal.returns-in-Overflow-checked_sub
-returns-in-Overflow-checked_sub c = search ways
+pub returns-in_err-left : goal.returns-in_err-left
+unfolding covered check check_with ◌>>◌ number values difference
+returns-in_err-left c = grind (arith, common_steps)
 
 pub returns-then-not-opening : goal.returns-then-not-opening
-returns-then-not-opening c = search ways
+unfolding covered check check_with ◌>>◌ number values difference
+returns-then-not-opening c = grind (arith, common_steps)
 
-pub returns-then-less : goal.returns-then-less
-returns-then-less c = search ways
+pub returns-then-lt : goal.returns-then-lt
+unfolding covered check check_with ◌>>◌ number values difference required_fee
+returns-then-lt c = grind (arith, common_steps)
 
 pub returns : goal.returns
-returns c = search ways
+unfolding covered check check_with ◌>>◌ number values difference required_fee
+returns c = grind (arith, common_steps)

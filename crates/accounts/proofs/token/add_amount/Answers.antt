@@ -1,11 +1,16 @@
-use Rattle.accounts.proofs.Ways.{ways}
+use Rattle.std.proofs.Common.{rules, arith}
+use Rattle.std.proofs.lemmas.Grind.{common_steps}
+use Rattle.error.specs.Refusal.{number, values}
+use Rattle.arithmetic.specs.Amount.{sum, amount_at}
+use Rattle.rules.specs.Outcome.{check, check_with, ◌>>◌}
+use Rattle.rules.specs.Surplus.{has_amount, amount_of}
+use Rattle.rules.specs.Judge.{counted}
 use Rattle.accounts.proofs.token.add_amount.Goals as goal
 
-pub returns-in-Short : goal.returns-in-Short
-returns-in-Short c = search ways
+pub returns-in_err-amount : goal.returns-in_err-amount
+unfolding counted check check_with ◌>>◌ number values amount_at has_amount amount_of
+returns-in_err-amount c type o e = grind (arith, common_steps)
 
-pub returns-in-Fits : goal.returns-in-Fits
-returns-in-Fits c = search ways
-
-pub returns-in-Overflow : goal.returns-in-Overflow
-returns-in-Overflow c = search ways
+pub returns : goal.returns
+unfolding counted check check_with ◌>>◌ number values sum amount_at has_amount amount_of
+returns c type o e = grind (arith, common_steps)

@@ -1,16 +1,19 @@
-use Rattle.std.proofs.Common.{rules}
-use Rattle.accounts.proofs.TokenLaws.{record_other, record_amount}
-use Rattle.accounts.proofs.Ways.{ways}
+use Rattle.std.proofs.Common.{arith}
+use Rattle.std.proofs.lemmas.Grind.{common_steps}
+use Rattle.rules.specs.Outcome.{◌>>=◌}
+use Rattle.rules.specs.Surplus.{is_of}
+use Rattle.rules.specs.Judge.{counted}
+use Rattle.accounts.specs.Paid.{and_cell}
 use Rattle.accounts.proofs.token.add_record.Goals as goal
 
-pub returns-in-Invalid : goal.returns-in-Invalid
-returns-in-Invalid c = search ways
-
-pub returns-in-Overflow : goal.returns-in-Overflow
-returns-in-Overflow c = search ways
+pub returns-in_err-sum : goal.returns-in_err-sum
+unfolding and_cell ◌>>=◌
+returns-in_err-sum c = grind (arith, common_steps)
 
 pub returns-then-not-same_script : goal.returns-then-not-same_script
-returns-then-not-same_script c = search (rules, record_other)
+unfolding and_cell ◌>>=◌ counted is_of
+returns-then-not-same_script c = grind (arith, common_steps)
 
 pub returns : goal.returns
-returns c = search (rules, record_amount)
+unfolding and_cell ◌>>=◌ is_of
+returns c = grind (arith, common_steps, c.add_amount.ensures c.args.udt.now c.record_output-o.result.now)

@@ -6,6 +6,3 @@ use Rattle.accounts.proofs.token.added_tokens.Given as goal
 
 abbrev pub invariant-loop-i : goal.invariant-loop-i
 invariant-loop-i l = Tally l.udt (cell_in l.outputs l.entries) l.n l.i l.sum (tally l.udt 0 (cells_from l.outputs l.entries l.first))
-
-abbrev pub decreases-loop-i : goal.decreases-loop-i
-decreases-loop-i l = l.n - l.i

@@ -1,11 +1,15 @@
-use Rattle.accounts.proofs.Ways.{ways}
+use Rattle.std.proofs.Common.{rules, arith}
+use Rattle.std.proofs.lemmas.Grind.{common_steps}
+use Rattle.error.specs.Refusal.{number, values}
+use Rattle.arithmetic.specs.Amount.{sum, difference}
+use Rattle.rules.specs.Outcome.{check, check_with, ◌>>◌}
+use Rattle.rules.specs.Judge.{settled}
 use Rattle.accounts.proofs.token.settle.Goals as goal
 
-pub returns-in-Overflow : goal.returns-in-Overflow
-returns-in-Overflow c = search ways
+pub returns-in_err-needed : goal.returns-in_err-needed
+unfolding settled check check_with ◌>>◌ number values sum
+returns-in_err-needed c = grind (arith, common_steps)
 
-pub returns-in-Fits-checked_sub : goal.returns-in-Fits-checked_sub
-returns-in-Fits-checked_sub c = search ways
-
-pub returns-in-Overflow-checked_sub : goal.returns-in-Overflow-checked_sub
-returns-in-Overflow-checked_sub c = search ways
+pub returns : goal.returns
+unfolding settled check check_with ◌>>◌ number values sum difference
+returns c = grind (arith, common_steps)

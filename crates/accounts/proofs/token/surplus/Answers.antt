@@ -1,20 +1,23 @@
-use Rattle.accounts.proofs.Ways.{ways}
+use Rattle.std.proofs.Common.{arith}
+use Rattle.std.proofs.lemmas.Grind.{common_steps}
+use Rattle.rules.specs.Outcome.{◌>>=◌}
+use Rattle.rules.specs.Surplus.{is_empty}
+use Rattle.accounts.specs.Paid.{tokens_left}
+use Rattle.rules.proofs.CellLaws.{empty-is}
 use Rattle.accounts.proofs.token.surplus.Goals as goal
 
-pub returns-then-udt-eq0 : goal.returns-then-udt-eq0
-returns-then-udt-eq0 c = search ways
+pub returns-then-is_empty : goal.returns-then-is_empty
+unfolding tokens_left is_empty
+returns-then-is_empty c = grind (arith, common_steps)
 
-pub returns-in-Invalid : goal.returns-in-Invalid
-returns-in-Invalid c = search ways
+pub returns-in_err-gained : goal.returns-in_err-gained
+unfolding tokens_left ◌>>=◌ is_empty
+returns-in_err-gained c = grind (arith, common_steps)
 
-pub returns-in-Overflow : goal.returns-in-Overflow
-returns-in-Overflow c = search ways
-
-pub returns-in-Invalid-added_tokens : goal.returns-in-Invalid-added_tokens
-returns-in-Invalid-added_tokens c = search ways
-
-pub returns-in-Overflow-added_tokens : goal.returns-in-Overflow-added_tokens
-returns-in-Overflow-added_tokens c = search ways
+pub returns-in_err-put : goal.returns-in_err-put
+unfolding tokens_left ◌>>=◌ is_empty
+returns-in_err-put c = grind (arith, common_steps)
 
 pub returns : goal.returns
-returns c = search ways
+unfolding tokens_left ◌>>=◌ is_empty
+returns c = grind (arith, common_steps)
