@@ -46,7 +46,9 @@ fn cover(
 ) -> Result<Shannons, Refusal>
     ensures { told_by shannon_count result ≡ covered opening (shannon_count gained) (shannon_count grown + shannon_count put) rate size }
 {
-    let rest = gained.checked_sub(grown).ok_or(Refusal::InvalidPeerFundingTx)?;
+    let rest = gained
+        .checked_sub(grown)
+        .ok_or(Refusal::InvalidPeerFundingTx)?;
     let left = rest.checked_sub(put).ok_or(Refusal::InvalidPeerFundingTx)?;
     if !opening {
         return Ok(left);

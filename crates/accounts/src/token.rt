@@ -59,12 +59,7 @@ fn add_output(
 }
 
 // The tokens of the outputs from index `first` on.
-fn added_tokens(
-    udt: &[u8],
-    outputs: &[u8],
-    entries: &[u8],
-    first: usize,
-) -> Result<Tokens, Refusal>
+fn added_tokens(udt: &[u8], outputs: &[u8], entries: &[u8], first: usize) -> Result<Tokens, Refusal>
     ensures { told_by token_count result ≡ tally udt.now 0 (cells_from outputs.now entries.now first) }
 {
     let n = molecule::item_count(outputs) as usize;
@@ -80,7 +75,9 @@ fn settle(grown: Tokens, put: Tokens, gained: Tokens) -> Result<Tokens, Refusal>
     ensures { told_by token_count result ≡ settled (token_count grown) (token_count put) (token_count gained) }
 {
     let needed = grown.checked_add(put).ok_or(Refusal::OverflowError)?;
-    gained.checked_sub(needed).ok_or(Refusal::InvalidPeerFundingTx)
+    gained
+        .checked_sub(needed)
+        .ok_or(Refusal::InvalidPeerFundingTx)
 }
 
 // The surplus in tokens of what the records brought in, with output 0 grown by so much and the outputs from index `first` on added; 0 when untyped.

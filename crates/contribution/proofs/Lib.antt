@@ -1,3 +1,2 @@
 pub mod AccountLaws
-pub mod FirstLaws
 pub mod Ways

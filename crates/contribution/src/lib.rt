@@ -1,5 +1,5 @@
 // What the peer put in: the growth of output 0, the cells that its inputs spend, and the outputs that it added.
-#![tactic(auto)]
+#![tactic(auto, using(crate::proofs::Ways::ways))]
 
 ghost use Rattle.std.specs.Prelude.{◌≡◌, List, ℕ, ◌+◌, length};
 ghost use Rattle.units.specs.Units.{shannon_count, token_count};
@@ -7,32 +7,22 @@ ghost use Rattle.transaction.specs.Tx.{tx_at, raw_field};
 ghost use Rattle.rules.specs.Cells.{cells};
 ghost use Rattle.rules.specs.Surplus.{first, added, capacity_of};
 ghost use Rattle.rules.specs.Judge.{token_delta, funding_output_delta, unfunded};
-ghost use Rattle.rules.specs.Told.{told};
+ghost use Rattle.rules.specs.Told.{told, told_by};
 ghost use Rattle.accounts.specs.Added.{cells_from};
-ghost use Rattle.accounts.specs.Answers.{in_tokens};
-ghost use Rattle.contribution.specs.Answers.{amount, first_amount, rise, delta};
+ghost use Rattle.contribution.specs.Answers.{amount, first_amount, delta};
 ghost use Rattle.contribution.specs.Contributed.{accounts_over, contributed};
 
-use accounts::capacity::CapacitySurplus;
-use accounts::token::TokenSum;
 use accounts::{capacity, token};
 use error::Refusal;
-use rules::Update;
+use rules::{Surplus, Update};
 use transaction::fields;
-use units::{CheckedShannons, CheckedTokens, Shannons, Tokens, TokensRead};
+use units::{Figure, Shannons, Tokens};
 
-// By how much output 0 grows, in tokens only where a type is expected. `Invalid` is the refusal 5.
-#[derive(Clone, Copy)]
-enum OutputDelta {
-    Grows { capacity: Shannons, token: Tokens },
-    Invalid,
-}
-
-// The same in tokens alone: `Invalid` where an amount can't be read, or it falls.
-#[derive(Clone, Copy)]
-enum TokenDelta {
-    Grows(Tokens),
-    Invalid,
+// By how much output 0 grows, in tokens only where a type is expected.
+#[derive(Clone, Copy, Debug, PartialEq, Eq, Hash)]
+struct Growth {
+    capacity: Shannons,
+    token: Tokens,
 }
 
 // ---- output 0, by the lists of outputs and of their data: each contract is of every transaction that has these lists
@@ -49,37 +39,28 @@ fn first_capacity(outputs: &[u8]) -> Shannons
 }
 
 // Its amount, if that can be read; absent counts 0.
-fn first_amount(outputs: &[u8], entries: &[u8]) -> TokensRead
+fn first_amount(outputs: &[u8], entries: &[u8]) -> Option<Tokens>
     ensures { (tx : List ℕ) → outputs.now ≡ raw_field tx 4 → entries.now ≡ raw_field tx 5 → amount result ≡ first_amount (tx_at tx) }
 {
     if molecule::item_count(outputs) == 0 {
-        return TokensRead::Tokens(Tokens::ZERO);
+        return Some(Tokens::ZERO);
     }
     let d = molecule::entry(entries, 0);
     accounts::read_udt_amount(d)
 }
 
-// By how many tokens it grows, from the first two lists to the others.
+// By how many tokens it grows, from the first two lists to the others: 5 where an amount can't be read, or it falls.
 fn token_delta(
     before: &[u8],
     entries_before: &[u8],
     after: &[u8],
     entries_after: &[u8],
-) -> TokenDelta
-    ensures { (ours peer : List ℕ) → before.now ≡ raw_field ours 4 → entries_before.now ≡ raw_field ours 5 → after.now ≡ raw_field peer 4 → entries_after.now ≡ raw_field peer 5 → rise result ≡ token_delta (tx_at ours) (tx_at peer) }
+) -> Result<Tokens, Refusal>
+    ensures { (ours peer : List ℕ) → before.now ≡ raw_field ours 4 → entries_before.now ≡ raw_field ours 5 → after.now ≡ raw_field peer 4 → entries_after.now ≡ raw_field peer 5 → told_by token_count result ≡ token_delta (tx_at ours) (tx_at peer) }
 {
-    let a = match first_amount(before, entries_before) {
-        TokensRead::Tokens(a) => a,
-        TokensRead::Short => return TokenDelta::Invalid,
-    };
-    let b = match first_amount(after, entries_after) {
-        TokensRead::Tokens(b) => b,
-        TokensRead::Short => return TokenDelta::Invalid,
-    };
-    match b.checked_sub(a) {
-        CheckedTokens::Fits(token) => TokenDelta::Grows(token),
-        CheckedTokens::Overflow => TokenDelta::Invalid,
-    }
+    let a = first_amount(before, entries_before).ok_or(Refusal::InvalidPeerFundingTx)?;
+    let b = first_amount(after, entries_after).ok_or(Refusal::InvalidPeerFundingTx)?;
+    b.checked_sub(a).ok_or(Refusal::InvalidPeerFundingTx)
 }
 
 // How much it grows: it and its data are there, and neither figure falls.
@@ -89,31 +70,23 @@ fn funding_output_delta(
     after: &[u8],
     entries_after: &[u8],
     udt: &[u8],
-) -> OutputDelta
+) -> Result<Growth, Refusal>
     ensures { (ours peer : List ℕ) → before.now ≡ raw_field ours 4 → entries_before.now ≡ raw_field ours 5 → after.now ≡ raw_field peer 4 → entries_after.now ≡ raw_field peer 5 → delta result ≡ funding_output_delta udt.now (tx_at ours) (tx_at peer) }
 {
-    if molecule::item_count(after) == 0 {
-        return OutputDelta::Invalid;
-    }
-    if molecule::item_count(entries_after) == 0 {
-        return OutputDelta::Invalid;
+    if molecule::item_count(after) == 0 || molecule::item_count(entries_after) == 0 {
+        return Err(Refusal::InvalidPeerFundingTx);
     }
     let a = first_capacity(before);
     let b = first_capacity(after);
-    let capacity = match b.checked_sub(a) {
-        CheckedShannons::Fits(c) => c,
-        CheckedShannons::Overflow => return OutputDelta::Invalid,
-    };
-    if udt.len() == 0 {
-        return OutputDelta::Grows {
+    let capacity = b.checked_sub(a).ok_or(Refusal::InvalidPeerFundingTx)?;
+    if udt.is_empty() {
+        return Ok(Growth {
             capacity,
             token: Tokens::ZERO,
-        };
+        });
     }
-    match token_delta(before, entries_before, after, entries_after) {
-        TokenDelta::Grows(token) => OutputDelta::Grows { capacity, token },
-        TokenDelta::Invalid => OutputDelta::Invalid,
-    }
+    let token = token_delta(before, entries_before, after, entries_after)?;
+    Ok(Growth { capacity, token })
 }
 
 // ---- the account
@@ -122,10 +95,7 @@ fn funding_output_delta(
 fn is_unfunded(ours: &[u8], outputs: &[u8]) -> bool
     ensures { outputs.now ≡ raw_field ours.now 4 → result ≡ unfunded (tx_at ours.now) }
 {
-    if fields::input_count(ours) != 0 {
-        return false;
-    }
-    molecule::item_count(outputs) == 0
+    fields::input_count(ours) == 0 && molecule::item_count(outputs) == 0
 }
 
 // What is left of what the records brought in over the growth of output 0 and the outputs from index `first` on, in capacity and in tokens.
@@ -135,24 +105,18 @@ fn surpluses(
     rate: u64,
     size: u64,
     gained: Shannons,
-    paid: TokenSum,
+    paid: Result<Tokens, Refusal>,
     grown: Shannons,
     risen: Tokens,
     outputs: &[u8],
     entries: &[u8],
     first: usize,
 ) -> Update
-    ensures { told result ≡ accounts_over udt.now opening (shannon_count gained) (in_tokens paid) (cells_from outputs.now entries.now first) rate size (shannon_count grown) (token_count risen) }
+    ensures { told result ≡ accounts_over udt.now opening (shannon_count gained) (told_by token_count paid) (cells_from outputs.now entries.now first) rate size (shannon_count grown) (token_count risen) }
 {
-    let capacity = match capacity::surplus(opening, gained, grown, outputs, first, rate, size) {
-        CapacitySurplus::Is(c) => c,
-        CapacitySurplus::Refused(e) => return Update::Refused(e),
-    };
-    match token::surplus(udt, paid, risen, outputs, entries, first) {
-        TokenSum::Is(token) => Update::Accepted { capacity, token },
-        TokenSum::Invalid => Update::Refused(Refusal::InvalidPeerFundingTx),
-        TokenSum::Overflow => Update::Refused(Refusal::OverflowError),
-    }
+    let capacity = capacity::surplus(opening, gained, grown, outputs, first, rate, size)?;
+    let token = token::surplus(udt, paid, risen, outputs, entries, first)?;
+    Ok(Surplus { capacity, token })
 }
 
 // The account of an update in which output 0 has grown by so much: `before` is the list of our outputs, `after` and `entries` are the peer's and their data.
@@ -162,14 +126,14 @@ fn account(
     udt: &[u8],
     rate: u64,
     gained: Shannons,
-    paid: TokenSum,
+    paid: Result<Tokens, Refusal>,
     grown: Shannons,
     risen: Tokens,
     before: &[u8],
     after: &[u8],
     entries: &[u8],
 ) -> Update
-    ensures { before.now ≡ raw_field ours.now 4 → after.now ≡ raw_field peer.now 4 → entries.now ≡ raw_field peer.now 5 → told result ≡ accounts_over udt.now (unfunded (tx_at ours.now)) (shannon_count gained) (in_tokens paid) (added (tx_at ours.now) (tx_at peer.now)) rate (length peer.now + 4) (shannon_count grown) (token_count risen) }
+    ensures { before.now ≡ raw_field ours.now 4 → after.now ≡ raw_field peer.now 4 → entries.now ≡ raw_field peer.now 5 → told result ≡ accounts_over udt.now (unfunded (tx_at ours.now)) (shannon_count gained) (told_by token_count paid) (added (tx_at ours.now) (tx_at peer.now)) rate (length peer.now + 4) (shannon_count grown) (token_count risen) }
 {
     let opening = is_unfunded(ours, before);
     let size = limits::serialized_size_in_block(peer);
@@ -186,20 +150,28 @@ fn contribution(
     udt: &[u8],
     rate: u64,
     gained: Shannons,
-    paid: TokenSum,
+    paid: Result<Tokens, Refusal>,
 ) -> Update
-    ensures { told result ≡ contributed udt.now (tx_at ours.now) (tx_at peer.now) (shannon_count gained) (in_tokens paid) rate (length peer.now + 4) }
+    ensures { told result ≡ contributed udt.now (tx_at ours.now) (tx_at peer.now) (shannon_count gained) (told_by token_count paid) rate (length peer.now + 4) }
 {
     let before = fields::outputs(ours);
     let entries_before = fields::outputs_data(ours);
     let after = fields::outputs(peer);
     let entries = fields::outputs_data(peer);
-    match funding_output_delta(before, entries_before, after, entries, udt) {
-        OutputDelta::Grows { capacity, token } => account(
-            ours, peer, udt, rate, gained, paid, capacity, token, before, after, entries,
-        ),
-        OutputDelta::Invalid => Update::Refused(Refusal::InvalidPeerFundingTx),
-    }
+    let growth = funding_output_delta(before, entries_before, after, entries, udt)?;
+    account(
+        ours,
+        peer,
+        udt,
+        rate,
+        gained,
+        paid,
+        growth.capacity,
+        growth.token,
+        before,
+        after,
+        entries,
+    )
 }
 
 // What is left of what the records brought in, in capacity and in tokens, over the growth of output 0 and the outputs that the peer added; where ours is still
@@ -210,9 +182,9 @@ pub fn verify_peer_funding_contribution(
     udt: &[u8],
     rate: u64,
     gained: Shannons,
-    paid: TokenSum,
+    paid: Result<Tokens, Refusal>,
 ) -> Update
-    ensures { told result ≡ contributed udt.now (tx_at ours.now) (tx_at peer.now) (shannon_count gained) (in_tokens paid) rate (length peer.now + 4) }
+    ensures { told result ≡ contributed udt.now (tx_at ours.now) (tx_at peer.now) (shannon_count gained) (told_by token_count paid) rate (length peer.now + 4) }
 {
     // taken anew, a slice comes in as its two words, and not by way of memory
     let ours = &ours[0..ours.len()];

@@ -5,16 +5,16 @@
 -- input added since. None of these surpluses is negative. This law should carry over when we take several tokens in one update."
 --
 -- The induction, over any entry that owes a step, is in crates/rules/proofs/Law.antt; what update_for_peer owes is `accepted`.
+use Rattle.std.proofs.Common.{Ok, Err}
 use mathlib.Core.Path.{◌≡◌, refl, ap, ◌∙◌}
 use Prim.Native.Nat.{ℕ}
 use mathlib.Core.List.{List, [], ◌∷◌, map}
 use mathlib.Core.Option.{none}
-use Rattle.rules.specs.declared.Update.{Update}
 use Rattle.rules.specs.Outcome.{Outcome, refused, given, ◌>>=◌}
 use Rattle.rules.specs.Cells.{read_ours}
 use Rattle.rules.specs.Surplus.{capacities, expected}
 use Rattle.rules.specs.Judge.{Call, Figures, judge, tx_of}
-use Rattle.rules.specs.Told.{told, in_force_of}
+use Rattle.rules.specs.Told.{Update, told, in_force_of}
 use Rattle.rules.specs.Run.{update_for_peer, handed_back, next, verdicts, in_force, forces}
 use Rattle.rules.proofs.Accept.{accepted}
 use Rattle.rules.proofs.Law.{exact, kept-inputs, kept-records, stay-readable, ran_answers, ran_handed, ran_bytes}
@@ -22,8 +22,8 @@ use Rattle.funding_tx.specs.Negotiation.{told_of, handed_of, Called, Refusals, D
 
 -- what in_force hands back is what the rules say
 pub hands {ℓ} : {A : Type ℓ} (v : Outcome Figures) (u : Update) (ours peer : A) → told u ≡ v → in_force_of u ours peer ≡ handed_back v ours peer
-hands v (Update.Accepted c t) ours peer e = rw (← e)
-hands v (Update.Refused x) ours peer e = rw (← e)
+hands v (Ok s) ours peer e = rw (← e)
+hands v (Err x) ours peer e = rw (← e)
 
 module _ (lock udt : List ℕ) where
   -- from bytes that can't be read the answer is 1, and they stay

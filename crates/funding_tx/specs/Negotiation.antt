@@ -1,15 +1,14 @@
 -- Demand 3 as a statement about calls of the code, whatever peer bytes, records, source lock and fee rate each call brings. It is proved in
 -- proofs/Demand3.antt.
-use Rattle.std.specs.Prelude.{◌≡◌, ℕ, List, [], ◌++◌, map}
+use Rattle.std.specs.Prelude.{◌≡◌, ℕ, List, [], ◌++◌, map, Err}
 use Rattle.std.proofs.Math.Option.{none, some}
 use Rattle.error.specs.declared.Refusal.{Refusal}
-use Rattle.rules.specs.declared.Update.{Update}
 use Rattle.rules.specs.Outcome.{Outcome, refused}
 use Rattle.rules.specs.Cells.{read_ours}
 use Rattle.molecule.specs.Partial.{All}
 use Rattle.rules.specs.Surplus.{capacities, expected}
 use Rattle.rules.specs.Judge.{Call, Figures, judge, tx_of}
-use Rattle.rules.specs.Told.{told, in_force_of}
+use Rattle.rules.specs.Told.{Update, told, in_force_of}
 use Rattle.rules.specs.Run.{Exact, update_for_peer, verdicts, in_force, forces, kept, kept_records, inputs_of, records_of, Returned, Ran}
 
 -- the answers of a list of calls, told in numbers, and the bytes that each handed back
@@ -46,7 +45,7 @@ module _ (lock udt : List ℕ) where
 
   -- a refused call changes nothing
   abbrev pub Refusals : Type 0
-  Refusals = (ours : List ℕ) (call : Call) (refusal : Refusal) (handed : List ℕ) → Called ours call (Update.Refused refusal) handed → handed ≡ ours
+  Refusals = (ours : List ℕ) (call : Call) (refusal : Refusal) (handed : List ℕ) → Called ours call (Err refusal) handed → handed ≡ ours
 
   -- demand 3: so it is for every list of calls
   abbrev pub Demand3 : Type 0

@@ -1,5 +1,5 @@
 // A peer's update of the funding transaction: judged, and what is then in force.
-#![tactic(auto)]
+#![tactic(auto, using(crate::proofs::Ways::ways))]
 
 ghost use Rattle.std.specs.Prelude.{◌≡◌};
 ghost use Rattle.rules.specs.Outcome.{check};
@@ -9,20 +9,15 @@ ghost use Rattle.rules.specs.Told.{told, in_force_of};
 ghost use Rattle.rules.specs.Run.{handed_back, next, update_for_peer};
 
 use error::Refusal;
-use records::Resolved;
 use rules::Update;
 
 // Whether the expected funding lock and type (empty for none) and our source lock are scripts; the refusal is 3.
 pub fn are_scripts(lock: &[u8], udt: &[u8], source: &[u8]) -> bool
     ensures { check 3 result ≡ scripts lock.now udt.now source.now }
 {
-    if !transaction::is_script(lock) {
-        return false;
-    }
-    if !transaction::is_optional_script(udt) {
-        return false;
-    }
-    transaction::is_script(source)
+    transaction::is_script(lock)
+        && transaction::is_optional_script(udt)
+        && transaction::is_script(source)
 }
 
 // Judges the peer's transaction against ours (empty for none) by every check but the first, that our own bytes are readable: for a caller who knows that of
@@ -46,23 +41,26 @@ pub fn judge_against(
     let source = &source[0..source.len()];
     let records = &records[0..records.len()];
     if !transaction::is_transaction(peer) {
-        return Update::Refused(Refusal::PeerTransactionUnreadable);
+        return Err(Refusal::PeerTransactionUnreadable);
     }
     if !are_scripts(lock, udt, source) {
-        return Update::Refused(Refusal::LentBytesUnreadable);
+        return Err(Refusal::LentBytesUnreadable);
     }
     if !limits::validate_peer_funding_tx_complexity(ours, peer) {
-        return Update::Refused(Refusal::PeerFundingTxExceedsLimit);
+        return Err(Refusal::PeerFundingTxExceedsLimit);
     }
     if !comparison::keeps_ours(ours, peer, lock, udt) {
-        return Update::Refused(Refusal::InvalidPeerFundingTx);
+        return Err(Refusal::InvalidPeerFundingTx);
     }
-    match records::resolve(ours, peer, source, udt, records) {
-        Resolved::Live { capacity, token } => contribution::verify_peer_funding_contribution(
-            ours, peer, udt, rate, capacity, token,
-        ),
-        Resolved::Refused(e) => Update::Refused(e),
-    }
+    let brought = records::resolve(ours, peer, source, udt, records)?;
+    contribution::verify_peer_funding_contribution(
+        ours,
+        peer,
+        udt,
+        rate,
+        brought.capacity,
+        brought.token,
+    )
 }
 
 // Judges the peer's transaction against ours (empty for none), under the expected funding lock, the expected token type (empty for none), our source lock
@@ -79,7 +77,7 @@ pub fn update_for_peer(
     ensures { told result ≡ judge lock.now udt.now ours.now (record { peer = peer.entry.now; records = records.now; source = source.now; rate = rate }) }
 {
     if !transaction::is_optional_transaction(ours) {
-        return Update::Refused(Refusal::OurTransactionUnreadable);
+        return Err(Refusal::OurTransactionUnreadable);
     }
     judge_against(ours, peer, lock, udt, source, rate, records)
 }
@@ -90,11 +88,8 @@ pub fn in_force<'a>(update: Update, ours: &'a [u8], peer: &'a [u8]) -> &'a [u8]
     ensures bytes { result.now ≡ in_force_of update ours.now peer.now }
 {
     match update {
-        Update::Accepted {
-            capacity: _,
-            token: _,
-        } => peer,
-        Update::Refused(_) => ours,
+        Ok(_) => peer,
+        Err(_) => ours,
     }
 }
 

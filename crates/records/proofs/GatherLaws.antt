@@ -1,4 +1,5 @@
 -- Laws of the walk over the records, one for each way out of it.
+use Rattle.std.proofs.Common.{Result, Ok, Err}
 use mathlib.Core.Path.{◌≡◌, refl, sym, ap, ap₂, ◌∙◌}
 use Prim.Native.Nat.{ℕ, zero, suc, ◌+◌, ◌-◌, ◌^◌, ◌≤◌, ◌<◌}
 use mathlib.Core.List.{List, [], ◌∷◌}
@@ -11,10 +12,8 @@ use mir.Syntax.{w32}
 use mir.Val.{Fits}
 use lib.ListN.{length}
 use lib.Dec.{eqb}
-use Rattle.arithmetic.specs.Amount.{halves}
-use Rattle.units.specs.declared.{Shannons.Shannons}
-use Rattle.units.specs.Units.{in_shannons, shannon_count, token_count, capped_sum}
-use Rattle.units.specs.Units as units
+use Rattle.units.specs.declared.{Shannons.Shannons, Tokens.Tokens}
+use Rattle.units.specs.Units.{in_shannons, in_tokens, shannon_count, token_count, capped_sum}
 use Rattle.molecule.specs.Molecule.{option, readable}
 use Rattle.molecule.specs.Layout.{part, start, has_header, span, item_count, item_of}
 use Rattle.molecule.proofs.LayoutLaws.{field_is, item-is}
@@ -30,13 +29,11 @@ use Rattle.rules.proofs.CellLaws.{records_yes, records_no}
 use Rattle.rules.proofs.Tests.{never, check_with-fine}
 use Rattle.error.specs.declared.Refusal.{Refusal}
 use Rattle.error.specs.Refusal.{number, values}
-use Rattle.rules.specs.Told.{refusal}
-use Rattle.accounts.specs.declared.token.TokenSum.{TokenSum}
-use Rattle.accounts.specs.Answers.{in_tokens}
+use Rattle.rules.specs.Told.{refusal, told_by}
 use Rattle.accounts.specs.Paid.{and_cell}
 use Rattle.accounts.proofs.CapacityLaws.{Sums, sums-more, sums-end}
-use Rattle.records.specs.declared.Resolved.{Resolved}
-use Rattle.records.specs.Resolved.{resolved, gathered, or_unreadable}
+use Rattle.records.specs.declared.Brought as records
+use Rattle.records.specs.Resolved.{brought_by, gathered, or_unreadable}
 
 -- ---- the cells of records that are all live
 
@@ -85,21 +82,21 @@ record_is s i b ex e = rw (← ex, e)
 
 -- ---- the walk: the first i records are readable, live and not ours, and the sums are theirs
 
-pub record Gathering (source type s : List ℕ) (first n i from : ℕ) (capacity : Shannons) (token : TokenSum) : Type 0 where
+pub record Gathering (source type s : List ℕ) (first n i from : ℕ) (capacity : Shannons) (token : Result Tokens Refusal) : Type 0 where
   pub walked : Walked (option Record) s n i from
   pub alive : live source first (span (record_at s) 0 (item_count s)) ≡ live source (first + i) (span (record_at s) i (n - i))
   pub sums : Sums (record_cell_at s) n i capacity (total capacity_of (record_cells s))
-  pub paid : tally type 0 (record_cells s) ≡ tallied type (in_tokens token) (span (record_cell_at s) i (n - i))
+  pub paid : tally type 0 (record_cells s) ≡ tallied type (told_by token_count token) (span (record_cell_at s) i (n - i))
 
 module _ (source type s : List ℕ) (first : ℕ) where
   -- nothing is brought by records that can't be read
-  unread : false ≡ readable Records s → resolved (Resolved.Refused Refusal.LentBytesUnreadable) ≡ gathered source type first (read_records s)
+  unread : false ≡ readable Records s → refusal Refusal.LentBytesUnreadable ≡ gathered source type first (read_records s)
   unfolding gathered given ◌>>=◌ number values
   unread e = rw (records_no s (sym e))
 
   -- a refusal by a record stands where all can be read
-  refuses : (e : Refusal) (r : Resolved) → live source first (span (record_at s) 0 (item_count s)) ≡ refusal e → resolved r ≡ or_unreadable e (read_records s)
-      → resolved r ≡ gathered source type first (read_records s)
+  refuses : (e : Refusal) (r : Refusal) → live source first (span (record_at s) 0 (item_count s)) ≡ refusal e → refusal r ≡ or_unreadable e (read_records s)
+      → refusal r ≡ gathered source type first (read_records s)
   unfolding gathered or_unreadable given ◌>>=◌ ◌>>◌
   refuses e r h k = k ∙ by (readable Records s) refl
     where
@@ -108,12 +105,12 @@ module _ (source type s : List ℕ) (first : ℕ) where
       by false q = rw (records_no s q)
 
   module _ {n : ℕ} {r : Bool} (e : n ≡ item_count s) (h : r ≡ has_header s n) where
-    pub gather_head : not r ≡ true → resolved (Resolved.Refused Refusal.LentBytesUnreadable) ≡ gathered source type first (read_records s)
+    pub gather_head : not r ≡ true → refusal Refusal.LentBytesUnreadable ≡ gathered source type first (read_records s)
     gather_head q = unread (walked_no (option Record) s e h q)
 
     pub gather_start : {a : ℕ} → not r ≡ false → a ≡ start s n 0
-        → Gathering source type s first n 0 a (in_shannons (halves 0 0)) (TokenSum.Is (units.in_tokens (halves 0 0)))
-    unfolding shannon_count token_count tallied ◌>>=◌
+        → Gathering source type s first n 0 a (in_shannons 0) (Ok (in_tokens 0))
+    unfolding tallied ◌>>=◌
     gather_start q ea =
         let z : first ≡ first + 0 = omega arith in
         record {
@@ -123,18 +120,18 @@ module _ (source type s : List ℕ) (first : ℕ) where
           paid = rw (← e) (ap (tally type 0) (span-whole (record_cell_at s) n));
         }
 
-module _ {source type s : List ℕ} {first n i from : ℕ} {capacity : Shannons} {token : TokenSum} (g : Gathering source type s first n i from capacity token) where
+module _ {source type s : List ℕ} {first n i from : ℕ} {capacity : Shannons} {token : Result Tokens Refusal} (g : Gathering source type s first n i from capacity token) where
   pub gather_falls : {to : ℕ} → i < n → to ≡ start s n (i + 1) → to < from
-      → resolved (Resolved.Refused Refusal.LentBytesUnreadable) ≡ gathered source type first (read_records s)
+      → refusal Refusal.LentBytesUnreadable ≡ gathered source type first (read_records s)
   gather_falls l e h = unread source type s first (walked_falls g.walked l e h)
 
-  pub gather_end : n ≤ i → resolved (Resolved.Live capacity token) ≡ gathered source type first (read_records s)
+  pub gather_end : n ≤ i → fine (brought_by (record { capacity = capacity; token = token })) ≡ gathered source type first (read_records s)
   unfolding gathered live given ◌>>=◌ ◌>>◌
   gather_end l =
       let q : i ≡ n = omega (arith, g.walked.order.within) in
       let a : live source first (span (record_at s) 0 (item_count s)) ≡ fine tt = g.alive ∙ end_live in
       let c : live_cells (span (record_at s) 0 (item_count s)) ≡ record_cells s = live-span source s first 0 (item_count s) a in
-      let t : in_tokens token ≡ tally type 0 (record_cells s) = sym (g.paid ∙ ap (tallied type (in_tokens token)) (span-end (record_cell_at s) i n l) ∙ tallied_none type (in_tokens token)) in
+      let t : told_by token_count token ≡ tally type 0 (record_cells s) = sym (g.paid ∙ ap (tallied type (told_by token_count token)) (span-end (record_cell_at s) i n l) ∙ tallied_none type (told_by token_count token)) in
       rw (records_yes s (sym (walked_end g.walked l)), a, c, ← t, ← sums-end g.sums l)
     where
       end_live : live source (first + i) (span (record_at s) i (n - i)) ≡ fine tt
@@ -145,26 +142,26 @@ module _ {source type s : List ℕ} {first n i from : ℕ} {capacity : Shannons}
     item : x ≡ item_of s i
     item = item-is s i g.walked.count (field_is s n i g.walked.order.here e k)
 
-    pub gather_dead : (r : Resolved) → length x ≡ 0 → resolved r ≡ or_unreadable Refusal.InvalidPeerFundingTx (read_records s)
-        → resolved r ≡ gathered source type first (read_records s)
+    pub gather_dead : (r : Refusal) → length x ≡ 0 → refusal r ≡ or_unreadable Refusal.InvalidPeerFundingTx (read_records s)
+        → refusal r ≡ gathered source type first (read_records s)
     unfolding live number values
     gather_dead r z h = refuses source type s first Refusal.InvalidPeerFundingTx r (g.alive ∙ rw (span-on (record_at s) i n l, record_is s i true item (eq-eqb (length x) 0 z))) h
 
     module _ {q : Bool} (z : length x ≡ 0 → ⊥) (eq : q ≡ readable Record x) where
-      pub gather_unread : not q ≡ true → resolved (Resolved.Refused Refusal.LentBytesUnreadable) ≡ gathered source type first (read_records s)
+      pub gather_unread : not q ≡ true → refusal Refusal.LentBytesUnreadable ≡ gathered source type first (read_records s)
       gather_unread u = unread source type s first (walked_stop g.walked l e k (option-some Record x z eq) u)
 
       module _ {o : Bool} (eo : o ≡ has_lock source (record_cell x)) where
-        pub gather_ours : (r : Resolved) → o ≡ true → resolved r ≡ or_unreadable (Refusal.PeerInputUsesOurFundingLock (first + i)) (read_records s)
-            → resolved r ≡ gathered source type first (read_records s)
+        pub gather_ours : (r : Refusal) → o ≡ true → refusal r ≡ or_unreadable (Refusal.PeerInputUsesOurFundingLock (first + i)) (read_records s)
+            → refusal r ≡ gathered source type first (read_records s)
         unfolding live check_with ◌>>◌ number values
         gather_ours r u h =
             refuses source type s first (Refusal.PeerInputUsesOurFundingLock (first + i)) r
             (g.alive ∙ rw (span-on (record_at s) i n l, record_is s i false item (ne_eqb (length x) 0 z), ← eo, u)) h
 
-        pub gather_more : (y : Shannons) {c : Shannons} (t : TokenSum) → from ≤ to → not q ≡ false → o ≡ false → Fits w32 n
+        pub gather_more : (y : Shannons) {c : Shannons} (t : Result Tokens Refusal) → from ≤ to → not q ≡ false → o ≡ false → Fits w32 n
             → shannon_count y ≡ capacity_of (record_cell x) → shannon_count y < 2 ^ 64 → c ≡ capped_sum capacity y
-            → in_tokens t ≡ and_cell type (in_tokens token) (record_cell x) → Gathering source type s first n (i + 1) to c t
+            → told_by token_count t ≡ and_cell type (told_by token_count token) (record_cell x) → Gathering source type s first n (i + 1) to c t
         unfolding live check_with ◌>>◌ record_cell_at
         gather_more y t m u v w ey sy ec et =
             let j : suc (first + i) ≡ first + (i + 1) = omega arith in
@@ -173,5 +170,5 @@ module _ {source type s : List ℕ} {first n i from : ℕ} {capacity : Shannons}
               walked = walked_more g.walked l e k (option-some Record x z eq) m u;
               alive = g.alive ∙ rw (span-on (record_at s) i n l, record_is s i false item (ne_eqb (length x) 0 z), ← eo, v, j);
               sums = sums-more g.sums y l w (ey ∙ ap capacity_of b) sy ec;
-              paid = g.paid ∙ rw (span-on (record_cell_at s) i n l) (tallied_more type (in_tokens token) (record_cell_at s i) _ ∙ ap (λ (p : Outcome ℕ). tallied type p (span (record_cell_at s) (i + 1) (n - (i + 1)))) (sym (et ∙ ap (and_cell type (in_tokens token)) b)));
+              paid = g.paid ∙ rw (span-on (record_cell_at s) i n l) (tallied_more type (told_by token_count token) (record_cell_at s i) _ ∙ ap (λ (p : Outcome ℕ). tallied type p (span (record_cell_at s) (i + 1) (n - (i + 1)))) (sym (et ∙ ap (and_cell type (told_by token_count token)) b)));
             }

@@ -1,4 +1,6 @@
 -- Laws of what the records bring in, one for each way out of the functions but the walk.
+use Rattle.rules.specs.Told.{refusal, told_by}
+use Rattle.std.proofs.Common.{Result, Ok, Err}
 use mathlib.Core.Path.{◌≡◌, refl, sym, ap, ap₂, ◌∙◌}
 use Prim.Native.Nat.{ℕ, ◌+◌, ◌-◌, ◌<◌}
 use mathlib.Core.List.{List}
@@ -21,8 +23,8 @@ use Rattle.rules.specs.Judge.{has_lock, live, live_cells, spent}
 use Rattle.rules.proofs.CellLaws.{records_yes, records_no}
 use Rattle.error.specs.declared.Refusal.{Refusal}
 use Rattle.error.specs.Refusal.{number, values}
-use Rattle.records.specs.declared.Resolved.{Resolved}
-use Rattle.records.specs.Resolved.{brought, resolved, brings, gathered, or_unreadable}
+use Rattle.records.specs.declared.Brought as records
+use Rattle.records.specs.Resolved.{brought, brought_by, brings, gathered, or_unreadable}
 
 pub our_lock_lem : (source x : List ℕ) {o l : List ℕ} {r : Bool} → o ≡ first_of x → l ≡ lock_of o → r ≡ eq_bytes source l → r ≡ has_lock source (record_cell x)
 unfolding has_lock
@@ -34,11 +36,11 @@ index-fits b i n p q h = omega arith
 -- ---- a refusal by a record
 
 module _ (s : List ℕ) (e : Refusal) {r : Bool} (er : r ≡ readable Records s) where
-  pub refuse_unreadable : not r ≡ true → resolved (Resolved.Refused Refusal.LentBytesUnreadable) ≡ or_unreadable e (read_records s)
+  pub refuse_unreadable : not r ≡ true → refusal Refusal.LentBytesUnreadable ≡ or_unreadable e (read_records s)
   unfolding or_unreadable given ◌>>=◌ number values
   refuse_unreadable t = rw (records_no s (sym er ∙ not-true r t))
 
-  pub refuse_why : not r ≡ false → resolved (Resolved.Refused e) ≡ or_unreadable e (read_records s)
+  pub refuse_why : not r ≡ false → refusal e ≡ or_unreadable e (read_records s)
   unfolding or_unreadable given ◌>>=◌
   refuse_why t = rw (records_yes s (sym er ∙ not-false r t))
 
@@ -53,16 +55,16 @@ module _ (source type o p s : List ℕ) {n m : ℕ} (en : n ≡ item_count s) (e
   count-is : (b : Bool) → eqb n m ≡ b → eqb (length (span (record_at s) 0 (item_count s))) (length (tx_at p).inputs - length (tx_at o).inputs) ≡ b
   count-is b h = ap₂ eqb (span-length (record_at s) 0 (item_count s) ∙ sym en) (sym em) ∙ h
 
-  pub brings-count : (n ≡ m → ⊥) → resolved (Resolved.Refused Refusal.LentBytesUnreadable) ≡ brings source type (tx_at o) (tx_at p) (read_records s)
+  pub brings-count : (n ≡ m → ⊥) → refusal Refusal.LentBytesUnreadable ≡ brings source type (tx_at o) (tx_at p) (read_records s)
   unfolding brings spent given ◌>>=◌ ◌>>◌ check check_with number values
   brings-count h = by (readable Records s) refl
     where
-      by : (b : Bool) → readable Records s ≡ b → resolved (Resolved.Refused Refusal.LentBytesUnreadable) ≡ brings source type (tx_at o) (tx_at p) (read_records s)
+      by : (b : Bool) → readable Records s ≡ b → refusal Refusal.LentBytesUnreadable ≡ brings source type (tx_at o) (tx_at p) (read_records s)
       by true e = rw (records_yes s e, count-is false (ne_eqb n m h))
       by false e = rw (records_no s e)
 
-  pub brings-is : (c : Resolved) {f : ℕ} → n ≡ m → f ≡ fix_count (raw_field o 3) → resolved c ≡ gathered source type f (read_records s)
-      → resolved c ≡ brings source type (tx_at o) (tx_at p) (read_records s)
+  pub brings-is : (c : Result records.Brought Refusal) {f : ℕ} → n ≡ m → f ≡ fix_count (raw_field o 3) → told_by brought_by c ≡ gathered source type f (read_records s)
+      → told_by brought_by c ≡ brings source type (tx_at o) (tx_at p) (read_records s)
   unfolding brings gathered spent given ◌>>=◌ ◌>>◌ check check_with
   brings-is c {f} h ef k = k ∙ by (readable Records s) refl
     where

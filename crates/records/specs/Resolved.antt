@@ -1,16 +1,15 @@
 -- What the records bring in (docs/RULES.md, "A peer's update arrives", the row "records", and "What the peer put in").
 use Rattle.std.specs.Prelude.{ℕ, List}
 use Rattle.std.proofs.Math.Option.{Option}
-use Rattle.units.specs.Units.{shannon_count}
+use Rattle.units.specs.Units.{shannon_count, token_count}
 use Rattle.error.specs.declared.Refusal.{Refusal}
 use Rattle.transaction.specs.Tx.{Tx}
 use Rattle.rules.specs.Outcome.{Outcome, fine, given, ◌>>=◌, ◌>>◌}
 use Rattle.rules.specs.Cells.{Cell}
 use Rattle.rules.specs.Surplus.{total, capacity_of}
 use Rattle.rules.specs.Judge.{live, live_cells, spent, tally}
-use Rattle.rules.specs.Told.{refusal}
-use Rattle.accounts.specs.Answers.{in_tokens}
-use Rattle.records.specs.declared.Resolved.{Resolved}
+use Rattle.rules.specs.Told.{refusal, told_by}
+use Rattle.records.specs.declared.Brought as records
 
 -- the sum of capacities, and that of tokens, if there is one
 pub record Brought : Type 0 where
@@ -21,10 +20,9 @@ pub record Brought : Type 0 where
 abbrev pub brought : List ℕ → List Cell → Brought
 brought type cells = record { capacity = total capacity_of cells; token = tally type 0 cells }
 
--- what the answer stands for
-abbrev pub resolved : Resolved → Outcome Brought
-resolved (Resolved.Live capacity token) = fine (record { capacity = shannon_count capacity; token = in_tokens token })
-resolved (Resolved.Refused e) = refusal e
+-- the same in numbers
+abbrev pub brought_by : records.Brought → Brought
+brought_by b = record { capacity = shannon_count b.capacity; token = told_by token_count b.token }
 
 -- what the cells that the added inputs spend bring in
 unfoldable pub brings : List ℕ → List ℕ → Tx → Tx → Option (List (Option Cell)) → Outcome Brought

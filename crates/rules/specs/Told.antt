@@ -15,13 +15,17 @@ abbrev pub told_by : {T A : Type 0} → (T → A) → Result T Refusal → Outco
 told_by f (Ok x) = fine (f x)
 told_by f (Err e) = refusal e
 
+-- what `update_for_peer` answers
+abbrev pub Update : Type 0
+Update = Result Surplus Refusal
+
 abbrev pub figures : Surplus → Figures
 figures s = record { capacity = shannon_count s.capacity; token = token_count s.token }
 
-abbrev pub told : Result Surplus Refusal → Outcome Figures
+abbrev pub told : Update → Outcome Figures
 told = told_by figures
 
 -- which of two is in force after an answer: the peer's after an acceptance, ours after a refusal
-abbrev pub in_force_of {ℓ} : {A : Type ℓ} → Result Surplus Refusal → A → A → A
+abbrev pub in_force_of {ℓ} : {A : Type ℓ} → Update → A → A → A
 in_force_of (Ok s) ours peer = peer
 in_force_of (Err e) ours peer = ours

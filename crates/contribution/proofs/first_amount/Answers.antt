@@ -1,8 +1,18 @@
-use Rattle.contribution.proofs.Ways.{ways}
+use Rattle.std.proofs.Common.{arith, ◌∙◌, ap}
+use Rattle.std.proofs.lemmas.Grind.{common_steps}
+use Rattle.arithmetic.specs.Amount.{amount_at}
+use Rattle.molecule.specs.Layout.{item_count}
+use Rattle.rules.specs.Outcome.{check, check_with, ◌>>◌}
+use Rattle.rules.specs.Judge.{at_first}
+use Rattle.rules.specs.Surplus.{first, amount_of, has_amount}
+use Rattle.rules.proofs.CellLaws.{cell_at, cells-none, cells-some}
+use Rattle.contribution.specs.Answers.{first_amount}
 use Rattle.contribution.proofs.first_amount.Goals as goal
 
 pub returns-then-item_count-eq0 : goal.returns-then-item_count-eq0
-returns-then-item_count-eq0 c = search ways
+unfolding first first_amount at_first check check_with ◌>>◌
+returns-then-item_count-eq0 c tx e f = grind (arith, common_steps, cells-none tx (c.item_count.ensures ∙ ap item_count e))
 
 pub returns : goal.returns
-returns c = search ways
+unfolding first first_amount at_first check check_with ◌>>◌ amount_of has_amount cell_at amount_at
+returns c tx e f = grind (arith, common_steps, cells-some tx (c.item_count.ensures ∙ ap item_count e))

@@ -1,14 +1,20 @@
-use Rattle.contribution.proofs.Ways.{ways}
+use Rattle.std.proofs.Common.{arith}
+use Rattle.std.proofs.lemmas.Grind.{common_steps}
+use Rattle.arithmetic.specs.Amount.{difference}
+use Rattle.error.specs.Refusal.{number, values}
+use Rattle.rules.specs.Outcome.{check, check_with, ◌>>◌}
+use Rattle.rules.specs.Judge.{token_delta}
+use Rattle.contribution.specs.Answers.{first_amount}
 use Rattle.contribution.proofs.token_delta.Goals as goal
 
-pub returns-in-Short : goal.returns-in-Short
-returns-in-Short c = search ways
+pub returns-in_err-a : goal.returns-in_err-a
+unfolding token_delta first_amount check check_with ◌>>◌ number values
+returns-in_err-a c ours peer e f g h = grind (arith, common_steps, c.first_amount.ensures ours e f)
 
-pub returns-in-Short-first_amount : goal.returns-in-Short-first_amount
-returns-in-Short-first_amount c = search ways
+pub returns-in_err-b : goal.returns-in_err-b
+unfolding token_delta first_amount check check_with ◌>>◌ number values
+returns-in_err-b c ours peer e f g h = grind (arith, common_steps, c.first_amount.ensures ours e f, c.first_amount-2.ensures peer g h)
 
-pub returns-in-Fits : goal.returns-in-Fits
-returns-in-Fits c = search ways
-
-pub returns-in-Overflow : goal.returns-in-Overflow
-returns-in-Overflow c = search ways
+pub returns : goal.returns
+unfolding token_delta first_amount check check_with ◌>>◌ number values difference
+returns c ours peer e f g h = grind (arith, common_steps, c.first_amount.ensures ours e f, c.first_amount-2.ensures peer g h)

@@ -1,21 +1,33 @@
-use Rattle.funding_tx.proofs.VerdictLaws.{against_whole}
-use Rattle.funding_tx.proofs.Ways.{ways}
+use Rattle.std.proofs.Common.{arith}
+use Rattle.std.proofs.lemmas.Grind.{common_steps}
+use Rattle.error.specs.Refusal.{number, values}
+use Rattle.lists.proofs.EqualLaws.{whole}
+use Rattle.rules.specs.Outcome.{check, check_with, given, ◌>>◌, ◌>>=◌}
+use Rattle.rules.specs.Judge.{judge_against}
+use Rattle.rules.proofs.CellLaws.{read_yes, read_no}
+use Rattle.funding_tx.proofs.VerdictLaws.{not_spent, is-spent, over}
 use Rattle.funding_tx.proofs.judge_against.Goals as goal
 
 pub returns-then-not-is_transaction : goal.returns-then-not-is_transaction
-returns-then-not-is_transaction c = against_whole _ _ _ _ _ _ _ (search ways)
+unfolding judge_against check check_with given ◌>>◌ ◌>>=◌ number values
+returns-then-not-is_transaction c = grind (arith, common_steps, whole, read_yes, read_no)
 
 pub returns-then-not-are_scripts : goal.returns-then-not-are_scripts
-returns-then-not-are_scripts c = against_whole _ _ _ _ _ _ _ (search ways)
+unfolding judge_against check check_with given ◌>>◌ ◌>>=◌ number values
+returns-then-not-are_scripts c = grind (arith, common_steps, whole, read_yes, read_no)
 
 pub returns-then-not-validate_peer_funding_tx_complexity : goal.returns-then-not-validate_peer_funding_tx_complexity
-returns-then-not-validate_peer_funding_tx_complexity c = against_whole _ _ _ _ _ _ _ (search ways)
+unfolding judge_against check check_with given ◌>>◌ ◌>>=◌ number values
+returns-then-not-validate_peer_funding_tx_complexity c = grind (arith, common_steps, whole, read_yes, read_no)
 
 pub returns-then-not-keeps_ours : goal.returns-then-not-keeps_ours
-returns-then-not-keeps_ours c = against_whole _ _ _ _ _ _ _ (search ways)
+unfolding judge_against check check_with given ◌>>◌ ◌>>=◌ number values
+returns-then-not-keeps_ours c = grind (arith, common_steps, whole, read_yes, read_no)
 
-pub returns-in-Live : goal.returns-in-Live
-returns-in-Live c = against_whole _ _ _ _ _ _ _ (search ways)
+pub returns-in_err-brought : goal.returns-in_err-brought
+unfolding judge_against check check_with given ◌>>◌ ◌>>=◌ number values
+returns-in_err-brought c = grind (arith, common_steps, whole, read_yes, read_no, not_spent)
 
-pub returns-in-Refused : goal.returns-in-Refused
-returns-in-Refused c = against_whole _ _ _ _ _ _ _ (search ways)
+pub returns : goal.returns
+unfolding judge_against check check_with given ◌>>◌ ◌>>=◌ number values
+returns c = grind (arith, common_steps, whole, read_yes, read_no, is-spent, over)
