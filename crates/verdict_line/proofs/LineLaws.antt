@@ -14,11 +14,12 @@ use Rattle.molecule.specs.Write.{splice, put_at, put_end, Put}
 use Rattle.molecule.proofs.WriteLaws.{did, none, then, and_put, as_bytes, length-kept}
 use Rattle.error.specs.declared.Refusal.{Refusal}
 use Rattle.error.specs.Refusal.{number, values}
+use Rattle.error.proofs.RefusalLaws.{few-values}
+use Rattle.std.proofs.Common.{Ok, Err}
 use Rattle.units.specs.declared.Shannons.{Shannons}
-use Rattle.units.specs.declared.Tokens.{Tokens}
 use Rattle.units.specs.Units.{shannon_count}
-use Rattle.rules.specs.declared.Update.{Update}
-use Rattle.rules.specs.Told.{told}
+use Rattle.rules.specs.declared.Surplus.{Surplus}
+use Rattle.rules.specs.Told.{Update, told}
 use Rattle.verdict_line.specs.VerdictLine.{digit, hex, digits, decimal, spaced, accepted, refused_with, line_of}
 
 -- ---- lengths
@@ -69,13 +70,14 @@ join-halves a (suc b) x y h =
 hex-halves : (low high : ℕ) → low < 2 ^ 64 → hex 32 (low + 2 ^ 64 * high) ≡ hex 16 high ++ hex 16 low
 hex-halves low high h = join-halves 16 16 low high h
 
-pub halves_put : (out : List ℕ) (at high low : ℕ) {o₁ o₂ : List ℕ} {n₁ n₂ : ℕ} → at + 32 ≤ length out → low < 2 ^ 64 → o₁ ≡ put_at out at (hex 16 high) → n₁ ≡ put_end out at (hex 16 high)
-    → o₂ ≡ put_at o₁ n₁ (hex 16 low) → n₂ ≡ put_end o₁ n₁ (hex 16 low) → Put out at (hex 32 (low + 2 ^ 64 * high)) o₂ n₂
-halves_put out at high low room h e₁ f₁ e₂ f₂ =
+pub amount_put : (out : List ℕ) (at x : ℕ) {high low : ℕ} {o₁ o₂ : List ℕ} {n₁ n₂ : ℕ} → at + 32 ≤ length out → high ≡ x / 2 ^ 64 → low ≡ x % 2 ^ 64
+    → o₁ ≡ put_at out at (hex 16 high) → n₁ ≡ put_end out at (hex 16 high) → o₂ ≡ put_at o₁ n₁ (hex 16 low) → n₂ ≡ put_end o₁ n₁ (hex 16 low) → Put out at (hex 32 x) o₂ n₂
+amount_put out at x {high} {low} room eh el e₁ f₁ e₂ f₂ =
     let a = hex-length 16 high in
     let b = hex-length 16 low in
     let p = did (hex 16 high) e₁ f₁ (omega arith) in
-    rw (hex-halves low high h) (and_put (hex 16 low) p e₂ f₂ (omega arith))
+    let whole : x ≡ low + 2 ^ 64 * high = omega arith in
+    rw (whole, hex-halves low high (omega arith)) (and_put (hex 16 low) p e₂ f₂ (omega arith))
 
 -- ---- an acceptance
 
@@ -84,36 +86,18 @@ module _ (line : List ℕ) (surplus : Shannons) (room : 105 ≤ length line) {o�
   start : Put line 0 (48 ∷ 32 ∷ []) o₂ n₂
   start = and_put (32 ∷ []) (did (48 ∷ []) e₁ f₁ (omega arith)) e₂ f₂ (omega arith)
 
-  pub halves-room : n₂ + 32 ≤ length o₂
-  halves-room = let p = start in let l = length-kept p in omega arith
+  pub amount-room : n₂ + 32 ≤ length o₂
+  amount-room = let p = start in let l = length-kept p in omega arith
 
-  pub surplus_put : {o₃ o₄ : List ℕ} {n₃ n₄ : ℕ} → Put o₂ n₂ (hex 32 (surplus.0.low + 2 ^ 64 * surplus.0.high)) o₃ n₃
+  pub surplus_put : {o₃ o₄ : List ℕ} {n₃ n₄ : ℕ} → Put o₂ n₂ (hex 32 (shannon_count surplus)) o₃ n₃
       → o₄ ≡ put_at o₃ n₃ (10 ∷ []) → n₄ ≡ put_end o₃ n₃ (10 ∷ []) → Put line 0 (accepted (shannon_count surplus)) o₄ n₄
-  unfolding accepted shannon_count
+  unfolding accepted
   surplus_put p₃ e₄ f₄ =
-      let a = hex-length 32 (surplus.0.low + 2 ^ 64 * surplus.0.high) in
+      let a = hex-length 32 (shannon_count surplus) in
       let p = then start p₃ in
       and_put (10 ∷ []) p e₄ f₄ (simp length-append (omega arith))
 
 -- ---- a refusal
-
-few-values : (r : Refusal) → length (values r) ≤ 4
-unfolding values
-few-values Refusal.OurTransactionUnreadable = omega arith
-few-values Refusal.PeerTransactionUnreadable = omega arith
-few-values Refusal.LentBytesUnreadable = omega arith
-few-values Refusal.PeerFundingTxExceedsLimit = omega arith
-few-values Refusal.InvalidPeerFundingTx = omega arith
-few-values (Refusal.PeerInputUsesOurFundingLock i) = omega arith
-few-values Refusal.OverflowError = omega arith
-few-values (Refusal.PeerFundingFeeTooLow a b c d) = omega arith
-few-values Refusal.InsufficientCells = omega arith
-few-values Refusal.TokenTotalOverflow = omega arith
-few-values Refusal.MissingCellDep = omega arith
-few-values Refusal.TokenCellDataTooShort = omega arith
-few-values Refusal.BufferTooShort = omega arith
-few-values Refusal.TooManyHolds = omega arith
-few-values Refusal.TooManyExclusions = omega arith
 
 spaced-append : (us vs : List ℕ) → spaced (us ++ vs) ≡ spaced us ++ spaced vs
 unfolding spaced
@@ -165,9 +149,9 @@ module _ {r : Refusal} {out₀ out : List ℕ} {at₀ at i : ℕ} (s : Spacing r
         let z : take i (values r) ≡ values r = take_all i (values r) (omega arith) in
         rw z at s.so_far
 
-module _ (line : List ℕ) (r : Refusal) {x : ℕ} (room : 105 ≤ length line) (q : x ≡ number r) {o₁ : List ℕ} {n₁ : ℕ} (e₁ : o₁ ≡ put_at line 0 (decimal x)) (f₁ : n₁ ≡ put_end line 0 (decimal x)) where
+module _ (line : List ℕ) (r : Refusal) {x y : ℕ} (room : 105 ≤ length line) (q : y ≡ number r) (z : x ≡ y) {o₁ : List ℕ} {n₁ : ℕ} (e₁ : o₁ ≡ put_at line 0 (decimal x)) (f₁ : n₁ ≡ put_end line 0 (decimal x)) where
   start-number : Put line 0 (decimal (number r)) o₁ n₁
-  start-number = let d = decimal-length x in rw q at (did (decimal x) e₁ f₁ (omega arith))
+  start-number = let d = decimal-length x in rw (z, q) at (did (decimal x) e₁ f₁ (omega arith))
 
   pub values-room : n₁ + 84 ≤ length o₁
   values-room = let d = decimal-length (number r) in let p = start-number in let l = length-kept p in omega arith
@@ -183,18 +167,18 @@ module _ (line : List ℕ) (r : Refusal) {x : ℕ} (room : 105 ≤ length line) 
 -- ---- the line
 
 module _ {line after : List ℕ} {n : ℕ} {u : Update} where
-  pub accepted-line : {surplus : Shannons} {token : Tokens} → u ≡ Update.Accepted surplus token → Put line 0 (accepted (shannon_count surplus)) after n → after ≡ splice line 0 (line_of (told u))
+  pub accepted-line : {s : Surplus} → u ≡ Ok s → Put line 0 (accepted (shannon_count s.capacity)) after n → after ≡ splice line 0 (line_of (told u))
   unfolding line_of
   accepted-line e p = rw e p.bytes
 
-  pub accepted-length : {surplus : Shannons} {token : Tokens} → u ≡ Update.Accepted surplus token → Put line 0 (accepted (shannon_count surplus)) after n → n ≡ length (line_of (told u))
+  pub accepted-length : {s : Surplus} → u ≡ Ok s → Put line 0 (accepted (shannon_count s.capacity)) after n → n ≡ length (line_of (told u))
   unfolding line_of
   accepted-length e p = rw e (p.end ∙ zero-add _)
 
-  pub refused-line : {r : Refusal} → u ≡ Update.Refused r → Put line 0 (refused_with (number r) (values r)) after n → after ≡ splice line 0 (line_of (told u))
+  pub refused-line : {r : Refusal} → u ≡ Err r → Put line 0 (refused_with (number r) (values r)) after n → after ≡ splice line 0 (line_of (told u))
   unfolding line_of
   refused-line e p = rw e p.bytes
 
-  pub refused-length : {r : Refusal} → u ≡ Update.Refused r → Put line 0 (refused_with (number r) (values r)) after n → n ≡ length (line_of (told u))
+  pub refused-length : {r : Refusal} → u ≡ Err r → Put line 0 (refused_with (number r) (values r)) after n → n ≡ length (line_of (told u))
   unfolding line_of
   refused-length e p = rw e (p.end ∙ zero-add _)

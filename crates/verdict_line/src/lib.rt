@@ -1,13 +1,14 @@
 // Writes the line that the check program prints for an answer.
-#![tactic(auto)]
+#![tactic(auto, using(crate::proofs::Ways::ways))]
 
-ghost use Rattle.std.specs.Prelude.{◌≡◌, ◌+◌, ◌*◌, ◌^◌, ◌≤◌, [], ◌∷◌, length};
+ghost use Rattle.std.specs.Prelude.{◌≡◌, ◌+◌, ◌≤◌, [], ◌∷◌, length};
 ghost use Rattle.molecule.specs.Write.{splice, put_at, put_end, Put};
 ghost use Rattle.error.specs.Refusal.{number, values};
 ghost use Rattle.units.specs.Units.{shannon_count};
 ghost use Rattle.rules.specs.Told.{told};
 ghost use Rattle.verdict_line.specs.VerdictLine.{digit, hex, decimal, spaced, accepted, refused_with, line_of};
 
+use arithmetic::amount;
 use error::Refusal;
 use molecule::write;
 use rules::Update;
@@ -22,9 +23,10 @@ fn ascii(d: u64) -> u8
     ensures { result ≡ digit d }
 {
     if d < 10 {
-        return (48 + d) as u8;
+        b'0' + d as u8
+    } else {
+        b'a' + (d - 10) as u8
     }
-    (87 + d) as u8
 }
 
 // Puts the 16 hex digits of x, which are made from the lowest on.
@@ -34,11 +36,9 @@ fn put_hex(out: &mut [u8], at: usize, x: u64) -> usize
 {
     let mut bytes = [0u8; 16];
     let mut left = x;
-    let mut i = 16;
-    while i > 0 {
-        i -= 1;
+    for i in (0..16).rev() {
         bytes[i] = ascii(left % 16);
-        left = left / 16;
+        left /= 16;
     }
     write::put(out, at, &bytes)
 }
@@ -50,15 +50,13 @@ fn put_decimal(out: &mut [u8], at: usize, x: u64) -> usize
 {
     let mut bytes = [0u8; 20];
     let mut left = x;
-    let mut i = 20;
-    while i > 0 {
-        i -= 1;
+    for i in (0..20).rev() {
         if left < 10 {
             bytes[i] = ascii(left);
-            return write::put(out, at, &bytes[i..20]);
+            return write::put(out, at, &bytes[i..]);
         }
         bytes[i] = ascii(left % 10);
-        left = left / 10;
+        left /= 10;
     }
     write::put(out, at, &bytes)
 }
@@ -68,17 +66,16 @@ fn put_byte(out: &mut [u8], at: usize, b: u8) -> usize
     ensures out_after { out.new ≡ put_at out.old at (b ∷ []) }
     ensures value { result ≡ put_end out.old at (b ∷ []) }
 {
-    let bytes = [b];
-    write::put(out, at, &bytes)
+    write::put(out, at, &[b])
 }
 
-// Puts the 32 hex digits of an amount in two halves.
-fn put_halves(out: &mut [u8], at: usize, high: u64, low: u64) -> usize
+// Puts the 32 hex digits of an amount.
+fn put_amount(out: &mut [u8], at: usize, x: u128) -> usize
     requires { at + 32 ≤ length out.old }
-    ensures { Put out.old at (hex 32 (low + 2 ^ 64 * high)) out.new result }
+    ensures { Put out.old at (hex 32 x) out.new result }
 {
-    let at = put_hex(out, at, high);
-    put_hex(out, at, low)
+    let at = put_hex(out, at, amount::high(x));
+    put_hex(out, at, amount::low(x))
 }
 
 // Puts the line of an acceptance: 0 and the surplus.
@@ -88,7 +85,7 @@ fn put_surplus(line: &mut [u8], surplus: Shannons) -> usize
 {
     let at = put_byte(line, 0, b'0');
     let at = put_byte(line, at, b' ');
-    let at = put_halves(line, at, surplus.0.high, surplus.0.low);
+    let at = put_amount(line, at, surplus.0);
     put_byte(line, at, b'\n')
 }
 
@@ -108,10 +105,8 @@ fn put_values(out: &mut [u8], at: usize, refusal: Refusal) -> usize
 {
     let count = refusal.value_count();
     let mut to = at;
-    let mut i = 0;
-    while i < count {
+    for i in 0..count {
         to = put_value(out, to, refusal.value(i));
-        i += 1;
     }
     to
 }
@@ -121,7 +116,7 @@ fn put_refusal(line: &mut [u8], refusal: Refusal) -> usize
     requires { 105 ≤ length line.old }
     ensures { Put line.old 0 (refused_with (number refusal) (values refusal)) line.new result }
 {
-    let at = put_decimal(line, 0, refusal.number() as u64);
+    let at = put_decimal(line, 0, u64::from(refusal.number()));
     let at = put_values(line, at, refusal);
     put_byte(line, at, b'\n')
 }
@@ -132,7 +127,7 @@ pub fn write_line(update: Update, line: &mut [u8; LINE_BYTES]) -> usize
     ensures value { result ≡ length (line_of (told update)) }
 {
     match update {
-        Update::Accepted { capacity, token: _ } => put_surplus(line, capacity),
-        Update::Refused(refusal) => put_refusal(line, refusal),
+        Ok(surplus) => put_surplus(line, surplus.capacity),
+        Err(refusal) => put_refusal(line, refusal),
     }
 }

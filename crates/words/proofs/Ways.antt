@@ -1,5 +1,5 @@
--- What closes the needs of this crate's functions: `search ways`.
-use borrow.Author.Rules.{rules}
-use Rattle.words.proofs.WordLaws.{one_set, three-set, four_set, refusal-bare, refusal-one, refusal-told, update_accepted, update_refused}
+-- What closes the goals of this crate's functions.
+use Rattle.std.proofs.Common.{rules}
+use Rattle.error.proofs.RefusalLaws.{few-values, four_read}
 
-pub ruleset ways = (rules, one_set, three-set, four_set, refusal-bare, refusal-one, refusal-told, update_accepted, update_refused)
+pub ruleset ways = (rules, few-values, four_read)

@@ -5,6 +5,3 @@ use Rattle.verdict_line.proofs.put_decimal.Given as goal
 
 abbrev pub invariant-loop-i : goal.invariant-loop-i
 invariant-loop-i l = (l.out ≡ l.initial.out) × Filling 20 (decimal l.x) (digits l.i l.left) l.bytes l.i
-
-abbrev pub decreases-loop-i : goal.decreases-loop-i
-decreases-loop-i l = l.i

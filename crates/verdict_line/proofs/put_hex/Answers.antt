@@ -6,6 +6,3 @@ loop-i-preserved c = search ways
 
 pub returns-clause-out_after : goal.returns-clause-out_after
 returns-clause-out_after c = search ways
-
-pub returns-clause-value : goal.returns-clause-value
-returns-clause-value c = search ways

@@ -4,6 +4,3 @@ use Rattle.verdict_line.proofs.put_hex.Given as goal
 
 abbrev pub invariant-loop-i : goal.invariant-loop-i
 invariant-loop-i l = Filling 16 (hex 16 l.x) (hex l.i l.left) l.bytes l.i
-
-abbrev pub decreases-loop-i : goal.decreases-loop-i
-decreases-loop-i l = l.i

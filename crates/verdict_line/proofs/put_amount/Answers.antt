@@ -1,5 +1,5 @@
 use Rattle.verdict_line.proofs.Ways.{ways}
-use Rattle.verdict_line.proofs.put_halves.Goals as goal
+use Rattle.verdict_line.proofs.put_amount.Goals as goal
 
 pub returns : goal.returns
 returns c = search ways
