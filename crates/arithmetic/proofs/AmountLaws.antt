@@ -85,3 +85,9 @@ module _ (a b : ℕ) {r : Option ℕ} where
 
   pub difference-over : r ≡ difference a b → r ≡ None → a < b
   difference-over e f = ⊎_elim (λ w. (let z : ◌≡◌ {A = ℕ} 0 1 = cc in absurd (omega arith))) (λ w. leb-false _ _ w.0) (difference_arm e)
+
+-- ---- halves
+
+-- a number is its low half and 2^64 times its high one
+pub halves_are : (n : ℕ) → n % 2 ^ 64 + 2 ^ 64 * (n / 2 ^ 64) ≡ n
+halves_are n = omega arith

@@ -1,4 +1,5 @@
 -- The case that a file holds, and its verdict: one law for each way out of the entry's functions.
+use Rattle.std.proofs.Common.{Err}
 use mathlib.Core.Path.{◌≡◌, refl, sym, ap, ◌∙◌}
 use Prim.Native.Nat.{ℕ, suc, ◌+◌, ◌-◌, ◌*◌, ◌≤◌, ◌<◌}
 use mathlib.Core.Bool.{Bool, true, false}
@@ -17,11 +18,10 @@ use Rattle.molecule.specs.Items.{join}
 use Rattle.molecule.specs.Write.{splice, Put}
 use Rattle.molecule.proofs.ItemsLaws.{length-join}
 use Rattle.molecule.proofs.WriteLaws.{splice_zero}
-use Rattle.rules.specs.declared.Update.{Update}
 use Rattle.rules.specs.Cells.{Cell}
 use Rattle.rules.specs.Outcome.{Outcome}
 use Rattle.rules.specs.Judge.{Figures, judge}
-use Rattle.rules.specs.Told.{told}
+use Rattle.rules.specs.Told.{Update, told}
 use Rattle.verdict_line.specs.VerdictLine.{line_of}
 use Rattle.case_file.specs.declared.items.Places.{Places}
 use Rattle.case_file.specs.declared.record_list.Measured.{Measured}
@@ -209,11 +209,11 @@ written {out} {after} {xs} {n} q =
     let z : n - 0 ≡ length xs = omega (arith, q.end) in
     rw (z, q.bytes, splice_zero) (take_at xs (drop (length xs) out) (length xs) refl)
 
-unreadable : (s : List ℕ) → case_of s ≡ none → told (Update.Refused Refusal.LentBytesUnreadable) ≡ verdict_of (case_of s)
+unreadable : (s : List ℕ) → case_of s ≡ none → told (Err Refusal.LentBytesUnreadable) ≡ verdict_of (case_of s)
 unfolding verdict_of number values
 unreadable s e = rw e
 
-pub too_long_lem : (s : List ℕ) → 65536 < length s → told (Update.Refused Refusal.LentBytesUnreadable) ≡ verdict_of (case_of s)
+pub too_long_lem : (s : List ℕ) → 65536 < length s → told (Err Refusal.LentBytesUnreadable) ≡ verdict_of (case_of s)
 unfolding case_of only
 too_long_lem s h = unreadable s (rw (lt-leb (length s) 65536 h))
 
@@ -250,7 +250,7 @@ module _ (s : List ℕ) (short : length s ≤ 65536) where
   case-is = rw (le-leb (length s) 65536 short)
 
   module _ {p : Places} (e : p ≡ places_of s) where
-    pub no_shape : p.records ≡ 65537 → told (Update.Refused Refusal.LentBytesUnreadable) ≡ verdict_of (case_of s)
+    pub no_shape : p.records ≡ 65537 → told (Err Refusal.LentBytesUnreadable) ≡ verdict_of (case_of s)
     no_shape h = unreadable s (case-is ∙ no_head s short p e h)
 
     module _ (h : p.records ≡ 65537 → ⊥) {m : Measured} (f : m ≡ measured (records_from (length s) s p.records)) where
@@ -259,7 +259,7 @@ module _ (s : List ℕ) (short : length s ≤ 65536) where
       no_list_lem z (listed rs g n y) = let l = length-join (map record_bytes rs) in absurd (omega arith)
       no_list_lem z (unlisted g y) = case-is ∙ head s short p e h ∙ rw g
 
-      pub no_records : m.size ≡ 0 → told (Update.Refused Refusal.LentBytesUnreadable) ≡ verdict_of (case_of s)
+      pub no_records : m.size ≡ 0 → told (Err Refusal.LentBytesUnreadable) ≡ verdict_of (case_of s)
       no_records z = unreadable s (no_list_lem z (list_of s p.records m (records_from (length s) s p.records) refl f))
 
       a_case : (m.size ≡ 0 → ⊥) → Listed s p.records m → verdict_at s p (join (walk m.count s p.records)) ≡ verdict_of (case_of s)

@@ -41,16 +41,16 @@ fn judge_case(s: &[u8], records: &mut [u8]) -> Update
     ensures { told result ≡ verdict_of (case_of s.now) }
 {
     if s.len() > FILE_BYTES {
-        return Update::Refused(Refusal::LentBytesUnreadable);
+        return Err(Refusal::LentBytesUnreadable);
     }
     let places = items::find_places(s);
     let from = places.records;
     if from == items::NOWHERE {
-        return Update::Refused(Refusal::LentBytesUnreadable);
+        return Err(Refusal::LentBytesUnreadable);
     }
     let list = record_list::measure(s, from);
     if list.size == 0 {
-        return Update::Refused(Refusal::LentBytesUnreadable);
+        return Err(Refusal::LentBytesUnreadable);
     }
     let n = record_list::put_list(records, s, from, list.count, list.size);
     judge_at(s, places, &records[0..n])

@@ -17,7 +17,7 @@ use Rattle.rules.specs.Outcome.{Outcome, fine, refused, check, check_with, given
 use Rattle.rules.specs.Cells.{Cell, read_records}
 use Rattle.rules.specs.Surplus.{total, capacity_of}
 use Rattle.rules.specs.Judge.{Call, Figures, scripts, limits, comparison, spent, tally, account, token_account, accounts, contribution, judge, judge_against}
-use Rattle.rules.specs.Told.{Update, told, in_force_of}
+use Rattle.rules.specs.Told.{Update, refusal, told, in_force_of}
 use Rattle.rules.specs.Run.{handed_back, next, update_for_peer}
 use Rattle.rules.proofs.Checks.{skip, fail, pass, last_is}
 use Rattle.rules.proofs.CellLaws.{read_yes, read_no, ours_yes, ours_no}
@@ -51,6 +51,17 @@ module _ (source type : List ℕ) (ours peer : Tx) (lent : Option (List (Option 
   pub is-spent : (b : Brought) → brings source type ours peer lent ≡ fine b → (cs : List Cell) × (spent source ours peer lent ≡ fine cs) × (brought type cs ≡ b)
   unfolding brings
   is-spent b e = let (cs, q, f) = bind_fine (spent source ours peer lent) (λ (cs : List Cell). fine (brought type cs)) b e in (cs, q, fine_inj f)
+
+-- ---- the whole: what was known of our bytes, and the rest
+
+module _ (lock type o : List ℕ) (c : Call) {known : Bool} (e : known ≡ readable (option Transaction) o) where
+  pub judge-ours : known ≡ false → refusal Refusal.OurTransactionUnreadable ≡ judge lock type o c
+  unfolding judge given ◌>>=◌ number values
+  judge-ours t = rw (ours_no o (sym e ∙ t))
+
+  pub judge_read : (u : Update) → known ≡ true → told u ≡ judge_against lock type (tx_at o) c → told u ≡ judge lock type o c
+  unfolding judge given ◌>>=◌
+  judge_read u t h = rw (ours_yes o (sym e ∙ t)) h
 
 -- ---- a whole call
 

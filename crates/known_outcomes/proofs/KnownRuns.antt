@@ -1,4 +1,6 @@
 -- A list of updates worked through by the definitions of crates/rules/specs/Run.antt, and what fails where the type changes.
+use Rattle.std.proofs.Common.{Err, Ok}
+use Rattle.rules.specs.Told.{Update}
 use mathlib.Core.Path.{◌≡◌, refl, sym, ap, ◌∙◌}
 use Prim.Native.Nat.{ℕ}
 use native.Mathlib.Omega.{arith}
@@ -12,7 +14,6 @@ use Rattle.arithmetic.specs.Amount.{amount_of}
 use Rattle.units.specs.Units.{in_shannons, in_tokens, shannon_count, token_count}
 use Rattle.error.specs.declared.Refusal.{Refusal}
 use Rattle.error.specs.Refusal.{number, values}
-use Rattle.rules.specs.declared.Update.{Update}
 use Rattle.funding_tx.specs.Negotiation.{Called}
 use Rattle.rules.proofs.Accept.{accepted}
 use Rattle.rules.proofs.Law.{exact}
@@ -64,7 +65,7 @@ abbrev accept : ℕ → ℕ → Call → Returned Update
 accept capacity token c = record { answer = Update.Accepted (in_shannons (amount_of capacity)) (in_tokens (amount_of token)); handed = c.peer }
 
 pub worked_ran : Ran (Called expected_lock token_type) [] worked
-    (accept 860 1 opening ∷ record { answer = Update.Refused Refusal.InvalidPeerFundingTx; handed = opening.peer } ∷ accept 10 1 growing ∷ []) growing.peer
+    (accept 860 1 opening ∷ record { answer = Err Refusal.InvalidPeerFundingTx; handed = opening.peer } ∷ accept 10 1 growing ∷ []) growing.peer
 unfolding computing shannon_count token_count number values
 worked_ran = call (record { answer = refl; bytes = refl }) (call (record { answer = refl; bytes = refl }) (call (record { answer = refl; bytes = refl }) stop))
 

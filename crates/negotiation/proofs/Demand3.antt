@@ -1,4 +1,5 @@
 -- Demand 3 (crates/funding_tx/proofs/Demand3.antt quotes it) of the words that `replay` leaves.
+use Rattle.std.proofs.Common.{Ok, Err}
 use mathlib.Core.Path.{◌≡◌, refl, sym, ap, ◌∙◌}
 use Prim.Native.Nat.{ℕ, ◌*◌, ◌<◌}
 use native.Mathlib.Omega.{arith}
@@ -11,7 +12,7 @@ use lib.Seq.{take_at, drop_at}
 use Rattle.molecule.specs.Molecule.{readable}
 use Rattle.molecule.specs.Layout.{item_count}
 use Rattle.molecule.proofs.Offsets.{span-length}
-use Rattle.arithmetic.proofs.AmountLaws.{value-amount_of}
+use Rattle.arithmetic.proofs.AmountLaws.{halves_are}
 use Rattle.rules.specs.Outcome.{Outcome, fine, refused}
 use Rattle.rules.specs.Cells.{read_ours}
 use Rattle.molecule.specs.Partial.{All}
@@ -23,11 +24,10 @@ use Rattle.rules.proofs.Accept as accept
 use Rattle.rules.proofs.Law.{exact, kept-inputs, kept-records, stay-readable}
 use Rattle.funding_tx.proofs.Demand3.{all_one}
 use Rattle.error.specs.declared.Refusal.{Refusal}
-use Rattle.negotiation.specs.declared.Replayed.{Replayed}
 use Rattle.negotiation.specs.Updates.{Updates, calls_of, call_at, transaction_at}
 use Rattle.words.specs.Words.{number_of, values_of, four_of, surplus_words}
 use Rattle.negotiation.specs.Words.{words, all_words}
-use Rattle.negotiation.specs.Replay.{Summary, accepted_of, index_after, summary_of, replay_of, leaves, answered}
+use Rattle.negotiation.specs.Replay.{Replayed, Summary, accepted_of, index_after, summary_of, replay_of, leaves, answered}
 use Rattle.negotiation.specs.Law.{answer_in, answers_in, Called, Lawful}
 use Rattle.negotiation.proofs.WordLaws.{all_length}
 use Rattle.negotiation.proofs.RunLaws.{length-verdicts, index_names}
@@ -38,7 +38,7 @@ use Rattle.negotiation.proofs.Numbers.{Numbered, verdicts_numbered}
 -- an acceptance as it is, a refusal with its number
 accepted-back : (f : Figures) (ws : List ℕ) → answer_in (words (fine f) ++ ws) ≡ fine f
 unfolding number_of values_of surplus_words
-accepted-back f ws = rw (value-amount_of f.capacity, value-amount_of f.token)
+accepted-back f ws = rw (halves_are f.capacity, halves_are f.token)
 
 refused-back : (n : ℕ) (l ws : List ℕ) → 0 < n → answer_in (words (refused n l) ++ ws) ≡ refused n (four_of l)
 unfolding number_of values_of
@@ -126,14 +126,14 @@ module _ (lock udt start updates before : List ℕ) (n accepted at : ℕ) (after
       lawful vs t v (ap (λ (p : Outcome Summary × List ℕ). p.0) a) (ap (λ (p : Outcome Summary × List ℕ). p.1) a)
   by (refused m l) e a = absurd (never m l _ (sym (ap (λ (p : Outcome Summary × List ℕ). p.0) a)))
 
-  pub demand_3 : Called lock udt start updates before (Replayed.Done n accepted at) after → Lawful lock udt start updates before n accepted at after
+  pub demand_3 : Called lock udt start updates before (Ok (record { updates = n; accepted = accepted; at = at })) after → Lawful lock udt start updates before n accepted at after
   demand_3 = by (replay_of lock udt start updates (length before)) refl
 
 -- a refused call leaves the words as they were
-pub refusals : (lock udt start updates before : List ℕ) (e : Refusal) (after : List ℕ) → Called lock udt start updates before (Replayed.Refused e) after → after ≡ before
+pub refusals : (lock udt start updates before : List ℕ) (e : Refusal) (after : List ℕ) → Called lock udt start updates before (Err e) after → after ≡ before
 unfolding leaves
 refusals lock udt start updates before e after k = of (replay_of lock udt start updates (length before)) k
   where
-    of : (x : Outcome (List (Outcome Figures))) → (answered (Replayed.Refused e), after) ≡ leaves x before → after ≡ before
+    of : (x : Outcome (List (Outcome Figures))) → (answered (Err e), after) ≡ leaves x before → after ≡ before
     of (fine vs) a = absurd (never _ _ _ (ap (λ (p : Outcome Summary × List ℕ). p.0) a))
     of (refused m l) a = ap (λ (p : Outcome Summary × List ℕ). p.1) a

@@ -1,4 +1,5 @@
 -- Laws of the whole call, one for each way out.
+use Rattle.std.proofs.Common.{Ok, Err}
 use mathlib.Core.Path.{◌≡◌, refl, sym, ◌∙◌}
 use Prim.Native.Nat.{ℕ, ◌*◌, ◌/◌, ◌≤◌, ◌<◌}
 use mathlib.Core.Bool.{Bool, true, false, not}
@@ -14,9 +15,8 @@ use Rattle.error.specs.Refusal.{number, values}
 use Rattle.rules.specs.Outcome.{fine, refused, check, check_with, ◌>>◌}
 use Rattle.rules.specs.Run.{verdicts, update_for_peer}
 use Rattle.rules.proofs.Tests.{never}
-use Rattle.negotiation.specs.declared.Replayed.{Replayed}
 use Rattle.negotiation.specs.Updates.{Updates, calls_of}
-use Rattle.negotiation.specs.Replay.{replay_of, leaves, answered}
+use Rattle.negotiation.specs.Replay.{Replayed, replay_of, leaves, answered}
 
 module _ (lock udt start s : List ℕ) (room : ℕ) where
   refused_3 : readable Updates s ≡ false → replay_of lock udt start s room ≡ refused 3 []
@@ -41,21 +41,21 @@ module _ (lock udt start s : List ℕ) (room : ℕ) where
       by true ea true eb = never m l _ (sym e ∙ judged ea eb)
 
 module _ (lock udt start s out : List ℕ) {r : Bool} (e : r ≡ readable Updates s) where
-  pub replay_unreadable : not r ≡ true → (answered (Replayed.Refused Refusal.LentBytesUnreadable), out) ≡ leaves (replay_of lock udt start s (length out)) out
+  pub replay_unreadable : r ≡ false → (answered (Err Refusal.LentBytesUnreadable), out) ≡ leaves (replay_of lock udt start s (length out)) out
   unfolding leaves number values
-  replay_unreadable h = rw (refused_3 lock udt start s (length out) (sym e ∙ not-true r h))
+  replay_unreadable h = rw (refused_3 lock udt start s (length out) (sym e ∙ h))
 
-  module _ {n : ℕ} (t : not r ≡ false) (c : n ≡ item_count s) where
+  module _ {n : ℕ} (t : r ≡ true) (c : n ≡ item_count s) where
     short : length out / 5 < n → leb (5 * item_count s) (length out) ≡ false
     short h = let k : length out < 5 * item_count s = omega arith in lt-leb _ _ k
 
     enough : n ≤ length out / 5 → leb (5 * item_count s) (length out) ≡ true
     enough h = let k : 5 * item_count s ≤ length out = omega arith in le-leb _ _ k
 
-    pub replay_short : length out / 5 < n → (answered (Replayed.Refused Refusal.BufferTooShort), out) ≡ leaves (replay_of lock udt start s (length out)) out
+    pub replay_short : length out / 5 < n → (answered (Err Refusal.BufferTooShort), out) ≡ leaves (replay_of lock udt start s (length out)) out
     unfolding leaves number values
-    replay_short h = rw (refused_13 lock udt start s (length out) (sym e ∙ not-false r t) (short h))
+    replay_short h = rw (refused_13 lock udt start s (length out) (sym e ∙ t) (short h))
 
     pub replay_run : (x : Replayed) {after : List ℕ} → n ≤ length out / 5
         → (answered x, after) ≡ leaves (fine (verdicts (update_for_peer lock udt) start (calls_of s))) out → (answered x, after) ≡ leaves (replay_of lock udt start s (length out)) out
-    replay_run x h k = rw (judged lock udt start s (length out) (sym e ∙ not-false r t) (enough h)) k
+    replay_run x h k = rw (judged lock udt start s (length out) (sym e ∙ t) (enough h)) k

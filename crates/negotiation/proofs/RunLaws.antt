@@ -1,4 +1,5 @@
 -- Laws of the functions that judge: one update, and one after another.
+use Rattle.std.proofs.Common.{true, Ok}
 use mathlib.Core.Path.{◌≡◌, refl, sym, ap, ◌∙◌}
 use Prim.Native.Nat.{ℕ, zero, suc, ◌+◌, ◌-◌, ◌*◌, ◌≤◌, ◌<◌}
 use mathlib.Core.Bool.{Bool, false, not}
@@ -14,15 +15,13 @@ use Rattle.molecule.proofs.WriteLaws.{none, then, splice_zero, splice-length}
 use Rattle.lists.proofs.SpanLaws.{span-on, span-end, span-whole}
 use Rattle.transaction.specs.Ckb.{Transaction}
 use Rattle.transaction.specs.Tx.{tx_at}
-use Rattle.rules.specs.declared.Update.{Update}
 use Rattle.rules.specs.Outcome.{Outcome, fine, refused}
 use Rattle.rules.specs.Judge.{Call, Figures, judge, judge_against}
-use Rattle.rules.specs.Told.{told, in_force_of}
+use Rattle.rules.specs.Told.{Update, told, in_force_of}
 use Rattle.rules.specs.Run.{Entry, handed_back, next, verdicts, in_force, update_for_peer}
 use Rattle.rules.proofs.Accept.{readable-next}
 use Rattle.funding_tx.proofs.Demand3.{hands}
 use Rattle.funding_tx.proofs.VerdictLaws.{judge_read}
-use Rattle.negotiation.specs.declared.Replayed.{Replayed}
 use Rattle.negotiation.specs.Updates.{bytes_of, rate_of, call_at, calls_of, transaction_at}
 use Rattle.negotiation.specs.Words.{words, all_words}
 use Rattle.negotiation.specs.Replay.{accepted_of, index_after, leaves, answered}
@@ -30,7 +29,7 @@ use Rattle.negotiation.proofs.WordLaws.{all_length}
 
 -- what is judged is the update with this index, against the transaction with that one, which is known to be readable
 pub judge-is : (lock udt start s : List ℕ) (at i : ℕ) (u : Update) {known : Bool} {o p r q : List ℕ} {w : ℕ}
-    → known ≡ readable (option Transaction) (transaction_at start s at) → not known ≡ false
+    → known ≡ readable (option Transaction) (transaction_at start s at) → known ≡ true
     → o ≡ transaction_at start s at → p ≡ bytes_of s i 0 → r ≡ bytes_of s i 1 → q ≡ bytes_of s i 2 → w ≡ rate_of s i
     → told u ≡ judge_against lock udt (tx_at o) (record { peer = p; records = r; source = q; rate = w }) → told u ≡ judge lock udt (transaction_at start s at) (call_at s i)
 judge-is lock udt start s at i u e t eo ep er eq ew h = judge_read lock udt (transaction_at start s at) (call_at s i) e u t (rw (← eo, ← ep, ← er, ← eq, ← ew) h)
@@ -161,7 +160,7 @@ module _ {lock udt start s out₀ : List ℕ} {known : Bool} {n i at accepted : 
   none_left : n ≤ i → rest lock udt start s at i n ≡ []
   none_left l = ap (verdicts (update_for_peer lock udt) (transaction_at start s at)) (span-end (call_at s) i n l)
 
-  pub run_end : n ≤ i → (answered (Replayed.Done n accepted at), out) ≡ leaves (fine (verdicts (update_for_peer lock udt) start (calls_of s))) out₀
+  pub run_end : n ≤ i → (answered (Ok (record { updates = n; accepted = accepted; at = at })), out) ≡ leaves (fine (verdicts (update_for_peer lock udt) start (calls_of s))) out₀
   unfolding leaves all_words index_after accepted_of
   run_end l =
       let z = none_left l in

@@ -9,11 +9,10 @@ use Rattle.rules.specs.Cells.{read_ours}
 use Rattle.rules.specs.Surplus.{capacities, expected}
 use Rattle.rules.specs.Judge.{Figures, tx_of}
 use Rattle.rules.specs.Run.{Exact, update_for_peer, verdicts, in_force, kept, kept_records, inputs_of, records_of}
-use Rattle.negotiation.specs.declared.Replayed.{Replayed}
 use Rattle.negotiation.specs.Updates.{Updates, calls_of, transaction_at}
 use Rattle.words.specs.Words.{four_of}
 use Rattle.negotiation.specs.Words.{all_words}
-use Rattle.negotiation.specs.Replay.{accepted_of, replay_of, leaves, answered}
+use Rattle.negotiation.specs.Replay.{Replayed, accepted_of, replay_of, leaves, answered}
 
 -- the answer that five words tell: where the first is 0 an acceptance, with its two surpluses in halves
 abbrev pub answer_in : List ℕ → Outcome Figures

@@ -1,13 +1,14 @@
 -- A list of updates judged one after another, each against the transaction that the one before it left in force (docs/RULES.md, "The three demands", 3): what `replay`
 -- answers, and what it leaves in the lent buffer (ours: docs/DECISIONS.md, "Lists of updates").
-use Rattle.std.specs.Prelude.{ℕ, ◌+◌, ◌*◌, List, [], ◌∷◌, ◌++◌, length, drop, leb}
+use Rattle.std.specs.Prelude.{ℕ, ◌+◌, ◌*◌, List, [], ◌∷◌, ◌++◌, length, drop, leb, Result}
 use Rattle.molecule.specs.Molecule.{readable}
 use Rattle.molecule.specs.Layout.{item_count}
 use Rattle.rules.specs.Outcome.{Outcome, fine, refused, check, ◌>>◌}
 use Rattle.rules.specs.Judge.{Figures}
-use Rattle.rules.specs.Told.{refusal}
+use Rattle.rules.specs.Told.{told_by}
 use Rattle.rules.specs.Run.{handed_back, carried, sum, verdicts, update_for_peer}
-use Rattle.negotiation.specs.declared.Replayed.{Replayed}
+use Rattle.error.specs.declared.Refusal.{Refusal}
+use Rattle.negotiation.specs.declared.Summary as replay
 use Rattle.negotiation.specs.Updates.{Updates, calls_of}
 use Rattle.negotiation.specs.Words.{all_words}
 
@@ -42,7 +43,10 @@ unfoldable pub leaves : Outcome (List (Outcome Figures)) → List ℕ → Outcom
 leaves (fine vs) out = (fine (summary_of vs), all_words vs ++ drop (length (all_words vs)) out)
 leaves (refused n l) out = (refused n l, out)
 
--- the number and figures of each answer
+-- what `replay` answers
+abbrev pub Replayed : Type 0
+Replayed = Result replay.Summary Refusal
+
+-- the figures of an answer in numbers
 abbrev pub answered : Replayed → Outcome Summary
-answered (Replayed.Done updates accepted at) = fine (record { updates = updates; accepted = accepted; at = at })
-answered (Replayed.Refused e) = refusal e
+answered = told_by (λ r. record { updates = r.updates; accepted = r.accepted; at = r.at })

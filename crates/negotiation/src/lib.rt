@@ -1,5 +1,5 @@
 // A negotiation: a lent list of updates, each judged against the transaction that the one before it left in force.
-#![tactic(auto)]
+#![tactic(auto, using(crate::proofs::Ways::ways))]
 
 ghost use Rattle.std.specs.Prelude.{◌≡◌, ◌+◌, ◌*◌, ◌≤◌, length};
 ghost use Rattle.molecule.specs.Molecule.{option, readable};
@@ -21,15 +21,14 @@ use rules::Update;
 
 // What a list of updates came to: how many they were, how many were accepted, and which transaction is then in force: 0 for the one at the start, k + 1 for
 // that of update k.
-#[derive(Clone, Copy)]
-pub enum Replayed {
-    Done {
-        updates: usize,
-        accepted: usize,
-        at: usize,
-    },
-    Refused(Refusal),
+#[derive(Clone, Copy, Debug, PartialEq, Eq, Hash)]
+pub struct Summary {
+    pub updates: usize,
+    pub accepted: usize,
+    pub at: usize,
 }
+
+pub type Replayed = Result<Summary, Refusal>;
 
 // ---- the form of the list
 
@@ -37,19 +36,11 @@ pub enum Replayed {
 fn is_update(s: &[u8]) -> bool
     ensures { result ≡ readable form.Update s.now }
 {
-    if !molecule::has_items(s, 4) {
-        return false;
-    }
-    if !molecule::is_bytes(molecule::field(s, 4, 0)) {
-        return false;
-    }
-    if !molecule::is_bytes(molecule::field(s, 4, 1)) {
-        return false;
-    }
-    if !molecule::is_bytes(molecule::field(s, 4, 2)) {
-        return false;
-    }
-    molecule::field_len(s, 4, 3) == 8
+    molecule::has_items(s, 4)
+        && molecule::is_bytes(molecule::field(s, 4, 0))
+        && molecule::is_bytes(molecule::field(s, 4, 1))
+        && molecule::is_bytes(molecule::field(s, 4, 2))
+        && molecule::field_len(s, 4, 3) == 8
 }
 
 // Whether s is a list of updates.
@@ -60,13 +51,11 @@ pub fn is_updates(s: &[u8]) -> bool
     if !molecule::has_items(s, n) {
         return false;
     }
-    let mut i = 0;
-    while i < n {
+    for i in 0..n {
         let x = molecule::item(s, i);
         if !is_update(x) {
             return false;
         }
-        i += 1;
     }
     true
 }
@@ -118,7 +107,7 @@ fn judge_at<'a>(
     ensures { told result ≡ judge lock.now udt.now (transaction_at start.now updates.now at) (call_at updates.now i) }
 {
     if !known {
-        return Update::Refused(Refusal::OurTransactionUnreadable);
+        return Err(Refusal::OurTransactionUnreadable);
     }
     let ours = transaction_at(start, updates, at);
     let peer = bytes(updates, i, 0);
@@ -133,11 +122,7 @@ fn copy(answers: &mut [u64], at: usize, words: &[u64])
     requires { at + length words.now ≤ length answers.old }
     ensures { answers.new ≡ splice answers.old at words.now }
 {
-    let mut i = 0;
-    while i < words.len() {
-        answers[at + i] = words[i];
-        i += 1;
-    }
+    answers[at..at + words.len()].copy_from_slice(words);
 }
 
 // Writes the words of an answer to `at`, where there is room for five.
@@ -146,7 +131,7 @@ fn put_words(answers: &mut [u64], at: usize, update: Update)
     ensures { answers.new ≡ splice answers.old at (words (told update)) }
 {
     let mut four = [0u64; 4];
-    let number = words::tell_update(update, &mut four) as u64;
+    let number = u64::from(words::tell_update(update, &mut four));
     let five = [number, four[0], four[1], four[2], four[3]];
     copy(answers, at, &five);
 }
@@ -156,11 +141,8 @@ fn after(update: Update, ours: usize, peer: usize) -> usize
     ensures { result ≡ in_force_of update ours peer }
 {
     match update {
-        Update::Accepted {
-            capacity: _,
-            token: _,
-        } => peer,
-        Update::Refused(_) => ours,
+        Ok(_) => peer,
+        Err(_) => ours,
     }
 }
 
@@ -182,19 +164,17 @@ fn judge_all<'a>(
     let known = transaction::is_optional_transaction(start);
     let mut at = 0;
     let mut accepted = 0;
-    let mut i = 0;
-    while i < n {
+    for i in 0..n {
         let update = judge_at(start, lock, udt, updates, known, at, i);
         put_words(answers, 5 * i, update);
-        i += 1;
-        at = after(update, at, i);
+        at = after(update, at, i + 1);
         accepted = after(update, accepted, accepted + 1);
     }
-    Replayed::Done {
+    Ok(Summary {
         updates: n,
         accepted,
         at,
-    }
+    })
 }
 
 // Judges a list of updates, each against the transaction that the one before it left in force, under one expected lock and type. For update k, five words of
@@ -210,11 +190,11 @@ pub fn replay<'a>(
     ensures { (answered result, answers.new) ≡ leaves (replay_of lock.now udt.now start.now updates.now (length answers.old)) answers.old }
 {
     if !is_updates(updates) {
-        return Replayed::Refused(Refusal::LentBytesUnreadable);
+        return Err(Refusal::LentBytesUnreadable);
     }
     let n = molecule::item_count(updates) as usize;
     if answers.len() / 5 < n {
-        return Replayed::Refused(Refusal::BufferTooShort);
+        return Err(Refusal::BufferTooShort);
     }
     judge_all(start, lock, udt, updates, n, answers)
 }

@@ -1,8 +1,13 @@
-use Rattle.negotiation.proofs.Ways.{ways}
+use Rattle.std.proofs.Common.{◌≡◌, ◌+◌, ◌-◌, List, ℕ, length, take, drop, ap, ◌∙◌, refl, arith, ◌++◌}
+use Rattle.std.proofs.lemmas.Slice.{put_mid-paste}
+use Rattle.std.proofs.lemmas.List.{take_all}
+use Rattle.molecule.specs.Write.{splice}
 use Rattle.negotiation.proofs.copy.Goals as goal
 
-pub loop-i-preserved : goal.loop-i-preserved
-loop-i-preserved c = search ways
-
 pub returns : goal.returns
-returns c = search ways
+unfolding splice
+returns c =
+    let n = length c.args.words.now in
+    let k : n ≡ c.args.at + n - c.args.at = omega arith in
+    put_mid-paste c.args.at (c.args.at + n - c.args.at) c.args.answers.now c.copy_from_slice.new.self c.args.words.now n c.copy_from_slice.ensures.after k refl
+    ∙ rw (take_all n c.args.words.now (omega arith))

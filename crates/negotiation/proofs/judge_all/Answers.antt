@@ -1,9 +1,6 @@
 use Rattle.negotiation.proofs.Ways.{ways}
 use Rattle.negotiation.proofs.judge_all.Goals as goal
 
-pub loop-i-init : goal.loop-i-init
-loop-i-init c = search ways
-
 pub loop-i-preserved : goal.loop-i-preserved
 loop-i-preserved c = search ways
 

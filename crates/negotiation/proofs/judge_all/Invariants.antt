@@ -4,6 +4,3 @@ use Rattle.negotiation.proofs.judge_all.Given as goal
 
 abbrev pub invariant-loop-i : goal.invariant-loop-i
 invariant-loop-i l = Running l.lock l.udt l.start l.updates l.initial.answers l.known l.n l.i l.at l.accepted l.answers
-
-abbrev pub decreases-loop-i : goal.decreases-loop-i
-decreases-loop-i l = l.n - l.i
