@@ -1,5 +1,5 @@
 use Rattle.list_writer.proofs.Ways.{ways}
-use Rattle.list_writer.proofs.later_size.Goals as goal
+use Rattle.list_writer.proofs.Later.put.Goals as goal
 
 pub loop-i-init : goal.loop-i-init
 loop-i-init c = search ways
