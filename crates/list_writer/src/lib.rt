@@ -54,7 +54,7 @@ fn has_room(parts: &[&[u8]], room: usize) -> bool
 
 // Puts them at `at`, one after the other, and answers the place after them. Where there is no room for all of them nothing is written, and the place
 // that is answered is the one that was given.
-#[tactic(auto, using(std::proofs::lemmas::Bool::Decides::nat_tests, crate::proofs::JoinLaws::words_length), unfolding(molecule::specs::Write::put_at, molecule::specs::Write::put_end))]
+#[tactic(auto, using(std::proofs::lemmas::Bool::Decides::nat_tests), unfolding(molecule::specs::Write::put_at, molecule::specs::Write::put_end))]
 pub fn put_all(out: &mut [u8], at: usize, parts: &[&[u8]]) -> usize
     ensures out_after { out.new ≡ put_at out.old at (joined parts.now) }
     ensures value { result ≡ put_end out.old at (joined parts.now) }
