@@ -1,5 +1,5 @@
 use Rattle.base_inputs.proofs.Ways.{ways}
-use Rattle.base_inputs.proofs.put_inputs.Goals as goal
+use Rattle.base_inputs.proofs.Inputs.put.Goals as goal
 
 pub returns-then-not-fits-clause-out_after : goal.returns-then-not-fits-clause-out_after
 returns-then-not-fits-clause-out_after c = search ways
