@@ -53,18 +53,20 @@ module _ (c : ℕ) (lock type : List ℕ) where
   unfolding cell_output
   output-length = length-join _ ∙ omega (arith, body_length)
 
-  pub runs : output_head c (length lock) (length type) ++ lock ++ type ≡ cell_output c lock type
+  runs : output_head c (length lock) (length type) ++ lock ++ type ≡ cell_output c lock type
   unfolding output_head cell_output join unwords offsets flatten
   runs =
       let n : 16 + length (flatten (to_le 8 c ∷ lock ∷ type ∷ [])) ≡ 24 + length lock + length type = omega (arith, body_length) in
       rw (n, length-to_le 8 c) (simp (append_assoc, append-nil))
 
-  module _ {x : List ℕ} (ex : x ≡ output_head c (length lock) (length type)) (out : List ℕ) (at : ℕ) where
-    whole : x ++ (lock ++ (type ++ [])) ≡ cell_output c lock type
-    whole = rw (ex, append-nil, ← append_assoc) runs
+  -- the head, the lock and the type, as they are put
+  module _ {x : List ℕ} (ex : x ≡ output_head c (length lock) (length type)) where
+    pub output_is : x ++ (lock ++ (type ++ [])) ≡ cell_output c lock type
+    output_is = rw (ex, append-nil, ← append_assoc) runs
 
-    pub put_output : {after : List ℕ} → after ≡ put_at out at (x ++ (lock ++ (type ++ []))) → after ≡ put_at out at (cell_output c lock type)
-    put_output e = rw whole at e
+    module _ (out : List ℕ) (at : ℕ) where
+      pub put_output : {after : List ℕ} → after ≡ put_at out at (x ++ (lock ++ (type ++ []))) → after ≡ put_at out at (cell_output c lock type)
+      put_output e = rw output_is at e
 
-    pub end_output : {next : ℕ} → next ≡ put_end out at (x ++ (lock ++ (type ++ []))) → next ≡ put_end out at (cell_output c lock type)
-    end_output e = rw whole at e
+      pub end_output : {next : ℕ} → next ≡ put_end out at (x ++ (lock ++ (type ++ []))) → next ≡ put_end out at (cell_output c lock type)
+      end_output e = rw output_is at e

@@ -1,5 +1,5 @@
 use Rattle.base_lists.proofs.Ways.{ways}
-use Rattle.base_lists.proofs.outputs_data.put_behind.Goals as goal
+use Rattle.base_lists.proofs.outputs_data.OutputsData.put_behind.Goals as goal
 
 pub returns-then-is_zero-clause-out_after : goal.returns-then-is_zero-clause-out_after
 returns-then-is_zero-clause-out_after c = search ways
