@@ -102,7 +102,7 @@ module _ (v : ℕ) (a b c d e : List ℕ) where
     five_length = simp length-append (omega arith)
 
     -- the head, and then the lists
-    head_runs : tx_head v (length a) (length b) (length c) (length d) (length e) (length w) ++ flatten (a ∷ b ∷ c ∷ d ∷ e ∷ []) ++ w ≡ tx_bytes v a b c d e w
+    pub head_runs : tx_head v (length a) (length b) (length c) (length d) (length e) (length w) ++ flatten (a ∷ b ∷ c ∷ d ∷ e ∷ []) ++ w ≡ tx_bytes v a b c d e w
     unfolding tx_head
     head_runs =
         let n : 12 + raw_size a b c d e + length w ≡ tx_size a b c d e w = omega arith in

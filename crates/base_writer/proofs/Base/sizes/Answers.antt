@@ -1,5 +1,5 @@
 use Rattle.base_writer.proofs.Ways.{ways}
-use Rattle.base_writer.proofs.put_back.Goals as goal
+use Rattle.base_writer.proofs.Base.sizes.Goals as goal
 
 pub returns : goal.returns
 returns c = search ways
