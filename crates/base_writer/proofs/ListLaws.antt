@@ -1,6 +1,6 @@
 -- The header deps, and the sizes of all lists.
-use mathlib.Core.Path.{◌≡◌, refl, sym, ap, ◌∙◌}
-use Prim.Native.Nat.{ℕ, suc, ◌+◌, ◌-◌, min}
+use mathlib.Core.Path.{◌≡◌, refl}
+use Prim.Native.Nat.{ℕ, suc, ◌-◌, min}
 use mathlib.Core.Bool.{Bool, true, false, not, cond}
 use mathlib.Core.List.{List, [], ◌∷◌}
 use native.Mathlib.Omega.{arith}
@@ -13,13 +13,13 @@ use Rattle.arithmetic.specs.LittleEndian.{to_le}
 use Rattle.units.specs.declared.Tokens.{Tokens}
 use Rattle.units.specs.Units.{shannon_count, token_count}
 use Rattle.molecule.specs.Items.{join}
-use Rattle.molecule.specs.Layout.{item_count, fix_count}
+use Rattle.molecule.specs.Layout.{item_count}
 use Rattle.rules.specs.Surplus.{is_empty}
 use Rattle.base_inputs.specs.declared.Inputs.{Inputs}
 use Rattle.base_inputs.specs.BaseInputs.{inputs_bytes}
 use Rattle.base_lists.specs.declared.{outputs.Outputs.Outputs, outputs_data.OutputsData.OutputsData, witnesses.Witnesses.Witnesses}
 use Rattle.base_lists.specs.BaseLists.{output_list, data_list}
-use Rattle.base_lists.specs.Parts.{outputs_bytes, data_bytes, tokens_of, witness_bytes}
+use Rattle.base_lists.specs.Parts.{data_bytes, tokens_of, witness_bytes}
 use Rattle.list_writer.specs.ListWriter.{fix_list}
 use Rattle.cell_deps.specs.CellDeps.{deps_at}
 use Rattle.base_writer.specs.declared.Base.{Base}

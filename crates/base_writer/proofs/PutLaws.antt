@@ -1,14 +1,13 @@
 -- The lists put one after the other.
-use mathlib.Core.Path.{◌≡◌, ap, ◌∙◌}
-use Prim.Native.Nat.{ℕ, ◌+◌, ◌≤◌, ◌<◌, min}
+use mathlib.Core.Path.{◌≡◌, ◌∙◌}
+use Prim.Native.Nat.{ℕ, ◌+◌, ◌≤◌, min}
 use mathlib.Core.List.{List, [], ◌∷◌, ◌++◌, flatten, append_assoc, append-nil}
 use native.Mathlib.Omega.{arith}
 use lib.ListN.{length, length-append}
 use Rattle.molecule.specs.Write.{put_at, put_end, Put}
 use Rattle.molecule.proofs.WriteLaws.{then, and_put, as_bytes, length-kept}
 use Rattle.transaction_writer.specs.declared.Sizes.{Sizes}
-use Rattle.transaction_writer.specs.TxFields.{total}
-use Rattle.transaction_writer.specs.Written.{tx_head, put_head, head_end}
+use Rattle.transaction_writer.specs.Written.{put_head, head_end}
 use Rattle.transaction_writer.proofs.PutLaws.{head_did, head_length, head_runs}
 use Rattle.list_writer.specs.ListWriter.{fix_list, put_list, put_list_end}
 use Rattle.list_writer.proofs.AnswerLaws.{did_list, and_list}
@@ -18,7 +17,7 @@ use Rattle.base_lists.specs.declared.{outputs.Outputs.Outputs, outputs_data.Outp
 use Rattle.base_lists.specs.Parts.{outputs_bytes, data_bytes, witness_bytes}
 use Rattle.cell_deps.specs.CellDeps.{deps_at}
 use Rattle.base_writer.specs.declared.Base.{Base}
-use Rattle.base_writer.specs.Lists.{or_empty, Lists, lists_of, bytes_of, Capped, Fitting, BackFits, front, back}
+use Rattle.base_writer.specs.Lists.{or_empty, Lists, lists_of, bytes_of, Fitting, BackFits, front, back}
 use Rattle.base_writer.specs.Base.{lists_in, inputs_in, outputs_in, data_in, witnesses_in}
 use Rattle.base_writer.proofs.ListLaws.{data_same}
 

@@ -1,9 +1,8 @@
 -- The whole list: what its writer answers, from the sizes of its parts.
 use mathlib.Core.Path.{◌≡◌, sym, ap, ◌∙◌}
-use Prim.Native.Nat.{ℕ, ◌+◌, ◌≤◌, min}
+use Prim.Native.Nat.{ℕ, min}
 use mathlib.Core.Bool.{Bool, true, false, not}
 use mathlib.Core.List.{List}
-use native.Mathlib.Omega.{arith}
 use lib.ListN.{length}
 use Rattle.molecule.specs.Write.{Put}
 use Rattle.list_writer.specs.ListWriter.{put_list, put_list_end}

@@ -1,8 +1,8 @@
 -- What the functions of this crate put, one after the other, is what the definitions say: one law for each function.
-use mathlib.Core.Path.{◌≡◌, refl, sym, ap, ◌∙◌}
-use mathlib.Core.Bool.{true, false}
+use mathlib.Core.Path.{◌≡◌, refl, ap, ◌∙◌}
+use mathlib.Core.Bool.{true}
 use borrow.Author.Tests.{le-leb}
-use Prim.Native.Nat.{ℕ, ◌+◌, ◌≤◌, ◌<◌, min}
+use Prim.Native.Nat.{ℕ, ◌+◌, ◌≤◌, min}
 use mathlib.Core.List.{List, [], ◌∷◌, ◌++◌, flatten, append_assoc, append-nil}
 use native.Mathlib.Omega.{arith}
 use lib.ListN.{length, length-append}
@@ -11,7 +11,7 @@ use Rattle.arithmetic.proofs.LittleEndianLaws.{length-to_le}
 use Rattle.molecule.specs.Items.{join, unwords, offsets}
 use Rattle.molecule.specs.Write.{put_at, put_end, Put}
 use Rattle.molecule.proofs.ItemsLaws.{length-join, length-unwords}
-use Rattle.molecule.proofs.WriteLaws.{did, and_put, as_bytes, length-kept}
+use Rattle.molecule.proofs.WriteLaws.{did, and_put, as_bytes}
 use Rattle.list_writer.proofs.HeadLaws.{cap_next}
 use Rattle.list_writer.proofs.SpanLaws.{unwords-append}
 use Rattle.transaction_writer.specs.declared.{TxFields.TxFields, Sizes.Sizes}

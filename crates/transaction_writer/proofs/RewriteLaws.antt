@@ -1,12 +1,12 @@
 -- Writing the fields of a readable transaction yields it again (docs/RULES.md, demand 2: "writing its fields, within the rules' limit, yields it again").
 use mathlib.Core.Path.{◌≡◌, sym, ap, ◌∙◌, subst}
 use Prim.Native.Nat.{ℕ}
-use mathlib.Core.Bool.{Bool, true, false, not, ◌&&◌, and-eq-true_iff}
+use mathlib.Core.Bool.{Bool, true, ◌&&◌, and-eq-true_iff}
 use mathlib.Core.List.{List}
 use Rattle.std.specs.Prelude.{Result}
 use native.Mathlib.Omega.{arith}
-use borrow.Author.Tests.{eqb-true, not-false}
-use lib.ListN.{length, get_or, get_or-eq_default}
+use borrow.Author.Tests.{eqb-true}
+use lib.ListN.{length}
 use lib.Seq.{take_all}
 use Rattle.arithmetic.specs.LittleEndian.{le, to_le, AllBytes, u32_at}
 use Rattle.arithmetic.proofs.LittleEndianLaws.{to_le-le, num_some}
