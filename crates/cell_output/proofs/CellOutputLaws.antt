@@ -1,10 +1,9 @@
 -- Laws of specs/CellOutput.antt.
 use Rattle.std.proofs.Common.{◌≡◌, ℕ, ◌+◌, ◌/◌, ◌%◌, ◌^◌, List, [], ◌∷◌, ◌++◌, length, get_or, ◌∙◌, append_assoc, append-nil, arith, length-append}
-use Rattle.std.specs.Int.{w64, to_le_bytes}
+use Rattle.std.specs.Int.{w64, w128, to_le_bytes}
 use mathlib.Core.List.{flatten}
 use Rattle.arithmetic.specs.LittleEndian.{to_le}
-use Rattle.arithmetic.specs.Amount.{value}
-use Rattle.arithmetic.proofs.LittleEndianLaws.{length-to_le}
+use Rattle.arithmetic.proofs.LittleEndianLaws.{length-to_le, bytes-of}
 use Rattle.units.specs.declared.Shannons.{Shannons}
 use Rattle.units.specs.Units.{shannon_count}
 use Rattle.molecule.specs.Items.{join, unwords, offsets}
@@ -30,16 +29,16 @@ unfolding to_le
 low_eight n e = rw e
 
 pub head_is : (c : Shannons) (lock type : ℕ) {a b z : List ℕ} → a ≡ to_le_bytes w64 (((24 + lock) % 2 ^ 64 + type) % 2 ^ 64) → b ≡ to_le_bytes w64 ((24 + lock) % 2 ^ 64)
-    → z ≡ to_le 16 (value c.0)
+    → z ≡ to_le_bytes w128 c.0
     → get_or a 0 0 ∷ get_or a 1 0 ∷ get_or a 2 0 ∷ get_or a 3 0 ∷ 16 ∷ 0 ∷ 0 ∷ 0 ∷ 24 ∷ 0 ∷ 0 ∷ 0
     ∷ get_or b 0 0 ∷ get_or b 1 0 ∷ get_or b 2 0 ∷ get_or b 3 0
     ∷ get_or z 0 0 ∷ get_or z 1 0 ∷ get_or z 2 0 ∷ get_or z 3 0 ∷ get_or z 4 0 ∷ get_or z 5 0 ∷ get_or z 6 0 ∷ get_or z 7 0 ∷ []
     ≡ output_head (shannon_count c) lock type
-unfolding output_head unwords shannon_count to_le
+unfolding output_head unwords to_le
 head_is c lock type ea eb ez =
     let p = low_four (((24 + lock) % 2 ^ 64 + type) % 2 ^ 64) (24 + lock + type) ea (omega arith) in
     let q = low_four ((24 + lock) % 2 ^ 64) (24 + lock) eb (omega arith) in
-    let r = low_eight (value c.0) ez in
+    let r = low_eight c.0 (bytes-of 16 c.0 ez) in
     cc
 
 -- ---- the output
