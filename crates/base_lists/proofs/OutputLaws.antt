@@ -3,7 +3,6 @@ use mathlib.Core.Path.{◌≡◌, refl, sym, ap, ap₂, ◌∙◌}
 use Prim.Native.Nat.{ℕ, ◌+◌, min}
 use mathlib.Core.Bool.{Bool, true, false}
 use mathlib.Core.List.{List, [], ◌++◌}
-use native.Mathlib.Omega.{arith}
 use borrow.Author.Tests.{eqb-true, eqb-false}
 use lib.ListN.{length}
 use Rattle.arithmetic.specs.Amount.{is_zero}
@@ -18,9 +17,6 @@ use Rattle.cell_output.proofs.CellOutputLaws.{output-length, output_is}
 use Rattle.base_lists.specs.BaseLists.{output_list}
 
 -- ---- how long
-
-pub cell_cap : (m n : ℕ) {a r : ℕ} → a ≡ min (24 + m) 133117 → r ≡ min (a + n) 133117 → r ≡ min (24 + m + n) 133117
-cell_cap m n e f = omega arith
 
 -- whether there is a change
 module _ (c : Shannons) {z : Bool} (ez : z ≡ is_zero c.0) where

@@ -1,10 +1,10 @@
 -- Whether bytes fit, and what a writer that found out answers.
 use mathlib.Core.Path.{◌≡◌, refl, sym, ◌∙◌}
-use Prim.Native.Nat.{ℕ, ◌+◌, ◌*◌, ◌≤◌, ◌<◌, min}
+use Prim.Native.Nat.{ℕ, ◌+◌, ◌*◌, ◌≤◌, min}
 use mathlib.Core.Bool.{Bool, true, false, not, ◌&&◌, cond, and-eq-true_iff}
 use mathlib.Core.List.{List, ◌++◌, flatten}
 use native.Mathlib.Omega.{arith}
-use borrow.Author.Tests.{le-leb, lt-leb, leb-true, not-true, not-false}
+use borrow.Author.Tests.{le-leb, leb-true, not-true, not-false}
 use lib.ListN.{length}
 use lib.Dec.{leb}
 use Rattle.molecule.specs.Write.{put_at, put_end, Put}
@@ -65,16 +65,6 @@ did_list xs e f low room = let l = le-leb (length xs) 133116 low in did xs (rw l
 pub and_list : (ys : List ℕ) {out o₁ o₂ : List ℕ} {at n₁ n₂ : ℕ} {xs : List ℕ} → Put out at xs o₁ n₁ → o₂ ≡ put_list o₁ n₁ ys → n₂ ≡ put_list_end o₁ n₁ ys
     → length ys ≤ 133116 → at + length xs + length ys ≤ length out → Put out at (xs ++ ys) o₂ n₂
 and_list ys p e f low room = let l = length-kept p in then p (did_list ys e f low (omega (arith, p.end)))
-
--- a list that is longer than a transaction may be
-module _ (out : List ℕ) (at : ℕ) (xs : List ℕ) (h : 133116 < length xs) where
-  pub too_long_lem : out ≡ put_list out at xs
-  unfolding put_list
-  too_long_lem = rw (lt-leb (length xs) 133116 h)
-
-  pub too_long-end : at ≡ put_list_end out at xs
-  unfolding put_list_end
-  too_long-end = rw (lt-leb (length xs) 133116 h)
 
 -- ---- sizes that stop at a cap, of parts and of the whole
 

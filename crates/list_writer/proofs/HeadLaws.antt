@@ -140,16 +140,3 @@ put_around first s k last {f = f} {l = l} h ef el p v d₁ e₁ q d₂ e₂ =
     let y = q.end in
     let p₂ = did last d₂ e₂ (omega arith) in
     as_bytes (around_runs first s k last) (then (rw (fe, le) at p) (then (then p₁ q) p₂))
-
--- ---- sizes that stop at a cap
-
-pub cap_next : (m n x b : ℕ) → n ≡ min x 133117 → m ≡ min (n + b) 133117 → m ≡ min (x + b) 133117
-cap_next m n x b e f = omega arith
-
-cap_both : (m n l x y : ℕ) → n ≡ min x 133117 → l ≡ min y 133117 → m ≡ min (n + l) 133117 → m ≡ min (x + y) 133117
-cap_both m n l x y e f g = omega arith
-
-pub list_cap : (first : ℕ) (s : List ℕ) (k last : ℕ) {w n₁ z n₂ n₃ : ℕ} → w ≡ min (4 * last) 4 → n₁ ≡ min (8 + 4 * k + w + first) 133117
-    → z ≡ min (length (flatten (later s k))) 133117 → n₂ ≡ min (n₁ + z) 133117 → n₃ ≡ min (n₂ + last) 133117 → n₃ ≡ min (list_size first s k last) 133117
-list_cap first s k last a b c d e =
-    cap_next _ _ _ last (cap_both _ _ _ (head_size k last + first) (length (flatten (later s k))) (rw a at b) c d) e

@@ -22,9 +22,6 @@ module _ {A : Type 0} (f : A → List ℕ) (xs : List A) (i : ℕ) (d : A) (h : 
   one-more : flat_map f (take (i + 1) xs) ≡ flat_map f (take i xs) ++ f (get_or xs i d)
   one-more = ap (flat_map f) (take_more xs i d h) ∙ sym (flat_map_more f [] (take i xs) (get_or xs i d))
 
-  length-more : length (flat_map f (take (i + 1) xs)) ≡ length (flat_map f (take i xs)) + length (f (get_or xs i d))
-  length-more = ap length one-more ∙ length-append (flat_map f (take i xs)) (f (get_or xs i d))
-
 -- ---- whether stretches fit
 
 pub part_in : (ps : List (Bor (List ℕ))) (i : ℕ) (d : Bor (List ℕ)) → i < length ps → length (joined (take i ps)) + length (get_or ps i d).now ≤ length (joined ps)

@@ -2,7 +2,7 @@
 use mathlib.Core.Path.{◌≡◌, refl, ap, ◌∙◌}
 use mathlib.Core.Bool.{true}
 use borrow.Author.Tests.{le-leb}
-use Prim.Native.Nat.{ℕ, ◌+◌, ◌≤◌, min}
+use Prim.Native.Nat.{ℕ, ◌+◌, ◌≤◌}
 use mathlib.Core.List.{List, [], ◌∷◌, ◌++◌, flatten, append_assoc, append-nil}
 use native.Mathlib.Omega.{arith}
 use lib.ListN.{length, length-append}
@@ -12,7 +12,6 @@ use Rattle.molecule.specs.Items.{join, unwords, offsets}
 use Rattle.molecule.specs.Write.{put_at, put_end, Put}
 use Rattle.molecule.proofs.ItemsLaws.{length-join, length-unwords}
 use Rattle.molecule.proofs.WriteLaws.{did, and_put, as_bytes}
-use Rattle.list_writer.proofs.HeadLaws.{cap_next}
 use Rattle.list_writer.proofs.SpanLaws.{unwords-append}
 use Rattle.transaction_writer.specs.declared.{TxFields.TxFields, Sizes.Sizes}
 use Rattle.transaction_writer.specs.Written.{raw_bytes, tx_bytes, tx_head, fits, put_head, head_end, tx_size}
@@ -97,10 +96,6 @@ module _ (v : ℕ) (a b c d e : List ℕ) where
         unfold flatten in simp (length-append, raw_length) (omega arith) in
         rw (n, raw_length) (simp (append_assoc, append-nil))
 
-    five_length : length (flatten (a ∷ b ∷ c ∷ d ∷ e ∷ [])) ≡ length a + length b + length c + length d + length e
-    unfolding flatten
-    five_length = simp length-append (omega arith)
-
     -- the head, and then the lists
     pub head_runs : tx_head v (length a) (length b) (length c) (length d) (length e) (length w) ++ flatten (a ∷ b ∷ c ∷ d ∷ e ∷ []) ++ w ≡ tx_bytes v a b c d e w
     unfolding tx_head
@@ -125,10 +120,3 @@ module _ (f : TxFields) where
       let l = head_length f.version (length f.deps.now) (length f.headers.now) (length f.inputs.now) (length f.outputs.now) (length f.datas.now) (length f.witnesses.now) in
       let p = head_did f.version (length f.deps.now) (length f.headers.now) (length f.inputs.now) (length f.outputs.now) (length f.datas.now) (length f.witnesses.now) out h.1 h.0 (rw ez at eh) (rw ez at nh) in
       as_bytes fields_runs (and_put _ p d k (simp length-append (omega (arith, l, h.0))))
-
--- ---- a sum that stops at a cap
-
-pub cap_six : (a b c d e f : ℕ) {n₁ n₂ n₃ n₄ n₅ n₆ : ℕ} → n₁ ≡ min (44 + a) 133117 → n₂ ≡ min (n₁ + b) 133117 → n₃ ≡ min (n₂ + c) 133117
-    → n₄ ≡ min (n₃ + d) 133117 → n₅ ≡ min (n₄ + e) 133117 → n₆ ≡ min (n₅ + f) 133117 → n₆ ≡ min (44 + a + b + c + d + e + f) 133117
-cap_six a b c d e f h₁ h₂ h₃ h₄ h₅ h₆ =
-    cap_next _ _ _ f (cap_next _ _ _ e (cap_next _ _ _ d (cap_next _ _ _ c (cap_next _ _ _ b h₁ h₂) h₃) h₄) h₅) h₆
