@@ -1,4 +1,5 @@
 -- The data of a base transaction's outputs, sized and written.
+use Rattle.std.proofs.Common.{nat_eq}
 use mathlib.Core.Path.{◌≡◌, refl, sym, ap, ap₂, ◌∙◌}
 use Prim.Native.Nat.{ℕ, min}
 use mathlib.Core.Bool.{Bool, true, false, cond}
@@ -6,8 +7,8 @@ use mathlib.Core.List.{List, [], ◌∷◌, ◌++◌, append-nil}
 use borrow.Author.Tests.{eqb-true, eqb-false}
 use lib.ListN.{length, get_or, length-append}
 use Rattle.arithmetic.specs.LittleEndian.{to_le}
-use Rattle.arithmetic.specs.Amount.{value, is_zero}
-use Rattle.arithmetic.proofs.LittleEndianLaws.{length-to_le}
+use Rattle.std.specs.Int.{w128, to_le_bytes}
+use Rattle.arithmetic.proofs.LittleEndianLaws.{length-to_le, bytes-of}
 use Rattle.molecule.specs.Items.{join}
 use Rattle.units.specs.declared.Tokens.{Tokens}
 use Rattle.units.specs.Units.{token_count}
@@ -20,11 +21,11 @@ use Rattle.base_lists.specs.Parts.{tokens_of}
 
 -- ---- an entry
 
-pub amount-bytes : (t : Tokens) {b : List ℕ} → b ≡ to_le 16 (value t.0)
+pub amount-bytes : (t : Tokens) {b : List ℕ} → b ≡ to_le_bytes w128 t.0
     → 16 ∷ 0 ∷ 0 ∷ 0 ∷ get_or b 0 0 ∷ get_or b 1 0 ∷ get_or b 2 0 ∷ get_or b 3 0 ∷ get_or b 4 0 ∷ get_or b 5 0 ∷ get_or b 6 0 ∷ get_or b 7 0
     ∷ get_or b 8 0 ∷ get_or b 9 0 ∷ get_or b 10 0 ∷ get_or b 11 0 ∷ get_or b 12 0 ∷ get_or b 13 0 ∷ get_or b 14 0 ∷ get_or b 15 0 ∷ [] ≡ amount_item (token_count t)
-unfolding token_count bytes_item to_le
-amount-bytes t e = rw e refl
+unfolding bytes_item to_le
+amount-bytes t e = let k = bytes-of 16 t.0 e in rw k refl
 
 amount-length : (n : ℕ) → length (amount_item n) ≡ 20
 unfolding bytes_item
@@ -46,13 +47,13 @@ first-length false n = ap length (sym empty-bytes)
 abbrev last_item : ℕ → List ℕ
 last_item n = if_positive n (amount_item n)
 
-module _ (t : Tokens) {r : Bool} (e : r ≡ is_zero t.0) where
+module _ (t : Tokens) {r : Bool} (e : r ≡ nat_eq t.0 0) where
   no_change : r ≡ true → last_item (token_count t) ≡ []
-  unfolding is_zero token_count if_positive
-  no_change h = let z : value t.0 ≡ 0 = eqb-true _ _ (sym e ∙ h) in rw z refl
+  unfolding if_positive
+  no_change h = let z : t.0 ≡ 0 = eqb-true _ _ (sym e ∙ h) in rw z refl
 
   some-change : r ≡ false → last_item (token_count t) ≡ amount_item (token_count t)
-  some-change h = positive (token_count t) (amount_item (token_count t)) (unfold is_zero in unfold token_count in eqb-false _ _ (sym e ∙ h))
+  some-change h = positive (token_count t) (amount_item (token_count t)) (eqb-false _ _ (sym e ∙ h))
 
   pub len_none : r ≡ true → 0 ≡ length (last_item (token_count t))
   len_none h = ap length (sym (no_change h))

@@ -1,11 +1,11 @@
 -- The outputs of a base transaction, sized and written.
+use Rattle.std.proofs.Common.{nat_eq}
 use mathlib.Core.Path.{◌≡◌, refl, sym, ap, ap₂, ◌∙◌}
 use Prim.Native.Nat.{ℕ, ◌+◌, min}
 use mathlib.Core.Bool.{Bool, true, false}
 use mathlib.Core.List.{List, [], ◌++◌}
 use borrow.Author.Tests.{eqb-true, eqb-false}
 use lib.ListN.{length}
-use Rattle.arithmetic.specs.Amount.{is_zero}
 use Rattle.units.specs.{declared.Shannons.Shannons, Units.shannon_count}
 use Rattle.molecule.specs.Items.{join}
 use Rattle.list_writer.specs.ListWriter.{if_positive, put_list, put_list_end}
@@ -19,16 +19,14 @@ use Rattle.base_lists.specs.BaseLists.{output_list}
 -- ---- how long
 
 -- whether there is a change
-module _ (c : Shannons) {z : Bool} (ez : z ≡ is_zero c.0) where
+module _ (c : Shannons) {z : Bool} (ez : z ≡ nat_eq c.0 0) where
   is_none : z ≡ true → shannon_count c ≡ 0
-  unfolding is_zero shannon_count
   is_none h = eqb-true _ _ (sym ez ∙ h)
 
   is_some : z ≡ false → shannon_count c ≡ 0 → ⊥
-  unfolding is_zero shannon_count
   is_some h = eqb-false _ _ (sym ez ∙ h)
 
-module _ (change : Shannons) (source udt : List ℕ) {z : Bool} (ez : z ≡ is_zero change.0) where
+module _ (change : Shannons) (source udt : List ℕ) {z : Bool} (ez : z ≡ nat_eq change.0 0) where
   abbrev output : List ℕ
   output = cell_output (shannon_count change) source udt
 
@@ -60,7 +58,7 @@ module _ (capacity : ℕ) (lock udt present : List ℕ) (k change : ℕ) (source
 
 -- ---- written
 
-module _ (capacity : ℕ) (lock udt present : List ℕ) (k : ℕ) (change : Shannons) (source out : List ℕ) (at : ℕ) {z : Bool} (ez : z ≡ is_zero change.0) {head : List ℕ}
+module _ (capacity : ℕ) (lock udt present : List ℕ) (k : ℕ) (change : Shannons) (source out : List ℕ) (at : ℕ) {z : Bool} (ez : z ≡ nat_eq change.0 0) {head : List ℕ}
     (eh : head ≡ output_head capacity (length lock) (length udt)) where
   abbrev back : ℕ
   back = shannon_count change

@@ -35,7 +35,7 @@ impl Outputs<'_> {
     fn change_len(self) -> usize
         ensures { result ≡ min (length (if_positive (shannon_count self.entry.change) (cell_output (shannon_count self.entry.change) self.entry.source.now self.entry.udt.now))) 133117 }
     {
-        if self.change.is_zero() {
+        if self.change == Shannons::ZERO {
             0
         } else {
             cell_len(self.source, self.udt)
@@ -60,7 +60,7 @@ impl Outputs<'_> {
     {
         let head = output_head(self.capacity, self.lock.len(), self.udt.len());
         let cell = [&head, self.lock, self.udt];
-        if self.change.is_zero() {
+        if self.change == Shannons::ZERO {
             return put_list(out, at, &cell, self.present, &[]);
         }
         let tail = output_head(self.change, self.source.len(), self.udt.len());

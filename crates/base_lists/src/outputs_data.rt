@@ -42,7 +42,7 @@ impl OutputsData<'_> {
     fn change_len(self) -> usize
         ensures { result ≡ length (if_positive (token_count self.entry.change) (amount_item (token_count self.entry.change))) }
     {
-        if self.change.is_zero() { 0 } else { 20 }
+        if self.change == Tokens::ZERO { 0 } else { 20 }
     }
 
     // How long the list is, whatever the funding cell's tokens are.
@@ -57,7 +57,7 @@ impl OutputsData<'_> {
         ensures out_after { out.new ≡ put_list out.old at (around first.now self.entry.present.list.now self.entry.present.count (if_positive (token_count self.entry.change) (amount_item (token_count self.entry.change)))) }
         ensures value { result ≡ put_list_end out.old at (around first.now self.entry.present.list.now self.entry.present.count (if_positive (token_count self.entry.change) (amount_item (token_count self.entry.change)))) }
     {
-        if self.change.is_zero() {
+        if self.change == Tokens::ZERO {
             return put_list(out, at, &[first], self.present, &[]);
         }
         put_list(
