@@ -44,6 +44,7 @@ fn same_by_blocks<const N: usize>(a: &[u8], b: &[u8]) -> bool
 {
     let last = a.len() - N;
     let mut i = 0;
+    // a while: by `step_by` a short string takes a fifth longer
     while i < last {
         if !same_block::<N>(a, b, i) {
             return false;
@@ -93,7 +94,12 @@ pub fn fix_extends(a: &[u8], b: &[u8], k: u32) -> bool
 }
 
 // Dynvecs of which `item` reads an item: each item of a from `first` on stands in b at its place.
-fn items_stand<'a, F: Fn(&'a [u8], usize) -> &'a [u8]>(a: &'a [u8], b: &'a [u8], first: usize, item: F) -> bool
+fn items_stand<'a, F: Fn(&'a [u8], usize) -> &'a [u8]>(
+    a: &'a [u8],
+    b: &'a [u8],
+    first: usize,
+    item: F,
+) -> bool
     requires { F.IsAlwaysCallable item }
     ensures { (at : List ℕ → ℕ → List ℕ) → ((s : _) (i : ℕ) (x : _) → F.post item s i x → x.now ≡ at s.now i) → result ≡ extends (drop first (span (at a.now) 0 (item_count a.now))) (drop first (span (at b.now) 0 (item_count b.now))) }
 {

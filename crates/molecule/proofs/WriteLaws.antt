@@ -66,12 +66,15 @@ module _ (out : List ℕ) (at : ℕ) (xs : List ℕ) where
   pub end_short : at ≤ length out → length out - at < length xs → at ≡ put_end out at xs
   end_short h k = end_no (omega arith)
 
+  pub put_is : {after : List ℕ} → at ≤ length out → length xs ≤ length out - at → after ≡ splice out at xs → after ≡ put_at out at xs
+  put_is h k e = e ∙ sym (put_yes (omega arith))
+
   -- ys is what stands in the part that was written
-  pub put_is : {ys : List ℕ} → at ≤ length out → length xs ≤ length out - at → ys ≡ xs → put_mid at (at + length xs - at) out ys ≡ put_at out at xs
+  pub put_part : {ys : List ℕ} → at ≤ length out → length xs ≤ length out - at → ys ≡ xs → put_mid at (at + length xs - at) out ys ≡ put_at out at xs
   unfolding splice
-  put_is h k e =
+  put_part h k e =
       let n : at + length xs - at ≡ length xs = omega arith in
-      rw (e, n, drop-drop, ← append_assoc) (sym (put_yes (omega arith)))
+      put_is h k (rw (e, n, drop-drop, ← append_assoc))
 
   pub end_is : at ≤ length out → length xs ≤ length out - at → at + length xs ≡ put_end out at xs
   end_is h k = sym (end_yes (omega arith))
