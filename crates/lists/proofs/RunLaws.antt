@@ -1,12 +1,11 @@
 -- Items of one size that lie next to each other, compared as one run of bytes.
 use mathlib.Core.Path.{◌≡◌, refl, sym, ap, ap₂, ◌∙◌}
 use Prim.Native.Nat.{ℕ, zero, suc, ◌+◌, ◌-◌, ◌*◌, ◌≤◌, ◌<◌}
-use mathlib.Core.List.{List, [], ◌∷◌}
-use mathlib.Core.Bool.{Bool, false, ◌&&◌, and-false, and_assoc}
-use native.Mathlib.Nat.{mul-suc, mul-zero, zero-add}
+use mathlib.Core.List.{List}
+use mathlib.Core.Bool.{Bool, false, ◌&&◌, and-false}
+use native.Mathlib.Nat.{mul-suc, mul-zero}
 use native.Mathlib.Omega.{arith}
 use borrow.Author.Tests.{lt-ltb}
-use lib.Dec.{eqb}
 use lib.ListN.{take, drop}
 use lib.Seq.{drop-drop}
 use Rattle.molecule.specs.Layout.{part, span, word, fix_count, fix_item, fix_items}

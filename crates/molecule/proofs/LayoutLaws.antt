@@ -12,7 +12,7 @@ use mir.Val.{Fits}
 use lib.Dec.{ltb}
 use lib.ListN.{length, take, drop, length-drop, drop_of_length-le}
 use lib.Seq.{take_all, take-nil}
-use Rattle.arithmetic.specs.LittleEndian.{u32_at, AllBytes}
+use Rattle.arithmetic.specs.LittleEndian.{AllBytes}
 use Rattle.molecule.proofs.Offsets.{start-out}
 use Rattle.molecule.proofs.ItemsLaws.{bytes_take, bytes_drop}
 use Rattle.molecule.specs.Layout.{part, part_start, inside, word, start, field_of, field_start, item_count, item_of, item_start, fix_count, fix_item, fix_start, content, content_start, entry_of, entry_start}

@@ -5,13 +5,13 @@ use mathlib.Core.List.{List}
 use mathlib.Core.Bool.{Bool, true, false, not, ◌&&◌, and-false}
 use native.Mathlib.Numerals.{add-one}
 use native.Mathlib.Omega.{arith}
-use borrow.Author.Tests.{le-leb, lt-leb, lt-ltb, le-ltb, eq-eqb, ne_eqb, not-true, not-false}
+use borrow.Author.Tests.{le-leb, lt-leb, lt-ltb, eq-eqb, not-true, not-false}
 use lib.Dec.{T, leb, ltb, eqb}
 use lib.ListN.{length}
 use Rattle.std.proofs.lemmas.Bool.Decides.{nat_tests}
 use Rattle.molecule.specs.Molecule.{Ty, byte, array, fixvec, dynvec, size, readable}
 use Rattle.molecule.proofs.Valid.{fixed}
-use Rattle.molecule.specs.Layout.{part, word, start, has_header, has_items, field_of, item_count, item_of}
+use Rattle.molecule.specs.Layout.{part, word, start, has_header, has_items, item_count, item_of}
 use Rattle.molecule.proofs.Offsets.{up_to, in_order, offsets_ok, up_stop}
 use Rattle.molecule.proofs.LayoutLaws.{field_is, item-is}
 use Rattle.molecule.proofs.HeaderLaws.{offsets-has, dynvec-readable, fixvec-says, fixvec-readable}

@@ -1,13 +1,11 @@
 -- A stretch that ends where a sum would pass the last number.
 use mathlib.Core.Path.{◌≡◌, refl, sym, ◌∙◌}
-use Prim.Native.Nat.{ℕ, ◌+◌, ◌*◌, ◌≤◌, min}
+use Prim.Native.Nat.{ℕ, ◌+◌, ◌≤◌, min}
 use mathlib.Core.List.{List}
 use native.Mathlib.Omega.{arith}
 use lib.ListN.{length}
-use Rattle.arithmetic.specs.LittleEndian.{u32_at}
-use Rattle.molecule.specs.Layout.{part, part_start, inside, word}
+use Rattle.molecule.specs.Layout.{part, part_start, inside}
 use Rattle.molecule.proofs.LayoutLaws.{part-is}
-use Rattle.reader.specs.Places.{table_at, table_start, fixvec_at, fixvec_start, field_at}
 
 -- e is the end, or what a sum that would pass the last number stops at
 module _ (s : List ℕ) (at k : ℕ) {e : ℕ} (h : e ≡ min (at + k) 18446744073709551615) (l : length s ≤ 18446744073709551615) where

@@ -95,7 +95,9 @@ pub fn is_raw_transaction(s: &[u8]) -> bool
 pub fn is_transaction(s: &[u8]) -> bool
     ensures { result ≡ readable Transaction s.now }
 {
-    molecule::has_items(s, 2) && is_raw_transaction(molecule::field(s, 2, 0)) && molecule::is_bytes_vec(molecule::field(s, 2, 1))
+    molecule::has_items(s, 2)
+        && is_raw_transaction(molecule::field(s, 2, 0))
+        && molecule::is_bytes_vec(molecule::field(s, 2, 1))
 }
 
 // Whether s is a transaction or nothing.
@@ -109,7 +111,9 @@ pub fn is_optional_transaction(s: &[u8]) -> bool
 pub fn is_token_cell(s: &[u8]) -> bool
     ensures { result ≡ readable TokenCell s.now }
 {
-    molecule::has_items(s, 2) && molecule::field_len(s, 2, 0) == 36 && molecule::is_bytes(molecule::field(s, 2, 1))
+    molecule::has_items(s, 2)
+        && molecule::field_len(s, 2, 0) == 36
+        && molecule::is_bytes(molecule::field(s, 2, 1))
 }
 
 // Whether s is a list of token cells.
@@ -123,7 +127,9 @@ pub fn is_token_cells(s: &[u8]) -> bool
 pub fn is_record(s: &[u8]) -> bool
     ensures { result ≡ readable Record s.now }
 {
-    molecule::has_items(s, 2) && is_output(molecule::field(s, 2, 0)) && molecule::is_bytes(molecule::field(s, 2, 1))
+    molecule::has_items(s, 2)
+        && is_output(molecule::field(s, 2, 0))
+        && molecule::is_bytes(molecule::field(s, 2, 1))
 }
 
 // Whether s is a resolved cell, or nothing, for a cell that is not live.
