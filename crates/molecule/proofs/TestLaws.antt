@@ -1,18 +1,18 @@
 -- One law for each way out of the functions that test a header, a fixvec or the items of a dynvec.
 use mathlib.Core.Path.{◌≡◌, refl, sym, ◌∙◌}
-use Prim.Native.Nat.{ℕ, ◌+◌, ◌*◌, ◌/◌, ◌^◌, ◌≤◌, ◌<◌}
+use Prim.Native.Nat.{ℕ, zero, suc, ◌+◌, ◌-◌, ◌*◌, ◌/◌, ◌^◌, ◌≤◌, ◌<◌}
 use mathlib.Core.List.{List}
 use mathlib.Core.Bool.{Bool, true, false, not, ◌&&◌, and-false}
 use native.Mathlib.Numerals.{add-one}
 use native.Mathlib.Omega.{arith}
-use borrow.Author.Tests.{le-leb, lt-leb, lt-ltb, eq-eqb, not-true, not-false}
+use borrow.Author.Tests.{le-leb, leb-true, lt-leb, lt-ltb, eq-eqb, not-true, not-false}
 use lib.Dec.{T, leb, ltb, eqb}
 use lib.ListN.{length}
 use Rattle.std.proofs.lemmas.Bool.Decides.{nat_tests}
 use Rattle.molecule.specs.Molecule.{Ty, byte, array, fixvec, dynvec, size, readable}
 use Rattle.molecule.proofs.Valid.{fixed}
 use Rattle.molecule.specs.Layout.{part, word, start, has_header, has_items, item_count, item_of}
-use Rattle.molecule.proofs.Offsets.{up_to, in_order, offsets_ok, up_stop}
+use Rattle.molecule.proofs.Offsets.{up_to, in_order, offsets_ok, up_stop, up_all, offsets-parts, start-out}
 use Rattle.molecule.proofs.LayoutLaws.{field_is, item-is}
 use Rattle.molecule.proofs.HeaderLaws.{offsets-has, dynvec-readable, fixvec-says, fixvec-readable}
 
@@ -147,9 +147,29 @@ module _ (t : Ty) (s : List ℕ) {n : ℕ} {r : Bool} (e : n ≡ item_count s) (
   unfolding up_to
   walked_none q ea = record { count = e; order = ordered_none s n h q ea; all = refl }
 
+-- nothing starts past the end
+starts_within : (s : List ℕ) (n : ℕ) → has_items s n ≡ true → (d i : ℕ) → i + d ≡ n → start s n i ≤ length s
+unfolding in_order
+starts_within s n h zero i e = let z : length s ≡ start s n i = start-out s n i (omega arith) in omega arith
+starts_within s n h (suc d) i e =
+    let o = offsets-parts s n (offsets-has s n ∙ h) in
+    let a : start s n i ≤ start s n (i + 1) = leb-true _ _ (up_all (in_order s n) n o.order i (omega arith)) in
+    let b : start s n (i + 1) ≤ length s = starts_within s n h d (i + 1) (omega arith) in
+    omega arith
+
+no_items : (s : List ℕ) (n i : ℕ) → i ≤ n → length s < start s n i → false ≡ has_items s n
+no_items s n i l h = by (has_items s n) refl
+  where
+    by : (b : Bool) → has_items s n ≡ b → false ≡ b
+    by true q = let w : start s n i ≤ length s = starts_within s n q (n - i) i (omega arith) in absurd (omega arith)
+    by false q = refl
+
 module _ {t : Ty} {s : List ℕ} {n i from : ℕ} (g : Walked t s n i from) where
   pub walked_falls : {to : ℕ} → i < n → to ≡ start s n (i + 1) → to < from → false ≡ readable (dynvec t) s
   walked_falls l e h = disordered t s g.count (ordered_stop g.order l e h)
+
+  pub walked_past : {to : ℕ} → i < n → to ≡ start s n (i + 1) → length s < to → false ≡ readable (dynvec t) s
+  walked_past l e h = disordered t s g.count (no_items s n (i + 1) (omega arith) (rw e at h))
 
   module _ {to : ℕ} {f : List ℕ} {r : Bool} (l : i < n) (e : to ≡ start s n (i + 1)) (k : f ≡ part s from to) (h : r ≡ readable t f) where
     this : f ≡ item_of s i

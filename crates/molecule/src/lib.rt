@@ -160,7 +160,8 @@ pub fn is_dynvec_of<F: Fn(&[u8]) -> bool>(s: &[u8], is_item: F) -> bool
     let mut from = start(s, n, 0);
     for i in 0..n {
         let to = start(s, n, i + 1);
-        if to < from || !is_item(part(s, from, to)) {
+        // the order alone says that nothing starts past the end: tested here too, it spares a part its clamps, a third of the time
+        if to < from || to > s.len() || !is_item(part(s, from, to)) {
             return false;
         }
         from = to;
