@@ -1,5 +1,5 @@
 use Rattle.item_lookup.proofs.Ways.{ways}
-use Rattle.item_lookup.proofs.scan_all.Goals as goal
+use Rattle.item_lookup.proofs.Search.moved_in.Goals as goal
 
 pub returns-then-not-scan_item : goal.returns-then-not-scan_item
 returns-then-not-scan_item c = search ways

@@ -1,5 +1,5 @@
 use Rattle.item_lookup.proofs.Ways.{ways}
-use Rattle.item_lookup.proofs.scan_item.Goals as goal
+use Rattle.item_lookup.proofs.Search.scan_item.Goals as goal
 
 pub returns-then-same : goal.returns-then-same
 returns-then-same c = search ways

@@ -1,5 +1,5 @@
 use Rattle.item_lookup.proofs.Ways.{ways}
-use Rattle.item_lookup.proofs.find_item.Goals as goal
+use Rattle.item_lookup.proofs.Search.same_place.Goals as goal
 
 pub returns : goal.returns
 returns c = search ways
