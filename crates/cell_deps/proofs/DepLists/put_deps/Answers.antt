@@ -1,5 +1,5 @@
 use Rattle.cell_deps.proofs.Ways.{ways}
-use Rattle.cell_deps.proofs.put_deps.Goals as goal
+use Rattle.cell_deps.proofs.DepLists.put_deps.Goals as goal
 
 pub returns-then-not-fits-clause-out_after : goal.returns-then-not-fits-clause-out_after
 returns-then-not-fits-clause-out_after c = search ways
