@@ -1,13 +1,20 @@
 // The recorded calls on a table of cells.
+use crate::items::Items;
+use crate::parts::{Replay, each_part};
 use crate::tally::Tallies;
 use arithmetic::little_endian;
+use std::alloc::{AllocError, Global};
 use std::fmt::Display;
 use std::io;
+use std::io::BufReader;
 
 // What stands in a lent buffer before the call.
 pub const FILL: u8 = 165;
 
-// More than there are kinds of calls on a table. Kind 0 starts a sequence.
+// How long a part is at most together with the first one.
+const LONGEST: usize = 600_000;
+
+// As many kinds of calls as a table has at most. Kind 0 starts a sequence.
 const KINDS: usize = 8;
 
 // Whose word the recorded answer is.
@@ -53,7 +60,10 @@ impl<'a> From<&'a [u8]> for Call<'a> {
             kind: little_endian::byte(head, 0),
             mark: Mark::from(little_endian::byte(head, 1)),
             answer: little_endian::byte(head, 2),
-            numbers: [little_endian::u64_at(head, 4), little_endian::u64_at(head, 12)],
+            numbers: [
+                little_endian::u64_at(head, 4),
+                little_endian::u64_at(head, 12),
+            ],
             rooms: [
                 little_endian::u32_at(head, 20) as usize,
                 little_endian::u32_at(head, 24) as usize,
@@ -74,16 +84,23 @@ pub fn is_written(buffer: &[u8], list: &[u8]) -> bool {
     }
 }
 
-// The calls that were replayed.
+// A table of cells.
+pub trait Table: Drop {
+    fn empty(alloc: Global) -> Result<Self, AllocError>;
+
+    // Runs the call, and answers whether all is as recorded.
+    fn is_right(&mut self, call: &Call<'_>, alloc: Global) -> Result<bool, AllocError>;
+}
+
 #[derive(Clone, Copy, Debug, PartialEq, Eq)]
-pub struct CallCounts {
+struct CallCounts {
     kinds: Tallies<KINDS>,
     alike: u64,
     over: u64,
 }
 
 impl CallCounts {
-    pub fn new() -> CallCounts {
+    fn new() -> CallCounts {
         CallCounts {
             kinds: Tallies::new(),
             alike: 0,
@@ -91,7 +108,7 @@ impl CallCounts {
         }
     }
 
-    pub fn count(&mut self, call: &Call<'_>, right: bool) {
+    fn count(&mut self, call: &Call<'_>, right: bool) {
         self.kinds.count(usize::from(call.kind), right);
         match call.mark {
             Mark::Alike => self.alike = self.alike.saturating_add(1),
@@ -101,7 +118,7 @@ impl CallCounts {
     }
 
     // Prints a line for each of these kinds but the first, which starts a sequence, and one for all.
-    pub fn print<K: Display>(&self, rt: &impl Print, kinds: &[K]) -> io::Result<()> {
+    fn print<K: Display>(&self, rt: &impl Print, kinds: &[K]) -> io::Result<()> {
         for (kind, tally) in kinds.iter().zip(&self.kinds.of).skip(1) {
             println!(rt; "{kind}: {} calls, {} wrong", tally.all, tally.wrong)?;
         }
@@ -116,4 +133,40 @@ impl CallCounts {
             sum.wrong
         )
     }
+}
+
+// The calls of each part on a table that is empty before them.
+#[derive(Drop)]
+struct Calls<T> {
+    alloc: Global,
+    table: T,
+    counts: CallCounts,
+}
+
+impl<T: Table> Replay for Calls<T> {
+    fn part(&mut self, part: &[u8]) -> io::Result<()> {
+        self.table = T::empty(self.alloc)?;
+        for item in Items::of(part) {
+            let call = Call::from(item);
+            let right = self.table.is_right(&call, self.alloc)?;
+            self.counts.count(&call, right);
+        }
+        Ok(())
+    }
+}
+
+// Replays the calls of standard input, whose kinds are these by number, and prints how many there are and how many are wrong.
+pub fn replay_calls<T: Table, K: Display>(
+    rt: &(impl Input + Print + AllocGlobal),
+    kinds: &[K],
+) -> io::Result<()> {
+    let alloc = rt.alloc();
+    let mut calls = Calls {
+        alloc,
+        table: T::empty(alloc)?,
+        counts: CallCounts::new(),
+    };
+    let input = BufReader::new(alloc, rt.reader())?;
+    each_part(alloc, input, LONGEST, &mut calls)?;
+    calls.counts.print(rt, kinds)
 }

@@ -25,7 +25,12 @@ impl<'a> From<&'a [u8]> for Change<'a> {
 }
 
 // The file with so many changes.
-pub fn changed(alloc: Global, file: &[u8], count: u8, changes: &[u8]) -> Result<Vec<u8>, AllocError> {
+pub fn changed(
+    alloc: Global,
+    file: &[u8],
+    count: u8,
+    changes: &[u8],
+) -> Result<Vec<u8>, AllocError> {
     let mut copy = Vec::new(alloc);
     let mut from = 0;
     let mut rest = changes;

@@ -8,7 +8,7 @@ mod items;
 mod parts;
 mod tally;
 
-pub use calls::{Call, CallCounts, FILL, Mark, is_written};
+pub use calls::{Call, FILL, Mark, Table, is_written, replay_calls};
 pub use changes::changed;
 pub use items::Items;
 pub use parts::{Replay, each_part, each_sparse_part};

@@ -6,16 +6,12 @@
 use arithmetic::little_endian;
 use error::Answer;
 use exclusion_entries::MAP_BYTES;
-use recorded_calls::{Call, CallCounts, FILL, Items, Replay};
+use recorded_calls::{Call, FILL, Table};
 use std::alloc::{AllocError, Global};
-use std::fmt;
-use std::io;
-use std::io::BufReader;
+use std::{fmt, io};
 use units::BlockNumber;
 
-// Room for the longest part behind the first one, and for the longest lent list.
-const LONGEST: usize = 600_000;
-
+// How long a lent list is at most.
 const LIST_ROOM: usize = 20_000;
 
 // ---- the calls
@@ -141,45 +137,34 @@ fn is_map(map: &[u8], rows: &[u8]) -> bool {
     k == molecule::fix_count(rows) as usize
 }
 
-// Runs the call, and answers whether all is as recorded.
-fn is_right(map: &mut Vec<u8>, call: &Call<'_>, alloc: Global) -> Result<bool, AllocError> {
-    let before = map.clone()?;
-    let [room, _] = call.rooms;
-    let [written, _] = call.written;
-    let [entries, _] = call.table;
-    let mut list = vec![in alloc; FILL; room.min(LIST_ROOM)]?;
-    let number = run(map, call, &mut list);
-    Ok(number == call.answer
-        && (number == 0 || map.as_slice() == before.as_slice())
-        && recorded_calls::is_written(&list, written)
-        && is_map(map, entries))
-}
-
-// ---- the calls of a part
-
 #[derive(Drop)]
-struct Calls {
-    alloc: Global,
-    counts: CallCounts,
+struct Map {
+    bytes: Vec<u8>,
 }
 
-impl Replay for Calls {
-    fn part(&mut self, part: &[u8]) -> io::Result<()> {
-        let mut map = vec![in self.alloc; 0u8; MAP_BYTES]?;
-        for item in Items::of(part) {
-            let call = Call::from(item);
-            let right = is_right(&mut map, &call, self.alloc)?;
-            self.counts.count(&call, right);
-        }
-        Ok(())
+impl Table for Map {
+    fn empty(alloc: Global) -> Result<Map, AllocError> {
+        Ok(Map {
+            bytes: vec![in alloc; 0u8; MAP_BYTES]?,
+        })
+    }
+
+    fn is_right(&mut self, call: &Call<'_>, alloc: Global) -> Result<bool, AllocError> {
+        let before = self.bytes.clone()?;
+        let [room, _] = call.rooms;
+        let [written, _] = call.written;
+        let [entries, _] = call.table;
+        let mut list = vec![in alloc; FILL; room.min(LIST_ROOM)]?;
+        let number = run(&mut self.bytes, call, &mut list);
+        Ok(
+            number == call.answer
+                && (number == 0 || self.bytes == before)
+                && recorded_calls::is_written(&list, written)
+                && is_map(&self.bytes, entries),
+        )
     }
 }
 
 fn main(rt: HostRuntime) -> io::Result<()> {
-    let alloc = rt.alloc();
-    let counts = CallCounts::new();
-    let mut calls = Calls { alloc, counts };
-    let input = BufReader::new(alloc, rt.reader())?;
-    recorded_calls::each_part(alloc, input, LONGEST, &mut calls)?;
-    calls.counts.print(&rt, &Kind::ALL)
+    recorded_calls::replay_calls::<Map, _>(&rt, &Kind::ALL)
 }

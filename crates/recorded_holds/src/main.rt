@@ -6,16 +6,12 @@
 use arithmetic::little_endian;
 use error::Answer;
 use hold_records::{Held, HeldAnswer, Hold, Owner, Taker};
-use recorded_calls::{Call, CallCounts, FILL, Items, Replay};
+use recorded_calls::{Call, FILL, Table};
 use std::alloc::{AllocError, Global};
-use std::fmt;
-use std::io;
-use std::io::BufReader;
+use std::{fmt, io};
 use units::Millis;
 
-// Room for the longest part behind the first one, and for the longest lent list.
-const LONGEST: usize = 600_000;
-
+// How long a lent list is at most.
 const LIST_ROOM: usize = 20_000;
 
 // ---- the calls
@@ -92,14 +88,25 @@ fn answer(held: Held, call: &Call<'_>, first: &mut [u8], second: &mut [u8]) -> H
         Ok(Kind::HoldFunding) => held_cells::hold_funding(held, holder, cells),
         Ok(Kind::HoldForWatchtower) => watchtower_holds::hold_for_watchtower(held, cells, now),
         Ok(Kind::TakeForHolder) => {
-            held_cells::take(held, cells, spent, Taker::Funding(holder), now, first, second)
+            held_cells::take(
+                held,
+                cells,
+                spent,
+                Taker::Funding(holder),
+                now,
+                first,
+                second,
+            )
         }
         Ok(Kind::TakeForWatchtower) => {
             held_cells::take(held, cells, spent, Taker::Watchtower, now, first, second)
         }
         Ok(Kind::ReleaseForWatchtower) => watchtower_holds::release_for_watchtower(held, cells),
         Ok(Kind::Unavailable) => {
-            answered(held, held_cells::unavailable(held, cells, spent, now, first))
+            answered(
+                held,
+                held_cells::unavailable(held, cells, spent, now, first),
+            )
         }
         Ok(Kind::LockHeld) | Err(UnknownKind(_)) => held_cells::lock_held(held, now, first),
     }
@@ -134,53 +141,42 @@ fn is_table(held: &Held, owners: &[u8], points: &[u8]) -> bool {
     let n = molecule::fix_count(owners) as usize;
     held.count == n
         && n <= held.records.len()
-        && held
-            .records
-            .iter()
-            .take(n)
-            .enumerate()
-            .all(|(i, hold)| is_record(hold, molecule::fix_item(owners, 9, i), points, i))
+        && held.records.iter().take(n).enumerate().all(|(i, hold)| is_record(
+            hold,
+            molecule::fix_item(owners, 9, i),
+            points,
+            i,
+        ))
 }
-
-// Runs the call, and answers whether all is as recorded.
-fn is_right(held: &mut Held, call: &Call<'_>, alloc: Global) -> Result<bool, AllocError> {
-    let [room, second_room] = call.rooms;
-    let mut first = vec![in alloc; FILL; room.min(LIST_ROOM)]?;
-    let mut second = vec![in alloc; FILL; second_room.min(LIST_ROOM)]?;
-    let number = run(held, call, &mut first, &mut second);
-    let [first_list, second_list] = call.written;
-    let [owners, points] = call.table;
-    Ok(number == call.answer
-        && recorded_calls::is_written(&first, first_list)
-        && recorded_calls::is_written(&second, second_list)
-        && is_table(held, owners, points))
-}
-
-// ---- the calls of a part
 
 #[derive(Drop)]
-struct Calls {
-    alloc: Global,
-    counts: CallCounts,
+struct Holds {
+    held: Held,
 }
 
-impl Replay for Calls {
-    fn part(&mut self, part: &[u8]) -> io::Result<()> {
-        let mut held = hold_records::empty();
-        for item in Items::of(part) {
-            let call = Call::from(item);
-            let right = is_right(&mut held, &call, self.alloc)?;
-            self.counts.count(&call, right);
-        }
-        Ok(())
+impl Table for Holds {
+    fn empty(_alloc: Global) -> Result<Holds, AllocError> {
+        Ok(Holds {
+            held: hold_records::empty(),
+        })
+    }
+
+    fn is_right(&mut self, call: &Call<'_>, alloc: Global) -> Result<bool, AllocError> {
+        let [room, second_room] = call.rooms;
+        let mut first = vec![in alloc; FILL; room.min(LIST_ROOM)]?;
+        let mut second = vec![in alloc; FILL; second_room.min(LIST_ROOM)]?;
+        let number = run(&mut self.held, call, &mut first, &mut second);
+        let [first_list, second_list] = call.written;
+        let [owners, points] = call.table;
+        Ok(
+            number == call.answer
+                && recorded_calls::is_written(&first, first_list)
+                && recorded_calls::is_written(&second, second_list)
+                && is_table(&self.held, owners, points),
+        )
     }
 }
 
 fn main(rt: HostRuntime) -> io::Result<()> {
-    let alloc = rt.alloc();
-    let counts = CallCounts::new();
-    let mut calls = Calls { alloc, counts };
-    let input = BufReader::new(alloc, rt.reader())?;
-    recorded_calls::each_part(alloc, input, LONGEST, &mut calls)?;
-    calls.counts.print(&rt, &Kind::ALL)
+    recorded_calls::replay_calls::<Holds, _>(&rt, &Kind::ALL)
 }
