@@ -1,4 +1,7 @@
 // The recorded calls on a table of cells.
+ghost use Rattle.std.specs.Prelude.{◌≡◌, ◌==◌, ◌&&◌, nat_eq, length, drop};
+ghost use Rattle.std.specs.List.{starts_with, list_all};
+
 use crate::items::Items;
 use crate::parts::{Replay, each_part};
 use crate::tally::Tallies;
@@ -76,12 +79,17 @@ impl<'a> From<&'a [u8]> for Call<'a> {
     }
 }
 
+fn is_filled(bytes: &[u8]) -> bool
+    ensures { result ≡ list_all (λ x. x == 165) bytes.now }
+{
+    bytes.iter().all(|x| *x == FILL)
+}
+
 // Whether a lent buffer begins with this list, and has what stood there before in all the rest.
-pub fn is_written(buffer: &[u8], list: &[u8]) -> bool {
-    match buffer.strip_prefix(list) {
-        Some(rest) => rest.iter().all(|x| *x == FILL),
-        None => false,
-    }
+pub fn is_written(buffer: &[u8], list: &[u8]) -> bool
+    ensures { result ≡ (starts_with nat_eq buffer.now list.now && list_all (λ x. x == 165) (drop (length list.now) buffer.now)) }
+{
+    buffer.starts_with(list) && is_filled(&buffer[list.len()..])
 }
 
 // A table of cells.

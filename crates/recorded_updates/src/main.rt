@@ -42,7 +42,7 @@ impl<'a> From<&'a [u8]> for Copied<'a> {
 fn is_right(file: &[u8], line: &[u8]) -> bool {
     let mut out = [0u8; LINE_BYTES];
     let n = case_file::check_case(file, &mut out);
-    &out[..n] == line
+    n == line.len() && out.starts_with(line)
 }
 
 #[derive(Drop)]
@@ -56,7 +56,8 @@ impl Files {
     // Judges a file, and counts it under the digit that its line begins with.
     fn judge(&mut self, file: &[u8], line: &[u8]) {
         let digit = little_endian::byte(line, 0).saturating_sub(b'0');
-        self.by_number.count(usize::from(digit), is_right(file, line));
+        self.by_number
+            .count(usize::from(digit), is_right(file, line));
     }
 
     fn judge_copy(&mut self, file: &[u8], copy: &Copied<'_>) -> Result<(), AllocError> {
@@ -89,9 +90,7 @@ fn print(rt: &impl Print, files: &Files) -> io::Result<()> {
     let sum = files.by_number.sum();
     println!(rt;
         "all: {} files, of which the Rust panics at {}, {} wrong",
-        sum.all,
-        files.panics,
-        sum.wrong
+        sum.all, files.panics, sum.wrong
     )
 }
 

@@ -2,9 +2,8 @@
 #![tactic(auto)]
 
 use reader::lists;
-use std::fmt;
-use std::io;
 use std::io::{BufWriter, Read, Write};
+use std::{fmt, io};
 use transaction::fields;
 
 const LONGEST: usize = 65_536;
@@ -39,7 +38,11 @@ impl fmt::Display for Script<'_> {
     fn fmt<W: fmt::Write>(&self, f: &mut fmt::Formatter<W>) -> fmt::Result {
         let hash = Hex(fields::code_hash(self.0));
         let args = Hex(fields::args(self.0));
-        write!(f, "{hash}, hash type {}, args {args}", fields::hash_type(self.0))
+        write!(
+            f,
+            "{hash}, hash type {}, args {args}",
+            fields::hash_type(self.0)
+        )
     }
 }
 
