@@ -1,6 +1,6 @@
--- What closes the needs of this crate's functions: `search ways`.
-use borrow.Author.Rules.{rules}
-use Rattle.transaction_lists.proofs.ListLaws.{version-none, is_read, version-some, count-unread, count_no_list, count-some, count-cell-deps, count-header-deps, count-inputs, count-outputs, count-outputs_data, count-witnesses, count-beyond, item-unread, item-none, item-cell-dep, item-header-dep, item-input, item-output, item-output_data, item_witness}
-use Rattle.transaction_lists.proofs.PlaceLaws.{place-unread, place_none, place-cell-dep, place-header-dep, place-input, place-output, place-output_data, place_witness}
+-- What closes the goals of this crate's functions.
+use Rattle.std.proofs.Common.{rules}
+use Rattle.reader.proofs.TransactionLaws.{reads_version}
+use Rattle.transaction_lists.proofs.ListLaws.{unread, none-beyond, no_bytes, item-none, place_none, count-cell-deps, count-header-deps, count-inputs, count-outputs, count-outputs_data, count-witnesses, item-cell-dep, place-cell-dep, item-header-dep, place-header-dep, item-input, place-input, item-output, place-output, item-output_data, place-output_data, item_witness, place_witness}
 
-pub ruleset ways = (rules, version-none, is_read, version-some, count-unread, count_no_list, count-some, count-cell-deps, count-header-deps, count-inputs, count-outputs, count-outputs_data, count-witnesses, count-beyond, item-unread, item-none, item-cell-dep, item-header-dep, item-input, item-output, item-output_data, item_witness, place-unread, place_none, place-cell-dep, place-header-dep, place-input, place-output, place-output_data, place_witness)
+pub ruleset ways = (rules, reads_version, unread, none-beyond, no_bytes, item-none, place_none, count-cell-deps, count-header-deps, count-inputs, count-outputs, count-outputs_data, count-witnesses, item-cell-dep, place-cell-dep, item-header-dep, place-header-dep, item-input, place-input, item-output, place-output, item-output_data, place-output_data, item_witness, place_witness)

@@ -1,13 +1,13 @@
 -- What a transaction is asked for by number, and why it is refused (ours: docs/DECISIONS.md, "The C interface", "Reading by number"; the numbers are those of the table in
 -- docs/RULES.md, "A peer's update arrives": 1 "our bytes unreadable", 3 for what is lent and is not in its form).
-use Rattle.std.specs.Prelude.{ℕ, List}
+use Rattle.std.specs.Prelude.{ℕ, List, Result}
+use Rattle.error.specs.declared.Refusal.{Refusal}
 use lib.{Dec.ltb, ListN.length}
 use Rattle.molecule.specs.Molecule.{readable}
 use Rattle.transaction.specs.Ckb.{Transaction}
 use Rattle.transaction.specs.Tx.{tx_at}
 use Rattle.rules.specs.Outcome.{Outcome, fine, check, ◌>>◌}
-use Rattle.rules.specs.Told.{refusal}
-use Rattle.transaction_lists.specs.declared.Found.{Found}
+use Rattle.rules.specs.Told.{told_by}
 use Rattle.transaction_lists.specs.Lists.{list_in}
 
 unfoldable pub version_found : List ℕ → Outcome ℕ
@@ -26,6 +26,5 @@ count_found tx list = do
   fine (length (list_in tx list))
 
 -- the number and figures of each answer
-abbrev pub told : Found → Outcome ℕ
-told (Found.Number n) = fine n
-told (Found.Refused e) = refusal e
+abbrev pub told : Result ℕ Refusal → Outcome ℕ
+told = told_by (λ n. n)

@@ -1,85 +1,81 @@
 // What stands in a transaction, with its lists by number, for a caller that has no part of the bytes in hand. Each call reads once whether the bytes are a transaction.
-#![tactic(auto)]
+#![tactic(auto, using(crate::proofs::Ways::ways))]
 
 ghost use Rattle.std.specs.Prelude.{◌≡◌, true, length};
 ghost use Rattle.molecule.specs.Layout.{inside};
 ghost use Rattle.molecule.specs.Molecule.{readable};
 ghost use Rattle.transaction.specs.Ckb.{Transaction};
+ghost use Rattle.transaction_lists.specs.Kinds.{number_of, Decodes};
 ghost use Rattle.transaction_lists.specs.Lists.{list_in, item_in, place_in};
 ghost use Rattle.transaction_lists.specs.Found.{told, version_found, count_found};
 
 use error::Refusal;
 use reader::lists as reading;
 
-// A number that a transaction was asked for.
-#[derive(Clone, Copy)]
-pub enum Found {
-    Number(u32),
-    Refused(Refusal),
+// One of a transaction's lists.
+#[derive(Clone, Copy, Debug, PartialEq, Eq, Hash)]
+pub enum ListKind {
+    CellDeps,
+    HeaderDeps,
+    Inputs,
+    Outputs,
+    OutputsData,
+    Witnesses,
 }
 
-const CELL_DEPS: u32 = 0;
+// The list with a number. Refused: a list that there is not (3).
+impl TryFrom<u32> for ListKind {
+    type Error = Refusal;
 
-const HEADER_DEPS: u32 = 1;
+    ghost try_from_gives = { Decodes };
 
-const INPUTS: u32 = 2;
-
-const OUTPUTS: u32 = 3;
-
-const OUTPUTS_DATA: u32 = 4;
-
-const WITNESSES: u32 = 5;
-
-// How many lists there are.
-const LISTS: u32 = 6;
+    fn try_from(list: u32) -> Result<Self, Refusal> {
+        match list {
+            0 => Ok(ListKind::CellDeps),
+            1 => Ok(ListKind::HeaderDeps),
+            2 => Ok(ListKind::Inputs),
+            3 => Ok(ListKind::Outputs),
+            4 => Ok(ListKind::OutputsData),
+            5 => Ok(ListKind::Witnesses),
+            _ => Err(Refusal::LentBytesUnreadable),
+        }
+    }
+}
 
 // The version. Refused: bytes that are no transaction (1).
-pub fn version(tx: &[u8]) -> Found
+pub fn version(tx: &[u8]) -> Result<u32, Refusal>
     ensures { told result ≡ version_found tx.now }
 {
     if !transaction::is_transaction(tx) {
-        return Found::Refused(Refusal::OurTransactionUnreadable);
+        return Err(Refusal::OurTransactionUnreadable);
     }
-    Found::Number(reading::version(tx))
+    Ok(reading::version(tx))
 }
 
 // How many items a list of a transaction has.
-fn count(tx: &[u8], list: u32) -> u32
+fn count(tx: &[u8], list: ListKind) -> u32
     requires { readable Transaction tx.now ≡ true }
-    ensures { result ≡ length (list_in tx.now list) }
+    ensures { result ≡ length (list_in tx.now (number_of list)) }
 {
-    if list == CELL_DEPS {
-        return reading::cell_dep_count(tx);
+    match list {
+        ListKind::CellDeps => reading::cell_dep_count(tx),
+        ListKind::HeaderDeps => reading::header_dep_count(tx),
+        ListKind::Inputs => reading::input_count(tx),
+        ListKind::Outputs => reading::output_count(tx),
+        ListKind::OutputsData => reading::output_data_count(tx),
+        ListKind::Witnesses => reading::witness_count(tx),
     }
-    if list == HEADER_DEPS {
-        return reading::header_dep_count(tx);
-    }
-    if list == INPUTS {
-        return reading::input_count(tx);
-    }
-    if list == OUTPUTS {
-        return reading::output_count(tx);
-    }
-    if list == OUTPUTS_DATA {
-        return reading::output_data_count(tx);
-    }
-    if list == WITNESSES {
-        return reading::witness_count(tx);
-    }
-    0
 }
 
 // How many items a list has. Refused: bytes that are no transaction (1), a list that there is not (3).
-pub fn item_count(tx: &[u8], list: u32) -> Found
+pub fn item_count(tx: &[u8], list: u32) -> Result<u32, Refusal>
     ensures { told result ≡ count_found tx.now list }
 {
     if !transaction::is_transaction(tx) {
-        return Found::Refused(Refusal::OurTransactionUnreadable);
+        return Err(Refusal::OurTransactionUnreadable);
     }
-    if LISTS <= list {
-        return Found::Refused(Refusal::LentBytesUnreadable);
-    }
-    Found::Number(count(tx, list))
+    let kind = ListKind::try_from(list)?;
+    Ok(count(tx, kind))
 }
 
 // The item at a place, and no bytes past the last, as its stretch of the lent bytes.
@@ -90,25 +86,19 @@ pub fn item(tx: &[u8], list: u32, i: usize) -> &[u8]
     if !transaction::is_transaction(tx) {
         return molecule::part(tx, 0, 0);
     }
-    let n = count(tx, list) as usize;
+    let Ok(kind) = ListKind::try_from(list) else {
+        return molecule::part(tx, 0, 0);
+    };
+    let n = count(tx, kind) as usize;
     if n <= i {
         return molecule::part(tx, 0, 0);
     }
-    if list == CELL_DEPS {
-        return reading::cell_dep(tx, i);
+    match kind {
+        ListKind::CellDeps => reading::cell_dep(tx, i),
+        ListKind::HeaderDeps => reading::header_dep(tx, i),
+        ListKind::Inputs => reading::input(tx, i),
+        ListKind::Outputs => reading::output(tx, i),
+        ListKind::OutputsData => reading::output_data(tx, i),
+        ListKind::Witnesses => reading::witness(tx, i),
     }
-    if list == HEADER_DEPS {
-        return reading::header_dep(tx, i);
-    }
-    if list == INPUTS {
-        return reading::input(tx, i);
-    }
-    if list == OUTPUTS {
-        return reading::output(tx, i);
-    }
-    if list == OUTPUTS_DATA {
-        return reading::output_data(tx, i);
-    }
-    // the last of the lists, since an item is there
-    reading::witness(tx, i)
 }
