@@ -1,6 +1,5 @@
 -- The values of each answer, as words for C, and the figures that come as words.
-use Rattle.std.specs.Prelude.{ℕ, List, [], ◌∷◌}
-use Rattle.arithmetic.specs.Amount.{halves, amount_of}
+use Rattle.std.specs.Prelude.{ℕ, ◌+◌, ◌*◌, ◌^◌, List, [], ◌∷◌}
 use Rattle.units.specs.Units.{in_shannons}
 use Rattle.rules.specs.Judge.{Figures}
 use Rattle.words.specs.Words.{low, high}
@@ -29,8 +28,8 @@ replay_words s = s.updates ∷ s.accepted ∷ s.at ∷ []
 -- what each side is to bring: the amounts in two words, the reserves in one
 abbrev pub request : ℕ → ℕ → ℕ → ℕ → ℕ → ℕ → FundingRequest
 request localLow localHigh localReserved remoteLow remoteHigh remoteReserved = record {
-  local_amount = halves localLow localHigh;
-  local_reserved_ckb_amount = in_shannons (amount_of localReserved);
-  remote_amount = halves remoteLow remoteHigh;
-  remote_reserved_ckb_amount = in_shannons (amount_of remoteReserved);
+  local_amount = localLow + 2 ^ 64 * localHigh;
+  local_reserved_ckb_amount = in_shannons localReserved;
+  remote_amount = remoteLow + 2 ^ 64 * remoteHigh;
+  remote_reserved_ckb_amount = in_shannons remoteReserved;
 }

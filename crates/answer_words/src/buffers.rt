@@ -7,20 +7,16 @@ ghost use Rattle.answer_words.specs.Buffers.{item_found};
 use error::Refusal;
 use list_writer::MAX_BYTES;
 use molecule::write;
-use transaction_lists::Found;
 use transaction_writer::Written;
 
 // Puts bytes at the start of out.
 pub fn put_first(s: &[u8], out: &mut [u8]) -> Written
     ensures { (told result, out.new) ≡ written (fine s.now) out.old }
 {
-    if MAX_BYTES < s.len() {
-        return Written::Refused(Refusal::BufferTooShort);
+    if MAX_BYTES < s.len() || out.len() < s.len() {
+        return Err(Refusal::BufferTooShort);
     }
-    if out.len() < s.len() {
-        return Written::Refused(Refusal::BufferTooShort);
-    }
-    Written::Wrote(write::put(out, 0, s))
+    Ok(write::put(out, 0, s))
 }
 
 // Puts an item of a list of a transaction at the start of out. Refused, and out as it was: bytes that are no transaction (1), a list or an item that there is not (3), an
@@ -28,16 +24,11 @@ pub fn put_first(s: &[u8], out: &mut [u8]) -> Written
 pub fn put_item(tx: &[u8], list: u32, i: usize, out: &mut [u8]) -> Written
     ensures { (told result, out.new) ≡ written (item_found tx.now list i) out.old }
 {
-    let found = transaction_lists::item_count(tx, list);
-    match found {
-        Found::Number(n) => {
-            if n as usize <= i {
-                return Written::Refused(Refusal::LentBytesUnreadable);
-            }
-            put_first(transaction_lists::item(tx, list, i), out)
-        }
-        Found::Refused(why) => Written::Refused(why),
+    let n = transaction_lists::item_count(tx, list)?;
+    if n as usize <= i {
+        return Err(Refusal::LentBytesUnreadable);
     }
+    put_first(transaction_lists::item(tx, list, i), out)
 }
 
 // Puts the verdict line of a case file, the first n bytes of `verdict`, at the start of a lent buffer. Refused, and the buffer as it was: a line over it (13).

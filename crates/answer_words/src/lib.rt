@@ -1,6 +1,6 @@
 // The answers of the library's calls as a number and the words that each has to tell, the figures that come as words, and what is put at the start of a lent buffer.
 // The update's own answer is in crate words, which the run over a list of updates needs too.
-#![tactic(auto)]
+#![tactic(auto, unfolding(words::specs::Words::set_words, words::specs::Words::in_words, words::specs::Words::number_of, words::specs::Words::values_of, crate::specs::Answers::count_words, crate::specs::Answers::cell_words, crate::specs::Answers::pick_words, crate::specs::Answers::replay_words))]
 
 pub mod buffers;
 
@@ -13,10 +13,10 @@ ghost use Rattle.negotiation.specs.Replay as replay;
 ghost use Rattle.transaction_lists.specs.Found as lists;
 ghost use Rattle.answer_words.specs.Answers.{count_words, cell_words, pick_words, replay_words, request};
 
-use arithmetic::Amount;
+use arithmetic::amount;
+use error::Refusal;
 use funding_cell::{FundingCell, FundingRequest};
 use negotiation::Replayed;
-use transaction_lists::Found;
 use transaction_writer::Written;
 use udt_cells::UdtInputsOutputs;
 use units::Shannons;
@@ -27,51 +27,55 @@ pub fn tell_written(written: Written, words: &mut [u64; WORDS]) -> u32
     ensures { (result, words.new) ≡ in_words count_words (writer.told written) words.old }
 {
     match written {
-        Written::Wrote(n) => words::set_one(words, 0, n as u64),
-        Written::Refused(why) => words::tell_refusal(why, words),
+        Ok(n) => words::set(words, 0, &[n as u64]),
+        Err(why) => words::tell_refusal(why, words),
     }
 }
 
 // A number that a transaction was asked for.
-pub fn tell_found(found: Found, words: &mut [u64; WORDS]) -> u32
+pub fn tell_found(found: Result<u32, Refusal>, words: &mut [u64; WORDS]) -> u32
     ensures { (result, words.new) ≡ in_words count_words (lists.told found) words.old }
 {
     match found {
-        Found::Number(n) => words::set_one(words, 0, n as u64),
-        Found::Refused(why) => words::tell_refusal(why, words),
+        Ok(n) => words::set(words, 0, &[u64::from(n)]),
+        Err(why) => words::tell_refusal(why, words),
     }
 }
 
 // The funding cell: its capacity and its token amount.
-pub fn tell_cell(cell: FundingCell, words: &mut [u64; WORDS]) -> u32
+pub fn tell_cell(cell: Result<FundingCell, Refusal>, words: &mut [u64; WORDS]) -> u32
     ensures { (result, words.new) ≡ in_words cell_words (funding.told cell) words.old }
 {
     match cell {
-        FundingCell::Cell { capacity, token } => {
-            words::set_three(words, 0, capacity.0.low, token.0.low, token.0.high)
-        }
-        FundingCell::Refused(why) => words::tell_refusal(why, words),
+        Ok(FundingCell { capacity, token }) => words::set(
+            words,
+            0,
+            &[
+                amount::low(capacity.0),
+                amount::low(token.0),
+                amount::high(token.0),
+            ],
+        ),
+        Err(why) => words::tell_refusal(why, words),
     }
 }
 
 // The pick: how many cells, the change, and the capacity of its output.
-pub fn tell_pick(pick: UdtInputsOutputs, words: &mut [u64; WORDS]) -> u32
+pub fn tell_pick(pick: Result<UdtInputsOutputs, Refusal>, words: &mut [u64; WORDS]) -> u32
     ensures { (result, words.new) ≡ in_words pick_words (answered pick) words.old }
 {
     match pick {
-        UdtInputsOutputs::Built {
-            taken,
-            change,
-            capacity,
-        } => words::set_four(
+        Ok(built) => words::set(
             words,
             0,
-            taken as u64,
-            change.0.low,
-            change.0.high,
-            capacity.0.low,
+            &[
+                built.taken as u64,
+                amount::low(built.change.0),
+                amount::high(built.change.0),
+                amount::low(built.capacity.0),
+            ],
         ),
-        UdtInputsOutputs::Refused(why) => words::tell_refusal(why, words),
+        Err(why) => words::tell_refusal(why, words),
     }
 }
 
@@ -80,12 +84,16 @@ pub fn tell_replayed(replayed: Replayed, words: &mut [u64; WORDS]) -> u32
     ensures { (result, words.new) ≡ in_words replay_words (replay.answered replayed) words.old }
 {
     match replayed {
-        Replayed::Done {
-            updates,
-            accepted,
-            at,
-        } => words::set_three(words, 0, updates as u64, accepted as u64, at as u64),
-        Replayed::Refused(why) => words::tell_refusal(why, words),
+        Ok(summary) => words::set(
+            words,
+            0,
+            &[
+                summary.updates as u64,
+                summary.accepted as u64,
+                summary.at as u64,
+            ],
+        ),
+        Err(why) => words::tell_refusal(why, words),
     }
 }
 
@@ -101,15 +109,9 @@ pub fn request(
     ensures { result ≡ request local_low local_high local_reserved remote_low remote_high remote_reserved }
 {
     FundingRequest {
-        local_amount: Amount {
-            low: local_low,
-            high: local_high,
-        },
-        local_reserved_ckb_amount: Shannons::from_u64(local_reserved),
-        remote_amount: Amount {
-            low: remote_low,
-            high: remote_high,
-        },
-        remote_reserved_ckb_amount: Shannons::from_u64(remote_reserved),
+        local_amount: amount::from_halves(local_low, local_high),
+        local_reserved_ckb_amount: Shannons::from(local_reserved),
+        remote_amount: amount::from_halves(remote_low, remote_high),
+        remote_reserved_ckb_amount: Shannons::from(remote_reserved),
     }
 }
