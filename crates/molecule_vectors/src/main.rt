@@ -97,8 +97,8 @@ fn is_fitted(kind: u8, s: &[u8]) -> bool {
 // The number of a refusal, and 0 for none.
 fn number(answer: Written) -> u8 {
     match answer {
-        Written::Wrote(_) => 0,
-        Written::Refused(refusal) => refusal.number(),
+        Ok(_) => 0,
+        Err(refusal) => refusal.number(),
     }
 }
 

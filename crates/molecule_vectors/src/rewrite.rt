@@ -72,8 +72,8 @@ fn put_transaction(out: &mut [u8], at: usize, s: &[u8]) -> usize {
 
 fn length(answer: Written, other: usize) -> usize {
     match answer {
-        Written::Wrote(n) => n,
-        Written::Refused(_) => other,
+        Ok(n) => n,
+        Err(_) => other,
     }
 }
 

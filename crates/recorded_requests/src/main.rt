@@ -69,7 +69,7 @@ fn room(call: &[u8]) -> usize {
 fn build(call: &[u8], a: &mut [u8]) -> Written {
     let n = room(call);
     if a.len() < n {
-        return Written::Wrote(0);
+        return Ok(0);
     }
     let out = &mut a[0..n];
     funding_builder::build_base(
@@ -90,13 +90,13 @@ fn build(call: &[u8], a: &mut [u8]) -> Written {
 fn is_told(answer: Written, call: &[u8]) -> bool {
     let number = head_byte(call, 0);
     match answer {
-        Written::Wrote(n) => {
+        Ok(n) => {
             if number != 0 {
                 return false;
             }
             n == field(call, 9).len()
         }
-        Written::Refused(e) => e.number() == number,
+        Err(e) => e.number() == number,
     }
 }
 
