@@ -11,7 +11,7 @@ use Rattle.words.specs.Words.{set_words, number_of, values_of, in_words}
 use Rattle.words.proofs.WordLaws.{refused_as, low-is, high_is}
 use Rattle.transaction_lists.specs.declared.Found.{Found}
 use Rattle.transaction_lists.specs.Found as lists
-use Rattle.transaction_writer.specs.declared.Written.{Written}
+use Rattle.std.specs.Prelude.{Result, Ok, Err}
 use Rattle.funding_cell.specs.declared.FundingCell.{FundingCell}
 use Rattle.funding_cell.specs.FundingCell as cell
 use Rattle.udt_cells.specs.declared.UdtInputsOutputs.{UdtInputsOutputs}
@@ -19,11 +19,11 @@ use Rattle.udt_cells.specs.Change.{answered}
 use Rattle.base_writer.specs.Answer as writer
 use Rattle.answer_words.specs.Answers.{count_words, cell_words, pick_words, request}
 
-pub bytes-written : (w : Written) (words : List ℕ) {n : ℕ} {r : ℕ × List ℕ} → w ≡ Written.Wrote n → r ≡ set_words 0 (n ∷ []) words → r ≡ in_words count_words (writer.told w) words
+pub bytes-written : (w : Result ℕ Refusal) (words : List ℕ) {n : ℕ} {r : ℕ × List ℕ} → w ≡ Ok n → r ≡ set_words 0 (n ∷ []) words → r ≡ in_words count_words (writer.told w) words
 unfolding set_words in_words number_of values_of count_words
 bytes-written w words e k = k ∙ rw e
 
-pub writing-refused : (w : Written) (words : List ℕ) (why : Refusal) {r : ℕ × List ℕ} → w ≡ Written.Refused why
+pub writing-refused : (w : Result ℕ Refusal) (words : List ℕ) (why : Refusal) {r : ℕ × List ℕ} → w ≡ Err why
     → r ≡ set_words (number why) (values why) words → r ≡ in_words count_words (writer.told w) words
 writing-refused w words why e k = refused_as count_words words why (rw e) k
 

@@ -24,7 +24,7 @@ use Rattle.transaction_lists.specs.Found.{count_found}
 use Rattle.transaction_lists.proofs.ListLaws.{none-beyond}
 use Rattle.rules.specs.Outcome.{Outcome, fine, refused, check, check_with, ◌>>=◌, ◌>>◌}
 use Rattle.rules.proofs.Tests.{is_true, never, fine_inj, check-fine}
-use Rattle.transaction_writer.specs.declared.Written.{Written}
+use Rattle.std.specs.Prelude.{Result, Ok, Err}
 use Rattle.transaction_writer.specs.Written as tx
 use Rattle.base_writer.specs.Answer.{in_room, leaves, written, told}
 use Rattle.words.specs.Words.{in_words, writing}
@@ -35,19 +35,19 @@ use Rattle.answer_words.specs.Buffers.{bytes_if, item_found}
 -- ---- bytes
 
 module _ (s out : List ℕ) where
-  no_fit : tx.fits (length s) (length out) ≡ false → (told (Written.Refused Refusal.BufferTooShort), out) ≡ written (fine s) out
+  no_fit : tx.fits (length s) (length out) ≡ false → (told (Err Refusal.BufferTooShort), out) ≡ written (fine s) out
   unfolding in_room leaves check check_with ◌>>=◌ ◌>>◌ number values
   no_fit f = rw f
 
-  pub first-long : 133116 < length s → (told (Written.Refused Refusal.BufferTooShort), out) ≡ written (fine s) out
+  pub first-long : 133116 < length s → (told (Err Refusal.BufferTooShort), out) ≡ written (fine s) out
   unfolding tx.fits
   first-long h = no_fit (rw (lt-leb _ _ h))
 
-  pub first_short : length out < length s → (told (Written.Refused Refusal.BufferTooShort), out) ≡ written (fine s) out
+  pub first_short : length out < length s → (told (Err Refusal.BufferTooShort), out) ≡ written (fine s) out
   unfolding tx.fits
   first_short h = no_fit (simp (lt-leb _ _ h, and-false))
 
-  pub first_put : {after : List ℕ} {n : ℕ} → length s ≤ 133116 → length s ≤ length out → after ≡ put_at out 0 s → n ≡ put_end out 0 s → (told (Written.Wrote n), after) ≡ written (fine s) out
+  pub first_put : {after : List ℕ} {n : ℕ} → length s ≤ 133116 → length s ≤ length out → after ≡ put_at out 0 s → n ≡ put_end out 0 s → (told (Ok n), after) ≡ written (fine s) out
   unfolding in_room leaves check check_with ◌>>=◌ ◌>>◌
   first_put a b e f = rw fit (ap₂ (λ (k : ℕ) (l : List ℕ). (fine k, l)) (f ∙ end_yes out 0 s (omega arith) ∙ zero-add _) (e ∙ put_yes out 0 s (omega arith) ∙ splice_zero out s))
     where
@@ -66,7 +66,7 @@ checked true why bytes out v = by (tx.fits (length bytes) (length out)) refl
     by true e = rw e
     by false e = rw e
 
-module _ (right : Bool) (bytes out words : List ℕ) {w : Written} {after : List ℕ} {r : ℕ × List ℕ} (k : r ≡ in_words count_words (told w) words) where
+module _ (right : Bool) (bytes out words : List ℕ) {w : Result ℕ Refusal} {after : List ℕ} {r : ℕ × List ℕ} (k : r ≡ in_words count_words (told w) words) where
   pub lists-written : w ≡ tx.writes right Refusal.LentBytesUnreadable bytes out → after ≡ tx.leaves right bytes out
       → (r, after) ≡ writing count_words (written (bytes_if 3 right bytes) out) words
   unfolding number values
@@ -96,7 +96,7 @@ module _ (tx : List ℕ) (list i : ℕ) where
       by true eb true ec = absurd (never n l (length (list_in tx list)) (sym (rw (eb, ec) at e)))
 
   module _ (out : List ℕ) {x : Found} (e : lists.told x ≡ count_found tx list) where
-    pub item_uncounted : {why : Refusal} → x ≡ Found.Refused why → (told (Written.Refused why), out) ≡ written (item_found tx list i) out
+    pub item_uncounted : {why : Refusal} → x ≡ Found.Refused why → (told (Err why), out) ≡ written (item_found tx list i) out
     unfolding in_room leaves check check_with ◌>>=◌ ◌>>◌
     item_uncounted {why} ex = rw (uncounted (number why) (values why) (rw ex at (sym e)))
 
@@ -114,7 +114,7 @@ module _ (tx : List ℕ) (list i : ℕ) where
           let e₁ = (check-fine 1 (readable Transaction tx) _ n (sym counted)).1 in
           fine_inj (check-fine 3 (ltb list 6) _ n e₁).1
 
-      pub item-none : n ≤ i → (told (Written.Refused Refusal.LentBytesUnreadable), out) ≡ written (item_found tx list i) out
+      pub item-none : n ≤ i → (told (Err Refusal.LentBytesUnreadable), out) ≡ written (item_found tx list i) out
       unfolding item_found in_room leaves check check_with ◌>>=◌ ◌>>◌ number values
       item-none k = rw (reads, is-count, le-ltb i n k)
 

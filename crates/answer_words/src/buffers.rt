@@ -15,12 +15,12 @@ pub fn put_first(s: &[u8], out: &mut [u8]) -> Written
     ensures { (told result, out.new) ≡ written (fine s.now) out.old }
 {
     if MAX_BYTES < s.len() {
-        return Written::Refused(Refusal::BufferTooShort);
+        return Err(Refusal::BufferTooShort);
     }
     if out.len() < s.len() {
-        return Written::Refused(Refusal::BufferTooShort);
+        return Err(Refusal::BufferTooShort);
     }
-    Written::Wrote(write::put(out, 0, s))
+    Ok(write::put(out, 0, s))
 }
 
 // Puts an item of a list of a transaction at the start of out. Refused, and out as it was: bytes that are no transaction (1), a list or an item that there is not (3), an
@@ -32,11 +32,11 @@ pub fn put_item(tx: &[u8], list: u32, i: usize, out: &mut [u8]) -> Written
     match found {
         Found::Number(n) => {
             if n as usize <= i {
-                return Written::Refused(Refusal::LentBytesUnreadable);
+                return Err(Refusal::LentBytesUnreadable);
             }
             put_first(transaction_lists::item(tx, list, i), out)
         }
-        Found::Refused(why) => Written::Refused(why),
+        Found::Refused(why) => Err(why),
     }
 }
 

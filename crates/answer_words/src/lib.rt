@@ -27,8 +27,8 @@ pub fn tell_written(written: Written, words: &mut [u64; WORDS]) -> u32
     ensures { (result, words.new) ≡ in_words count_words (writer.told written) words.old }
 {
     match written {
-        Written::Wrote(n) => words::set_one(words, 0, n as u64),
-        Written::Refused(why) => words::tell_refusal(why, words),
+        Ok(n) => words::set_one(words, 0, n as u64),
+        Err(why) => words::tell_refusal(why, words),
     }
 }
 

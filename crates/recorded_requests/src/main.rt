@@ -9,7 +9,6 @@ use recorded_calls::{FILL, Items, Replay, Tallies, Tally};
 use std::alloc::{AllocError, Global};
 use std::io;
 use std::io::BufReader;
-use transaction_writer::Written;
 use udt_cells::UdtInputsOutputs;
 use units::{Shannons, Tokens};
 
@@ -130,10 +129,7 @@ fn build_base(r: &Request<'_>, out: &mut [u8]) -> Told<usize> {
         r.figures,
         out,
     );
-    match written {
-        Written::Wrote(n) => Ok(n),
-        Written::Refused(e) => Err(e.number()),
-    }
+    written.map_err(|e| e.number())
 }
 
 fn build_cell(r: &Request<'_>) -> Told<(u128, u128)> {
