@@ -48,9 +48,9 @@ struct Request<'a> {
     output: &'a [u8],
 }
 
-fn u128_at(s: &[u8], at: usize) -> u128 {
-    let high = u128::from(little_endian::u64_at(s, at.saturating_add(8)));
-    high << 64 | u128::from(little_endian::u64_at(s, at))
+// The number of 16 bytes at `at`.
+fn u128_at(head: &[u8], at: usize) -> u128 {
+    recorded_calls::u128_of(molecule::part(head, at, at.saturating_add(16)))
 }
 
 fn amount_at(head: &[u8], at: usize) -> Amount {

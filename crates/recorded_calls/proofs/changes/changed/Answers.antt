@@ -1,5 +1,5 @@
 use Rattle.std.proofs.Common.{rules}
-use Rattle.recorded_calls.proofs.Left.{changes_step}
+use Rattle.recorded_calls.proofs.ChangeLaws.{changes_step}
 use Rattle.recorded_calls.proofs.changes.changed.Goals as goal
 
 pub loop-preserved : goal.loop-preserved

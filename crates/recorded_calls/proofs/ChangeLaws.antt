@@ -1,25 +1,11 @@
--- Laws of what is left: of the items of a list, and of the changes of a file.
-use Rattle.std.proofs.Common.{◌≡◌, ◌∙◌, ℕ, suc, ◌+◌, ◌-◌, ◌/◌, ◌%◌, ◌<◌, ◌≤◌, List, [], ◌∷◌, ◌++◌, length, ap, sym, arith, add-one, append_assoc}
+-- Laws of a file with changes.
+use Rattle.std.proofs.Common.{◌≡◌, ℕ, suc, ◌+◌, ◌-◌, ◌/◌, ◌%◌, ◌<◌, List, ◌++◌, length, ap, arith, append_assoc}
 use Rattle.std.proofs.lemmas.Grind.{common_steps}
 use Rattle.arithmetic.specs.LittleEndian.{u32_at}
-use Rattle.molecule.specs.Layout.{part, span}
+use Rattle.molecule.specs.Layout.{part}
 use Rattle.recorded_calls.specs.Changes.{change_size, changed_from}
 
-pub left_none : {A : Type 0} (f : ℕ → A) (n c : ℕ) → c ≤ n → span f n (c - n) ≡ []
-unfolding span
-left_none f n c h = let e : c - n ≡ 0 = omega arith in ap (span f n) e
-
-pub left_more : {A : Type 0} (f : ℕ → A) (n c : ℕ) → n < c → span f n (c - n) ≡ f n ∷ span f (n + 1) (c - (n + 1))
-unfolding span
-left_more f n c h =
-    let e : c - n ≡ suc (c - (n + 1)) = omega arith in
-    ap (span f n) e ∙ ap (λ j. f n ∷ span f j (c - (n + 1))) (sym (add-one n))
-
-pub changes_none : (file : List ℕ) (from n c : ℕ) (s : List ℕ) → c ≤ n → changed_from file from (c - n) s ≡ part file from (length file)
-unfolding changed_from
-changes_none file from n c s h = let e : c - n ≡ 0 = omega arith in ap (λ k. changed_from file from k s) e
-
-pub changes_more : (file : List ℕ) (from n c : ℕ) (s : List ℕ) → n < c →
+changes_more : (file : List ℕ) (from n c : ℕ) (s : List ℕ) → n < c →
     changed_from file from (c - n) s
     ≡ (part file from (u32_at s 0 % 65536) ++ part s 5 (change_size s))
     ++ changed_from file (u32_at s 0 / 65536) (c - (n + 1)) (part s (change_size s) (length s))
