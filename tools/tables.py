@@ -36,8 +36,8 @@ TABLES = [
     ('record', 'Record', ['CellOutput', 'Bytes'], [('is', 'CellOutput'), ('is', 'Bytes')]),
 ]
 
-# tables whose laws of each way out are still used: by reader and exclusions, by records, by negotiation
-WAYS_OUT = ['raw', 'transaction', 'record', 'update']
+# tables whose laws of each way out are still used, by exclusions, records and negotiation, or named in docs/PORT-NAMES.md
+WAYS_OUT = ['raw', 'transaction', 'token-cell', 'record', 'update']
 
 # of each crate: what its tables are, where their types stand, and the tables
 CRATES = [

@@ -24,7 +24,7 @@ use Rattle.molecule.proofs.ReadableLaws.{every}
 use Rattle.lists.proofs.SpanLaws.{span-drop}
 use Rattle.transaction.specs.Ckb.{Bytes, CellDep, CellDeps, Script, CellOutput, Transaction, TokenCells}
 use Rattle.transaction.specs.Tx.{Tx, tx_at, raw_field}
-use Rattle.transaction_writer.specs.declared.Written.{Written}
+use Rattle.std.specs.Prelude.{Result, Ok, Err}
 use Rattle.transaction_writer.specs.Written.{fits}
 use Rattle.transaction_writer.proofs.PutLaws.{tx_length}
 use Rattle.rules.specs.Cells.{Cell, pair, cells}
@@ -419,11 +419,11 @@ fits_short : (n room : ℕ) → fits n room ≡ true → n ≤ 133116
 unfolding fits
 fits_short n room h = leb-true n 133116 ((and-eq-true_iff (leb n 133116) (leb n room)).0 h).0
 
-left : (tx : Outcome (List ℕ)) (out after : List ℕ) (n : ℕ) → (told (Written.Wrote n), after) ≡ written tx out → Left tx after n
+left : (tx : Outcome (List ℕ)) (out after : List ℕ) (n : ℕ) → (told (Ok n), after) ≡ written tx out → Left tx after n
 unfolding leaves
 left tx out after n e = by (in_room out tx) refl e
   where
-    by : (o : Outcome (List ℕ)) → in_room out tx ≡ o → (told (Written.Wrote n), after) ≡ leaves o out → Left tx after n
+    by : (o : Outcome (List ℕ)) → in_room out tx ≡ o → (told (Ok n), after) ≡ leaves o out → Left tx after n
     by (refused k x) f g = absurd (never k x n (sym (ap (λ (p : Outcome ℕ × List ℕ). p.0) g)))
     by (fine bytes) f g =
         let many : n ≡ length bytes = fine_inj (ap (λ (p : Outcome ℕ × List ℕ). p.0) g) in

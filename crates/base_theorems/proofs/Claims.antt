@@ -25,7 +25,7 @@ use Rattle.udt_cells.specs.Change.{capacity_for}
 use Rattle.udt_cells.proofs.PickTheorems.{held}
 use Rattle.base_inputs.specs.BaseInputs.{picked_input}
 use Rattle.list_writer.specs.ListWriter.{fix_list}
-use Rattle.transaction_writer.specs.declared.Written.{Written}
+use Rattle.std.specs.Prelude.{Result, Ok, Err}
 use Rattle.base_writer.specs.Answer.{written, told}
 use Rattle.transaction_theorems.proofs.Claims.{value_tx}
 use Rattle.transaction_theorems.proofs.WrittenReads.{HasFields}
@@ -39,7 +39,7 @@ Built P = (l : Lent) (request : FundingRequest) (bytes : List ℕ) → AllBytes 
 -- contract
 abbrev pub Called : (Lent → FundingRequest → List ℕ → Type 0) → Type 0
 Called P =
-    (l : Lent) (request : FundingRequest) (out after : List ℕ) (n : ℕ) → AllBytes l.ours → (told (Written.Wrote n), after) ≡ written (build_base l request) out
+    (l : Lent) (request : FundingRequest) (out after : List ℕ) (n : ℕ) → AllBytes l.ours → (told (Ok n), after) ≡ written (build_base l request) out
     → P l request (take n after)
 
 -- the figures of the funding cell, and the pick

@@ -25,6 +25,7 @@ ghost use Rattle.answer_words.specs.Buffers.{bytes_if, item_found};
 
 use answer_words::buffers;
 use arithmetic::Amount;
+use transaction_writer::TxFields;
 use units::Tokens;
 use words::WORDS;
 
@@ -122,16 +123,16 @@ pub extern "C" fn basinpantry_write_transaction(
 ) -> u32
     ensures { ((result, values.new), out.new) ≡ writing count_words (written (bytes_if 3 (in_form cell_deps.now header_deps.now inputs.now outputs.now outputs_data.now witnesses.now) (tx_bytes version cell_deps.now header_deps.now inputs.now outputs.now outputs_data.now witnesses.now)) out.old) values.old }
 {
-    let written = transaction_writer::write_transaction(
+    let fields = TxFields {
         version,
-        cell_deps,
-        header_deps,
+        deps: cell_deps,
+        headers: header_deps,
         inputs,
         outputs,
-        outputs_data,
+        datas: outputs_data,
         witnesses,
-        out,
-    );
+    };
+    let written = transaction_writer::write_transaction(fields, out);
     answer_words::tell_written(written, values)
 }
 

@@ -1,11 +1,11 @@
 -- A dep is new where it stands nowhere before: in its own list, by its first place there, and in no list before it. And what the loop that gathers knows.
 use mathlib.Core.Path.{◌≡◌, refl, sym, ap, ap₂, ◌∙◌}
-use Prim.Native.Nat.{ℕ, zero, suc, ◌+◌, ◌-◌, ◌≤◌, ◌<◌, min}
-use mathlib.Core.Bool.{Bool, true, false, not, cond}
+use Prim.Native.Nat.{ℕ, zero, suc, ◌+◌, ◌-◌, ◌≤◌, ◌<◌}
+use mathlib.Core.Bool.{Bool, true, false, false≢true, not, cond}
 use mathlib.Core.List.{List, [], ◌∷◌, ◌++◌, map}
 use native.Mathlib.Numerals.{add-one}
 use native.Mathlib.Omega.{arith}
-use borrow.Author.Tests.{eq-eqb, ne_eqb}
+use borrow.Author.Tests.{eq-eqb, ne_eqb, eqb-true}
 use lib.Dec.{eqb}
 use lib.ListN.{length, take, set, length-set, length-append}
 use lib.Seq.{take-suc-set}
@@ -13,7 +13,14 @@ use Rattle.molecule.specs.Layout.{span, fix_count, fix_item}
 use Rattle.lists.specs.Lists.{eq_bytes, contains}
 use Rattle.lists.proofs.EqualLaws.{eq_refl, eq_true}
 use Rattle.lists.proofs.SpanLaws.{span-on, span-end, span-whole}
+use Rattle.std.specs.Prelude.{Option, Some, nat_eq}
+use Rattle.std.specs.Option.{option_eq}
+use Rattle.std.specs.List.{position}
+use Rattle.std.proofs.Common.{length-take-le}
+use Rattle.molecule.proofs.Offsets.{span-length}
 use Rattle.item_index.specs.Index.{Index, key_of, place_in}
+use Rattle.item_index.proofs.FindLaws.{index_front, position_eq}
+use Rattle.distinct_deps.specs.Listed.{Listed}
 use Rattle.item_index.proofs.OrderLaws.{three}
 use Rattle.cell_deps.specs.CellDeps.{before, any_count, last_dep_at, own_dep_at, dep_at, pushed, push_all, cell_deps, dep_count, deps_at, Chooses}
 use Rattle.cell_deps.proofs.DepLaws.{before_in, before_past, any_none, span_agree, span-split, span-before, all_spans}
@@ -74,42 +81,52 @@ module _ (m : ℕ) (f g : ℕ → List ℕ) (i : ℕ) (x : List ℕ) where
       let w : contains x (span (before m f g) 0 i) ≡ contains x (span g 0 (i - m)) = past h ∙ ap (λ (v : Bool). cond v true (contains x (span g 0 (i - m)))) (sym e ∙ t) in
       eq ∙ sym (ap not w)
 
--- the same of a list by its index
-module _ (b : List ℕ) (g : ℕ → List ℕ) (s : List ℕ) (o : Index (key_of b 37 0) (fix_count b) s) {n : ℕ} (en : n ≡ fix_count b) (i : ℕ) (x : List ℕ) where
-  by_index : {A : Type 0} → (Index (key_of b 37 0) n s → A) → A
-  by_index h = h (rw en o)
+-- the same of a list of deps
+module _ (b : List ℕ) (g : ℕ → List ℕ) {n : ℕ} (en : n ≡ fix_count b) (i : ℕ) (x : List ℕ) where
+  listed_new : i < n → x ≡ before (fix_count b) (fix_item b 37) g i → {r : Bool} → r ≡ eqb (place_in x (span (fix_item b 37) 0 (fix_count b))) i
+      → r ≡ not (contains x (span (before (fix_count b) (fix_item b 37) g) 0 i))
+  listed_new h e er = er ∙ new_in (fix_count b) (fix_item b 37) g i x (rw en at h) e refl
 
-  listed_new : i < n → x ≡ before (fix_count b) (fix_item b 37) g i → {p : ℕ} → (Index (key_of b 37 0) n s → p ≡ place_in x (span (key_of b 37 0) 0 n))
-      → eqb p i ≡ not (contains x (span (before (fix_count b) (fix_item b 37) g) 0 i))
-  unfolding key_of
-  listed_new h e q = new_in (fix_count b) (fix_item b 37) g i x (rw en at h) e (by_index q ∙ ap (λ (v : ℕ). place_in x (span (fix_item b 37) 0 v)) en)
-
-  module _ (h : n ≤ i) {r : Bool} (er : Index (key_of b 37 0) n s → r ≡ contains x (span (key_of b 37 0) 0 n)) where
-    here : r ≡ contains x (span (fix_item b 37) 0 (fix_count b))
-    unfolding key_of
-    here = by_index er ∙ ap (λ (v : ℕ). contains x (span (fix_item b 37) 0 v)) en
-
+  module _ (h : n ≤ i) {r : Bool} (er : r ≡ contains x (span (fix_item b 37) 0 (fix_count b))) where
     listed_old : r ≡ true → false ≡ not (contains x (span (before (fix_count b) (fix_item b 37) g) 0 i))
-    listed_old = old_past (fix_count b) (fix_item b 37) g i x (rw en at h) here
+    listed_old = old_past (fix_count b) (fix_item b 37) g i x (rw en at h) er
 
     listed_past : r ≡ false → {q : Bool} → q ≡ not (contains x (span g 0 (i - n))) → q ≡ not (contains x (span (before (fix_count b) (fix_item b 37) g) 0 i))
     listed_past t eq =
-        new_past (fix_count b) (fix_item b 37) g i x (rw en at h) here t (eq ∙ ap (λ (v : ℕ). not (contains x (span g 0 (i - v)))) en)
+        new_past (fix_count b) (fix_item b 37) g i x (rw en at h) er t (eq ∙ ap (λ (v : ℕ). not (contains x (span g 0 (i - v)))) en)
 
 -- ---- the ways out
 
-pub lock-none : (c x : List ℕ) → length c ≡ 0 → false ≡ contains x (span (λ _. c) 0 (any_count c))
+pub lock-none : (c x : List ℕ) {r : Bool} → r ≡ eqb (length c) 0 → r ≡ true → not r ≡ contains x (span (λ _. c) 0 (any_count c))
 unfolding contains span
-lock-none c x h = ap (λ (n : ℕ). contains x (span (λ _. c) 0 n)) (any_none c h)
+lock-none c x e t = rw t (ap (λ (n : ℕ). contains x (span (λ _. c) 0 n)) (any_none c (eqb-true (length c) 0 (sym e ∙ t))))
 
-pub lock-is : (c x : List ℕ) → (length c ≡ 0 → ⊥) → {r : Bool} → r ≡ eq_bytes x c → r ≡ contains x (span (λ _. c) 0 (any_count c))
+pub lock-is : (c x : List ℕ) {q : Bool} → q ≡ eqb (length c) 0 → q ≡ false → {r : Bool} → r ≡ eq_bytes x c → r ≡ contains x (span (λ _. c) 0 (any_count c))
 unfolding contains span any_count
-lock-is [] x h e = absurd (h refl)
-lock-is (b ∷ c) x h {r} e = e ∙ by (eq_bytes x (b ∷ c))
+lock-is [] x e t f = absurd (false≢true (sym t ∙ e))
+lock-is (b ∷ c) x e t {r} f = f ∙ by (eq_bytes x (b ∷ c))
   where
     by : (d : Bool) → d ≡ cond d true false
     by true = refl
     by false = refl
+
+-- a list by its index
+module _ (list s x : List ℕ) (o : Listed list s) where
+  listed_index : Index (key_of list 37 0) (length s) s
+  listed_index = o.index
+
+  pub has_is : {r : Bool} → (Index (key_of list 37 0) (length s) s → r ≡ contains x (span (key_of list 37 0) 0 (length s))) → r ≡ contains x (span (fix_item list 37) 0 (fix_count list))
+  unfolding key_of
+  has_is h = h o.index ∙ ap (λ (v : ℕ). contains x (span (fix_item list 37) 0 v)) o.long
+
+  pub first_is : (i : ℕ) → i < fix_count list → {p : Option ℕ} → (Index (key_of list 37 0) (length s) s → p ≡ position (eq_bytes x) (span (key_of list 37 0) 0 (length s)))
+      → {r : Bool} → r ≡ option_eq nat_eq p (Some i) → r ≡ eqb (place_in x (span (fix_item list 37) 0 (fix_count list))) i
+  unfolding key_of
+  first_is i h q e = e ∙ ap (λ (t : Option ℕ). option_eq nat_eq t (Some i)) (q o.index ∙ ap (λ (v : ℕ). position (eq_bytes x) (span (fix_item list 37) 0 v)) o.long)
+      ∙ position_eq x (span (fix_item list 37) 0 (fix_count list)) i (rw span-length h)
+
+pub listed_made : (list : List ℕ) (p q : ℕ) (s : List ℕ) {n : ℕ} → n ≡ fix_count list → (n ≤ p → n ≤ q → Index (key_of list 37 0) n s) → n ≤ p → n ≤ q → n ≤ length s → Listed list (take n s)
+listed_made list p q s e h l m r = record { long = length-take-le _ s r ∙ e; index = index_front (h l m) }
 
 module _ (c d x : List ℕ) (i : ℕ) {n : ℕ} (en : n ≡ any_count c) where
   pub last_first : i < n → n ≤ 1 → true ≡ not (contains x (span (last_dep_at c d) 0 i))
@@ -121,13 +138,14 @@ module _ (c d x : List ℕ) (i : ℕ) {n : ℕ} (en : n ≡ any_count c) where
     unfolding last_dep_at
     last_lock_again = old_past (any_count c) (λ _. c) (fix_item d 37) i x (rw en at h) er
 
-    pub last_extra_new : r ≡ false → (s : List ℕ) → Index (key_of d 37 0) (fix_count d) s → i < any_count c + fix_count d → x ≡ last_dep_at c d i → {m p : ℕ} → m ≡ fix_count d
-        → (Index (key_of d 37 0) m s → p ≡ place_in x (span (key_of d 37 0) 0 m)) → eqb p (i - n) ≡ not (contains x (span (last_dep_at c d) 0 i))
-    unfolding last_dep_at key_of
-    last_extra_new t s o l ex {m} {p} em q =
+    pub last_extra_new : r ≡ false → i < any_count c + fix_count d → x ≡ last_dep_at c d i → {q : Bool} → q ≡ eqb (place_in x (span (fix_item d 37) 0 (fix_count d))) (i - n)
+        → q ≡ not (contains x (span (last_dep_at c d) 0 i))
+    unfolding last_dep_at
+    last_extra_new t l ex eq =
         let u : i - n < fix_count d = omega arith in
         new_past (any_count c) (λ _. c) (fix_item d 37) i x (rw en at h) er t
-        (ap (λ (v : ℕ). eqb v (i - n)) (q (rw em o) ∙ ap (λ (v : ℕ). place_in x (span (fix_item d 37) 0 v)) em ∙ sym (plus_none (place_in x (span (fix_item d 37) 0 (fix_count d)))))
+        (eq
+        ∙ ap (λ (v : ℕ). eqb v (i - n)) (sym (plus_none (place_in x (span (fix_item d 37) 0 (fix_count d)))))
         ∙ first-place x (fix_item d 37) 0 (fix_count d) (i - n) (omega arith) (omega arith) (ex ∙ before_past (any_count c) (λ _. c) (fix_item d 37) i (rw en at h) ∙ ap (λ (v : ℕ). fix_item d 37 (i - v)) (sym en))
         ∙ ap₂ (λ (v w : ℕ). not (contains x (span (fix_item d 37) v w))) refl (less_none (i - n) ∙ ap (λ (v : ℕ). i - v) en))
       where
@@ -137,40 +155,40 @@ module _ (c d x : List ℕ) (i : ℕ) {n : ℕ} (en : n ≡ any_count c) where
         less_none : (v : ℕ) → v - 0 ≡ v
         less_none v = omega arith
 
-module _ (b c d x s : List ℕ) (o : Index (key_of b 37 0) (fix_count b) s) (i : ℕ) {n : ℕ} (en : n ≡ fix_count b) where
-  pub own_new : i < n → x ≡ own_dep_at b c d i → {p : ℕ} → (Index (key_of b 37 0) n s → p ≡ place_in x (span (key_of b 37 0) 0 n)) → eqb p i ≡ not (contains x (span (own_dep_at b c d) 0 i))
+module _ (b c d x : List ℕ) (i : ℕ) {n : ℕ} (en : n ≡ fix_count b) where
+  pub own_new : i < n → x ≡ own_dep_at b c d i → {r : Bool} → r ≡ eqb (place_in x (span (fix_item b 37) 0 (fix_count b))) i → r ≡ not (contains x (span (own_dep_at b c d) 0 i))
   unfolding own_dep_at
-  own_new = listed_new b (last_dep_at c d) s o en i x
+  own_new = listed_new b (last_dep_at c d) en i x
 
-  module _ (h : n ≤ i) {r : Bool} (er : Index (key_of b 37 0) n s → r ≡ contains x (span (key_of b 37 0) 0 n)) where
+  module _ (h : n ≤ i) {r : Bool} (er : r ≡ contains x (span (fix_item b 37) 0 (fix_count b))) where
     pub own_again : r ≡ true → false ≡ not (contains x (span (own_dep_at b c d) 0 i))
     unfolding own_dep_at
-    own_again = listed_old b (last_dep_at c d) s o en i x h er
+    own_again = listed_old b (last_dep_at c d) en i x h er
 
     pub own_past : r ≡ false → {q : Bool} → q ≡ not (contains x (span (last_dep_at c d) 0 (i - n))) → q ≡ not (contains x (span (own_dep_at b c d) 0 i))
     unfolding own_dep_at
-    own_past = listed_past b (last_dep_at c d) s o en i x h er
+    own_past = listed_past b (last_dep_at c d) en i x h er
 
 pub own_rest : (b c d : List ℕ) (i : ℕ) {n : ℕ} {x : List ℕ} → n ≡ fix_count b → n ≤ i → x ≡ own_dep_at b c d i → x ≡ last_dep_at c d (i - n)
 unfolding own_dep_at
 own_rest b c d i en h e = e ∙ before_past (fix_count b) (fix_item b 37) (last_dep_at c d) i (rw en at h) ∙ ap (λ (v : ℕ). last_dep_at c d (i - v)) (sym en)
 
-module _ (a b c d s : List ℕ) (o : Index (key_of a 37 0) (fix_count a) s) (i : ℕ) {x : List ℕ} (ex : x ≡ dep_at a b c d i) {n : ℕ} (en : n ≡ fix_count a) where
+module _ (a b c d : List ℕ) (i : ℕ) {x : List ℕ} (ex : x ≡ dep_at a b c d i) {n : ℕ} (en : n ≡ fix_count a) where
   to_dep : {q : Bool} → q ≡ not (contains x (span (dep_at a b c d) 0 i)) → q ≡ not (contains (dep_at a b c d i) (span (dep_at a b c d) 0 i))
   to_dep e = e ∙ ap (λ (y : List ℕ). not (contains y (span (dep_at a b c d) 0 i))) ex
 
-  pub dep_new : i < n → {p : ℕ} → (Index (key_of a 37 0) n s → p ≡ place_in x (span (key_of a 37 0) 0 n)) → eqb p i ≡ not (contains (dep_at a b c d i) (span (dep_at a b c d) 0 i))
+  pub dep_new : i < n → {r : Bool} → r ≡ eqb (place_in x (span (fix_item a 37) 0 (fix_count a))) i → r ≡ not (contains (dep_at a b c d i) (span (dep_at a b c d) 0 i))
   unfolding dep_at
-  dep_new h q = to_dep (listed_new a (own_dep_at b c d) s o en i x h ex q)
+  dep_new h q = to_dep (listed_new a (own_dep_at b c d) en i x h ex q)
 
-  module _ (h : n ≤ i) {r : Bool} (er : Index (key_of a 37 0) n s → r ≡ contains x (span (key_of a 37 0) 0 n)) where
+  module _ (h : n ≤ i) {r : Bool} (er : r ≡ contains x (span (fix_item a 37) 0 (fix_count a))) where
     pub dep_again : r ≡ true → false ≡ not (contains (dep_at a b c d i) (span (dep_at a b c d) 0 i))
     unfolding dep_at
-    dep_again t = to_dep (listed_old a (own_dep_at b c d) s o en i x h er t)
+    dep_again t = to_dep (listed_old a (own_dep_at b c d) en i x h er t)
 
     pub dep_past : r ≡ false → {q : Bool} → q ≡ not (contains x (span (own_dep_at b c d) 0 (i - n))) → q ≡ not (contains (dep_at a b c d i) (span (dep_at a b c d) 0 i))
     unfolding dep_at
-    dep_past t e = to_dep (listed_past a (own_dep_at b c d) s o en i x h er t e)
+    dep_past t e = to_dep (listed_past a (own_dep_at b c d) en i x h er t e)
 
 pub dep-rest : (a b c d : List ℕ) (i : ℕ) {n : ℕ} {x : List ℕ} → n ≡ fix_count a → n ≤ i → x ≡ dep_at a b c d i → x ≡ own_dep_at b c d (i - n)
 unfolding dep_at
@@ -305,18 +323,3 @@ own_in b c d e h l = omega arith
 
 pub dep_in : (a b c d : List ℕ) {n i : ℕ} → n ≡ fix_count a → n ≤ i → i < dep_count a b c d → i - n < fix_count b + (any_count c + fix_count d)
 dep_in a b c d e h l = omega arith
-
-pub index_of : (f : ℕ → List ℕ) (b : List ℕ) (p q : ℕ) (s : List ℕ) {n : ℕ} → n ≡ fix_count b → (n ≤ p → n ≤ q → Index f n s) → fix_count b ≤ p → fix_count b ≤ q → Index f (fix_count b) s
-index_of f b p q s e h l m = rw e at (h (rw e l) (rw e m))
-
-pub few-present : (a b c d : List ℕ) {n : ℕ} → n ≡ dep_count a b c d → n ≤ 3600 → fix_count a ≤ 3600
-few-present a b c d e h = omega arith
-
-pub few-token : (a b c d : List ℕ) {n : ℕ} → n ≡ dep_count a b c d → n ≤ 3600 → fix_count b ≤ 3600
-few-token a b c d e h = omega arith
-
-pub few_extra : (a b c d : List ℕ) {n : ℕ} → n ≡ dep_count a b c d → n ≤ 3600 → fix_count d ≤ 3600
-few_extra a b c d e h = omega arith
-
-pub room-is : (a b c d : List ℕ) (l m : ℕ) (p : List ℕ) {room r : ℕ} → room ≡ min l m → Chooses a b c d room p r → Chooses a b c d (min l m) p r
-room-is a b c d l m p e k = rw e at k

@@ -1,91 +1,34 @@
 -- Places kept in the order of their deps: looked up by halves, and one put in.
 use mathlib.Core.Path.{◌≡◌, refl, sym, ap, ap₂, ◌∙◌}
-use Prim.Native.Nat.{ℕ, zero, suc, ◌+◌, ◌-◌, ◌/◌, ◌≤◌, ◌<◌}
+use Prim.Native.Nat.{ℕ, zero, suc, ◌+◌, ◌-◌, ◌≤◌, ◌<◌}
 use mathlib.Core.Bool.{Bool, true, false, cond, false≢true}
 use mathlib.Core.List.{List, [], ◌∷◌, ◌++◌}
 use native.Mathlib.Nat.{add-zero, zero-add}
 use native.Mathlib.Omega.{arith}
 use borrow.Author.Tests.{lt-ltb, le-ltb}
-use lib.ListN.{length, get_or, set, length-set}
+use lib.Dec.{ltb}
+use lib.ListN.{length, get_or, take, set, length-set}
 use lib.Seq.{get_or-set_same, get_or-set_other}
+use Rattle.std.specs.declared.cmp.Ordering.{Ordering}
+use Rattle.std.specs.Ordering.{ordering_index}
+use Rattle.std.specs.List.{HoldsAt, CopiedTo, SameBelow}
+use Rattle.std.specs.List.Sorted.{IsNonDecreasingBy, IsPartitionPoint}
+use Rattle.std.proofs.Common.{length-take-le}
+use Rattle.std.proofs.lemmas.Grind.{get_or_default_zero}
+use Rattle.std.proofs.lemmas.List.{get_or-take}
 use Rattle.molecule.specs.Layout.{span}
 use Rattle.lists.specs.Lists.{eq_bytes, contains}
 use Rattle.lists.proofs.LoopLaws.{at_place}
-use Rattle.lists.proofs.EqualLaws.{not_so}
-use Rattle.cell_deps.specs.CellDeps.{dep_at, placed_at}
-use Rattle.distinct_deps.specs.Sorted.{Ordered, Lower, Sought, shifted, Inserted}
-use Rattle.item_index.specs.declared.ordering.Order.{Order}
+use Rattle.lists.proofs.EqualLaws.{eq_refl}
 use Rattle.item_index.specs.Order.{is_before, order_of}
-use Rattle.item_index.proofs.FindLaws.{eq_sym}
-use Rattle.item_index.proofs.OrderLaws.{three, before_not, before_trans, before_differs, before_other, after_less, order_less, order-more, order_same}
+use Rattle.item_index.proofs.FindLaws.{eq_sym, ranked}
+use Rattle.item_index.proofs.OrderLaws.{three, before_not, before_differs, after_less, order_less, order-more, order_same}
+
+-- the first n rise
+pub record Ordered (f : ℕ → List ℕ) (n : ℕ) : Type 0 where
+  pub rising : (i j : ℕ) → i < j → j < n → is_before (f i) (f j) ≡ true
 
 -- ---- looking by halves
-
-is_placed : (a b c d s : List ℕ) (j : ℕ) {y : List ℕ} → y ≡ dep_at a b c d (get_or s j 0) → y ≡ placed_at a b c d s j
-unfolding placed_at
-is_placed a b c d s j e = e
-
--- those below `low` come before x, those from `high` on do not
-pub record Halving (f : ℕ → List ℕ) (n : ℕ) (x : List ℕ) (low high : ℕ) : Type 0 where
-  pub order : Ordered f n
-  pub meet : low ≤ high
-  pub end : high ≤ n
-  pub below : (i : ℕ) → i < low → is_before (f i) x ≡ true
-  pub rest : (i : ℕ) → high ≤ i → i < n → is_before (f i) x ≡ false
-
-pub halve_start : (f : ℕ → List ℕ) (n : ℕ) (x : List ℕ) → Ordered f n → Halving f n x 0 n
-halve_start f n x o = record { order = o; meet = omega arith; end = omega arith; below = λ i h. absurd (omega arith); rest = λ i h l. absurd (omega arith) }
-
-module _ {f : ℕ → List ℕ} {n : ℕ} {x : List ℕ} {low high : ℕ} (k : Halving f n x low high) where
-  pub halve_end : high ≤ low → Lower f n x low
-  halve_end h =
-      let m = k.meet in
-      let e = k.end in
-      record { within = omega arith; below = k.below; rest = λ i p q. k.rest i (omega arith) q }
-
-  module _ (h : low < high) {mid : ℕ} (em : mid ≡ low + (high - low) / 2) {y : List ℕ} (ey : y ≡ f mid) {r : Bool} (er : r ≡ is_before y x) where
-    go_up : r ≡ true → Halving f n x (mid + 1) high
-    go_up t =
-        let e = k.end in
-        let p : is_before (f mid) x ≡ true = ap (λ (l : List ℕ). is_before l x) (sym ey) ∙ sym er ∙ t in
-        record {
-          order = k.order;
-          meet = omega arith;
-          end = e;
-          below = λ i l. three i mid
-              (λ q. before_trans (f i) (f mid) x (k.order.rising i mid q (omega arith)) p)
-              (λ q. ap (λ (j : ℕ). is_before (f j) x) q ∙ p)
-              (λ q. absurd (omega arith));
-          rest = k.rest;
-        }
-
-    go_down : r ≡ false → Halving f n x low mid
-    go_down t =
-        let e = k.end in
-        let p : is_before (f mid) x ≡ false = ap (λ (l : List ℕ). is_before l x) (sym ey) ∙ sym er ∙ t in
-        record {
-          order = k.order;
-          meet = omega arith;
-          end = omega arith;
-          below = k.below;
-          rest = λ i l m. three mid i
-              (λ q. not_so (is_before (f i) x) (λ u. false≢true (sym p ∙ before_trans (f mid) (f i) x (k.order.rising mid i q m) u)))
-              (λ q. ap (λ (j : ℕ). is_before (f j) x) (sym q) ∙ p)
-              (λ q. absurd (omega arith));
-        }
-
-module _ (a b c d s : List ℕ) (n : ℕ) (x : List ℕ) {low high : ℕ} (k : Halving (placed_at a b c d s) n x low high) (h : low < high) {mid : ℕ} (em : mid ≡ low + (high - low) / 2)
-    {y : List ℕ} (ey : y ≡ dep_at a b c d (get_or s mid 0)) {o : Order} (eo : o ≡ order_of y x) where
-  pub halve_up : o ≡ Order.Before → Halving (placed_at a b c d s) n x (mid + 1) high
-  halve_up t = go_up k h em (is_placed a b c d s mid ey) refl (order_less y x (sym t ∙ eo))
-
-  pub halve_same : o ≡ Order.Same → Halving (placed_at a b c d s) n x low mid
-  halve_same t = go_down k h em (is_placed a b c d s mid ey) refl (ap (λ (w : List ℕ). is_before w x) (order_same y x (sym t ∙ eo)) ∙ before_not x)
-
-  pub halve_down : o ≡ Order.After → Halving (placed_at a b c d s) n x low mid
-  halve_down t = go_down k h em (is_placed a b c d s mid ey) refl (after_less x y (order-more y x (sym t ∙ eo)))
-
--- ---- whether it is there
 
 -- x differs from each
 none-there : (x : List ℕ) (f : ℕ → List ℕ) (j k : ℕ) → ((i : ℕ) → j ≤ i → i < j + k → eq_bytes x (f i) ≡ false) → contains x (span f j k) ≡ false
@@ -93,47 +36,66 @@ unfolding contains span
 none-there x f j zero h = refl
 none-there x f j (suc k) h = rw (h j (omega arith) (omega arith)) (none-there x f (suc j) k (λ i p q. h i (omega arith) (omega arith)))
 
-module _ (f : ℕ → List ℕ) (n : ℕ) (x : List ℕ) {at : ℕ} (k : Lower f n x at) where
-  sought_none : n ≤ at → Sought f n x (record { at = at; there = false })
-  sought_none h = record {
-    there = sym (none-there x f 0 n (λ i p q. eq_sym x (f i) (before_differs (f i) x (k.below i (omega arith)))));
-    within = k.within;
-    below = k.below;
-    above = λ t i p q. absurd (omega arith);
+-- x is not among the n, and is to be put at `at`
+pub record Absent (f : ℕ → List ℕ) (n : ℕ) (x : List ℕ) (at : ℕ) : Type 0 where
+  pub none : contains x (span f 0 n) ≡ false
+  pub within : at ≤ n
+  pub below : (i : ℕ) → i < at → is_before (f i) x ≡ true
+  pub above : (i : ℕ) → at ≤ i → i < n → is_before x (f i) ≡ true
+
+-- what the library's search says of the first n of s, which are in the order of their deps
+module _ (dep : ℕ → List ℕ) (s : List ℕ) (n : ℕ) (h : n ≤ length s) (o : Ordered (λ j. dep (get_or s j 0)) n) (x : List ℕ) where
+  taken : (i d : ℕ) → i < n → get_or (take n s) i d ≡ get_or s i 0
+  taken i d l = get_or-take n s i d l ∙ get_or_default_zero s i d (omega arith)
+
+  long : length (take n s) ≡ n
+  long = length-take-le n s h
+
+  pub deps_rise : IsNonDecreasingBy (λ p. ordering_index (order_of (dep p) x)) (take n s)
+  deps_rise i j d l m =
+      let k : j < n = omega (arith, long) in
+      rw (taken i d (omega arith), taken j d k) (ranked (dep (get_or s i 0)) (dep (get_or s j 0)) x (three i j
+      (λ w. after_less (dep (get_or s i 0)) (dep (get_or s j 0)) (o.rising i j w k))
+      (λ w. ap (λ (v : ℕ). is_before (dep (get_or s v 0)) (dep (get_or s i 0))) (sym w) ∙ before_not (dep (get_or s i 0)))
+      (λ w. absurd (omega arith))))
+
+  pub search_there : (i : ℕ) → i < length (take n s) → HoldsAt (λ p. order_of (dep p) x ≡ Ordering.Equal) (take n s) i → contains x (span (λ j. dep (get_or s j 0)) 0 n) ≡ true
+  search_there i l k =
+      let m : i < n = omega (arith, long) in
+      let e : dep (get_or s i 0) ≡ x = order_same (dep (get_or s i 0)) x (sym (rw (taken i 0 m) at (k 0))) in
+      at_place x (λ j. dep (get_or s j 0)) i 0 n m (ap (λ (v : ℕ). eq_bytes x (dep (get_or s v 0))) (zero-add i) ∙ ap (eq_bytes x) e ∙ eq_refl x)
+
+  pub search_absent : (at : ℕ) → at ≤ length (take n s)
+      → (IsNonDecreasingBy (λ p. ordering_index (order_of (dep p) x)) (take n s) → IsPartitionPoint (λ p. order_of (dep p) x ≡ Ordering.Less) (λ p. order_of (dep p) x ≡ Ordering.Greater) (take n s) at)
+      → Absent (λ j. dep (get_or s j 0)) n x at
+  search_absent at l k = record {
+    none = none-there x (λ j. dep (get_or s j 0)) 0 n (λ i p q. three i at
+        (λ w. eq_sym x (dep (get_or s i 0)) (before_differs (dep (get_or s i 0)) x (low i w)))
+        (λ w. before_differs x (dep (get_or s i 0)) (high i (omega arith) (omega arith)))
+        (λ w. before_differs x (dep (get_or s i 0)) (high i (omega arith) (omega arith))));
+    within = omega (arith, long);
+    below = low;
+    above = high;
   }
+    where
+      point : IsPartitionPoint (λ p. order_of (dep p) x ≡ Ordering.Less) (λ p. order_of (dep p) x ≡ Ordering.Greater) (take n s) at
+      point = k deps_rise
 
-  module _ (o : Ordered f n) (h : at < n) {y : List ℕ} (ey : y ≡ f at) {r : Bool} (er : r ≡ eq_bytes x y) where
-    -- x comes before those from `at` on, if it is not the one there
-    all_above : r ≡ false → (i : ℕ) → at ≤ i → i < n → is_before x (f i) ≡ true
-    all_above t i p q =
-        let u : is_before x (f at) ≡ true = before_other x (f at) (k.rest at (omega arith) h) (ap (eq_bytes x) (sym ey) ∙ sym er ∙ t) in
-        three at i
-        (λ l. before_trans x (f at) (f i) u (o.rising at i l q))
-        (λ e. ap (λ (j : ℕ). is_before x (f j)) (sym e) ∙ u)
-        (λ l. absurd (omega arith))
+      low : (i : ℕ) → i < at → is_before (dep (get_or s i 0)) x ≡ true
+      low i w = order_less (dep (get_or s i 0)) x (sym (rw (taken i 0 (omega (arith, long))) at (point.0 i 0 (omega arith) w)))
 
-    is-there : (b : Bool) → r ≡ b → r ≡ contains x (span f 0 n)
-    is-there true t = t ∙ sym (at_place x f at 0 n h (ap (eq_bytes x) (ap f (omega arith) ∙ sym ey) ∙ sym er ∙ t))
-    is-there false t = t ∙ sym (none-there x f 0 n each)
-      where
-        each : (i : ℕ) → 0 ≤ i → i < 0 + n → eq_bytes x (f i) ≡ false
-        each i p q = three i at
-            (λ l. eq_sym x (f i) (before_differs (f i) x (k.below i l)))
-            (λ e. before_differs x (f i) (all_above t i (omega arith) (omega arith)))
-            (λ l. before_differs x (f i) (all_above t i (omega arith) (omega arith)))
-
-    sought_at : Sought f n x (record { at = at; there = r })
-    sought_at = record { there = is-there r refl; within = k.within; below = k.below; above = all_above }
-
-module _ (a b c d s : List ℕ) (n i : ℕ) {x : List ℕ} (ex : x ≡ dep_at a b c d i) {at : ℕ} (k : Lower (placed_at a b c d s) n x at) where
-  pub find_none : n ≤ at → Sought (placed_at a b c d s) n (dep_at a b c d i) (record { at = at; there = false })
-  find_none h = rw ex at (sought_none (placed_at a b c d s) n x k h)
-
-  pub find_at : Ordered (placed_at a b c d s) n → at < n → {y : List ℕ} → y ≡ dep_at a b c d (get_or s at 0) → {r : Bool} → r ≡ eq_bytes x y
-      → Sought (placed_at a b c d s) n (dep_at a b c d i) (record { at = at; there = r })
-  find_at o h ey er = rw ex at (sought_at (placed_at a b c d s) n x k o h (is_placed a b c d s at ey) er)
+      high : (i : ℕ) → at ≤ i → i < n → is_before x (dep (get_or s i 0)) ≡ true
+      high i w m = order-more (dep (get_or s i 0)) x (sym (rw (taken i 0 m) at (point.1 i 0 w (omega (arith, long)))))
 
 -- ---- one put in
+
+-- the list s with x put in at `at`
+unfoldable pub shifted : List ℕ → ℕ → ℕ → ℕ → ℕ
+shifted s at x i = cond (ltb i at) (get_or s i 0) (cond (ltb at i) (get_or s (i - 1) 0) x)
+
+pub record Inserted (s : List ℕ) (n at x : ℕ) (after : List ℕ) : Type 0 where
+  pub long : length after ≡ length s
+  pub at_each : (i : ℕ) → i < n + 1 → get_or after i 0 ≡ shifted s at x i
 
 module _ (s : List ℕ) (at x i : ℕ) where
   pub shifted-below : i < at → shifted s at x i ≡ get_or s i 0
@@ -153,49 +115,16 @@ module _ (s : List ℕ) (at x i : ℕ) where
       let p : at ≤ i = omega arith in
       rw (le-ltb i at p, lt-ltb at i h)
 
-pub record Shifting (s : List ℕ) (n at x : ℕ) (after : List ℕ) (held j : ℕ) : Type 0 where
-  pub long : length after ≡ length s
-  pub from : at ≤ j
-  pub most : j ≤ n + 1
-  pub room : n < length s
-  pub done : (i : ℕ) → i < j → get_or after i 0 ≡ shifted s at x i
-  pub left : (i : ℕ) → j ≤ i → get_or after i 0 ≡ get_or s i 0
-  pub next : held ≡ shifted s at x j
-
-pub shift_start : (s : List ℕ) (n at x : ℕ) → at ≤ n → n < length s → Shifting s n at x s x at
-shift_start s n at x h m = record {
-  long = refl;
-  from = omega arith;
-  most = omega arith;
-  room = m;
-  done = λ i p. sym (shifted-below s at x i p);
-  left = λ i p. refl;
-  next = sym (shifted_at s at x at refl);
+-- those from `at` on and before n are moved, and then it is put
+pub put_in : (s t : List ℕ) (n at x : ℕ) → at ≤ n → n < length s → length t ≡ length s → CopiedTo s t at (at + 1) (n - at) → SameBelow s t (at + 1) → Inserted s n at x (set t at x)
+put_in s t n at x h m l moved same = record {
+  long = length-set t at x ∙ l;
+  at_each = λ i p. three i at
+      (λ w. get_or-set_other t at i x 0 (λ z. omega arith) ∙ same i 0 (omega arith) ∙ sym (shifted-below s at x i w))
+      (λ w. ap (λ (v : ℕ). get_or (set t at x) v 0) w ∙ get_or-set_same t at x 0 (omega arith) ∙ sym (shifted_at s at x i w))
+      (λ w. let e : at + (i - (at + 1)) ≡ i - 1 = omega arith in
+      get_or-set_other t at i x 0 (λ z. omega arith) ∙ moved i 0 (omega arith) (omega arith) ∙ ap (λ (v : ℕ). get_or s v 0) e ∙ sym (shifted-above s at x i w));
 }
-
-module _ {s : List ℕ} {n at x : ℕ} {after : List ℕ} {held j : ℕ} (k : Shifting s n at x after held j) where
-  pub shift_end : n < j → Inserted s n at x after
-  shift_end h = record { long = k.long; at_each = λ i p. k.done i (omega arith) }
-
-  pub shift_on : j ≤ n → {y : ℕ} → y ≡ get_or after j 0 → Shifting s n at x (set after j held) y (j + 1)
-  shift_on h {y} e =
-      let l = k.long in
-      let f = k.from in
-      let m = k.room in
-      record {
-        long = length-set after j held ∙ l;
-        from = omega arith;
-        most = omega arith;
-        room = m;
-        done = λ i p. three i j
-            (λ q. get_or-set_other after j i held 0 (λ w. omega arith) ∙ k.done i q)
-            (λ q. ap (λ (v : ℕ). get_or (set after j held) v 0) q ∙ get_or-set_same after j held 0 (omega arith) ∙ k.next ∙ ap (shifted s at x) (sym q))
-            (λ q. absurd (omega arith));
-        left = λ i p. get_or-set_other after j i held 0 (λ w. omega arith) ∙ k.left i (omega arith);
-        next =
-            let p : j + 1 - 1 ≡ j = omega arith in
-            e ∙ k.left j (omega arith) ∙ ap (λ (v : ℕ). get_or s v 0) (sym p) ∙ sym (shifted-above s at x (j + 1) (omega arith));
-      }
 
 -- ---- the deps after one was put in
 

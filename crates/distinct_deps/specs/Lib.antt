@@ -1,1 +1,2 @@
-pub mod Sorted
+pub mod Chosen
+pub mod Listed

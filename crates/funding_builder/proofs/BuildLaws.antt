@@ -21,7 +21,7 @@ use Rattle.rules.specs.Judge.{scripts}
 use Rattle.rules.specs.Told.{refusal}
 use Rattle.rules.proofs.CellLaws.{empty-is}
 use Rattle.rules.proofs.Tests.{is_true, check-fine, check_last}
-use Rattle.transaction_writer.specs.declared.Written.{Written}
+use Rattle.std.specs.Prelude.{Ok, Err}
 use Rattle.funding_cell.specs.declared.{FundingRequest.FundingRequest, FundingCell.FundingCell}
 use Rattle.funding_cell.specs.FundingCell.{funding_cell, told as toldCell}
 use Rattle.udt_cells.specs.declared.Picked.{Picked}
@@ -31,7 +31,7 @@ use Rattle.funding_builder.specs.Base.{Lent, lent_of, lists, supplied, packed, b
 use Rattle.funding_builder.specs.Steps.{Readable, cell_of, pick_of}
 
 -- a refusal leaves the buffer
-refused-is : (e : Refusal) (out : List ℕ) {tx : Outcome (List ℕ)} → tx ≡ refusal e → (told (Written.Refused e), out) ≡ written tx out
+refused-is : (e : Refusal) (out : List ℕ) {tx : Outcome (List ℕ)} → tx ≡ refusal e → (told (Err e), out) ≡ written tx out
 unfolding in_room leaves ◌>>=◌
 refused-is e out h = rw h
 
@@ -42,14 +42,14 @@ module _ (ours lock udt source cells udt_deps lock_dep extra_deps out : List ℕ
   -- ---- with_pick
 
   module _ (capacity : Shannons) (token : Tokens) (taken : ℕ) (change : Tokens) {a : Bool} (ea : a ≡ supplied taken udt_deps) where
-    pub missing_udt : not a ≡ true → (told (Written.Refused Refusal.MissingCellDep), out) ≡ written (with_pick l (cell_of capacity token) (pick_of taken change)) out
+    pub missing_udt : not a ≡ true → (told (Err Refusal.MissingCellDep), out) ≡ written (with_pick l (cell_of capacity token) (pick_of taken change)) out
     missing_udt h = refused-is Refusal.MissingCellDep out no
       where
         no : with_pick l (cell_of capacity token) (pick_of taken change) ≡ refusal Refusal.MissingCellDep
         no = unfold with_pick in unfold check in unfold check_with in unfold ◌>>◌ in unfold number in unfold values in rw (← ea, not-true a h)
 
     module _ (ha : not a ≡ false) {b : Bool} (eb : b ≡ supplied taken lock_dep) where
-      pub missing_lock : not b ≡ true → (told (Written.Refused Refusal.MissingCellDep), out) ≡ written (with_pick l (cell_of capacity token) (pick_of taken change)) out
+      pub missing_lock : not b ≡ true → (told (Err Refusal.MissingCellDep), out) ≡ written (with_pick l (cell_of capacity token) (pick_of taken change)) out
       missing_lock h = refused-is Refusal.MissingCellDep out no
         where
           no : with_pick l (cell_of capacity token) (pick_of taken change) ≡ refusal Refusal.MissingCellDep
@@ -68,7 +68,7 @@ module _ (ours lock udt source cells udt_deps lock_dep extra_deps out : List ℕ
     unfolding with_cell ◌>>=◌
     cell-picked {taken} {change} f e = e ∙ rw (← ex, f)
 
-    pub cell-refused : {e : Refusal} → x ≡ Picked.Refused e → (told (Written.Refused e), out) ≡ written (with_cell l (cell_of capacity token) (token_count wanted)) out
+    pub cell-refused : {e : Refusal} → x ≡ Picked.Refused e → (told (Err e), out) ≡ written (with_cell l (cell_of capacity token) (token_count wanted)) out
     cell-refused {e} f = refused-is e out no
       where
         no : with_cell l (cell_of capacity token) (token_count wanted) ≡ refusal e
@@ -84,7 +84,7 @@ module _ (ours lock udt source cells udt_deps lock_dep extra_deps out : List ℕ
     cell-is : toldCell x ≡ funding_cell (not (is_empty (tx_at ours).outputs)) (not (is_empty udt)) request
     cell-is = ex ∙ ap₂ (λ (funded typed : Bool). funding_cell funded typed request) some-outputs (ap not (sym (empty-is udt)))
 
-    pub too_wide : {e : Refusal} → x ≡ FundingCell.Refused e → (told (Written.Refused e), out) ≡ written (with_request l request) out
+    pub too_wide : {e : Refusal} → x ≡ FundingCell.Refused e → (told (Err e), out) ≡ written (with_request l request) out
     too_wide {e} f = refused-is e out no
       where
         no : with_request l request ≡ refusal e
@@ -98,21 +98,21 @@ module _ (ours lock udt source cells udt_deps lock_dep extra_deps out : List ℕ
   -- ---- build_base
 
   module _ (request : FundingRequest) {p : Bool} (ep : p ≡ readable (option Transaction) ours) where
-    pub base_ours : not p ≡ true → (told (Written.Refused Refusal.OurTransactionUnreadable), out) ≡ written (build_base l request) out
+    pub base_ours : not p ≡ true → (told (Err Refusal.OurTransactionUnreadable), out) ≡ written (build_base l request) out
     base_ours h = refused-is Refusal.OurTransactionUnreadable out no
       where
         no : build_base l request ≡ refusal Refusal.OurTransactionUnreadable
         no = unfold build_base in unfold check in unfold check_with in unfold ◌>>◌ in unfold number in unfold values in rw (← ep, not-true p h)
 
     module _ (hp : not p ≡ false) (q : Bool) (eq : check 3 q ≡ scripts lock udt source) where
-      pub base_scripts : not q ≡ true → (told (Written.Refused Refusal.LentBytesUnreadable), out) ≡ written (build_base l request) out
+      pub base_scripts : not q ≡ true → (told (Err Refusal.LentBytesUnreadable), out) ≡ written (build_base l request) out
       base_scripts h = refused-is Refusal.LentBytesUnreadable out no
         where
           no : build_base l request ≡ refusal Refusal.LentBytesUnreadable
           no = unfold build_base in unfold check in unfold check_with in unfold ◌>>◌ in unfold number in unfold values in rw (← ep, not-false p hp, ← eq, not-true q h)
 
       module _ (hq : not q ≡ false) (r : Bool) (er : check 3 r ≡ lists cells udt_deps lock_dep extra_deps) where
-        pub base_lists : not r ≡ true → (told (Written.Refused Refusal.LentBytesUnreadable), out) ≡ written (build_base l request) out
+        pub base_lists : not r ≡ true → (told (Err Refusal.LentBytesUnreadable), out) ≡ written (build_base l request) out
         base_lists h = refused-is Refusal.LentBytesUnreadable out no
           where
             no : build_base l request ≡ refusal Refusal.LentBytesUnreadable

@@ -85,10 +85,10 @@ fn with_pick<'a>(
     ensures { (told result, out.new) ≡ written (with_pick (lent_of ours.now lock.now udt.now source.now cells.now udt_deps.now lock_dep.now extra_deps.now) (cell_of capacity token) (pick_of taken change)) out.old }
 {
     if !is_supplied(taken, udt_deps) {
-        return Written::Refused(Refusal::MissingCellDep);
+        return Err(Refusal::MissingCellDep);
     }
     if !is_supplied(taken, lock_dep) {
-        return Written::Refused(Refusal::MissingCellDep);
+        return Err(Refusal::MissingCellDep);
     }
     assemble::assemble_base_tx(
         ours, lock, udt, source, cells, udt_deps, lock_dep, extra_deps, capacity, token, taken,
@@ -119,7 +119,7 @@ fn with_cell<'a>(
             ours, lock, udt, source, cells, udt_deps, lock_dep, extra_deps, capacity, token, taken,
             change, out,
         ),
-        Picked::Refused(e) => Written::Refused(e),
+        Picked::Refused(e) => Err(e),
     }
 }
 
@@ -148,7 +148,7 @@ fn with_request<'a>(
             ours, lock, udt, source, cells, udt_deps, lock_dep, extra_deps, capacity, token,
             wanted, out,
         ),
-        FundingCell::Refused(e) => Written::Refused(e),
+        FundingCell::Refused(e) => Err(e),
     }
 }
 
@@ -170,13 +170,13 @@ pub fn build_base<'a>(
     ensures { (told result, out.new) ≡ written (build_base (lent_of ours.now lock.now udt.now source.now cells.now udt_deps.now lock_dep.now extra_deps.now) request) out.old }
 {
     if !transaction::is_optional_transaction(ours) {
-        return Written::Refused(Refusal::OurTransactionUnreadable);
+        return Err(Refusal::OurTransactionUnreadable);
     }
     if !funding_tx::are_scripts(lock, udt, source) {
-        return Written::Refused(Refusal::LentBytesUnreadable);
+        return Err(Refusal::LentBytesUnreadable);
     }
     if !are_lists(cells, udt_deps, lock_dep, extra_deps) {
-        return Written::Refused(Refusal::LentBytesUnreadable);
+        return Err(Refusal::LentBytesUnreadable);
     }
     with_request(
         ours, lock, udt, source, cells, udt_deps, lock_dep, extra_deps, request, out,

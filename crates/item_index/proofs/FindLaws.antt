@@ -5,12 +5,13 @@ use mathlib.Core.Bool.{Bool, true, false, cond, false≢true}
 use mathlib.Core.List.{List, [], ◌∷◌}
 use native.Mathlib.Nat.{add-zero, zero-add}
 use native.Mathlib.Omega.{arith}
-use borrow.Author.Tests.{ltb-true, ltb-false, lt-ltb, le-ltb}
-use lib.Dec.{ltb}
+use borrow.Author.Tests.{ltb-true, ltb-false, lt-ltb, le-ltb, ne_eqb}
+use lib.Dec.{ltb, eqb}
 use lib.ListN.{length, get_or, take}
 use Rattle.std.proofs.Common.{length-take-le, not}
 use Rattle.std.proofs.lemmas.List.{get_or-take}
-use Rattle.std.specs.Prelude.{Option, Some, None, Result, Ok, Err, unwrap_or}
+use Rattle.std.specs.Option.{option_eq}
+use Rattle.std.specs.Prelude.{nat_eq, Option, Some, None, Result, Ok, Err, unwrap_or}
 use Rattle.std.specs.declared.cmp.Ordering.{Ordering}
 use Rattle.std.specs.Ordering.{is_lt, ordering_index}
 use Rattle.std.specs.Result.{is_ok, MatchResult}
@@ -110,7 +111,7 @@ lt_is x y = by (is_before x y) (is_before y x)
     by false false = refl
 
 -- of y, and z that does not come before it
-ranked : (y z x : List ℕ) → is_before z y ≡ false → ordering_index (order_of y x) ≤ ordering_index (order_of z x)
+pub ranked : (y z x : List ℕ) → is_before z y ≡ false → ordering_index (order_of y x) ≤ ordering_index (order_of z x)
 unfolding order_of
 ranked y z x h = by (is_before y x) refl (is_before x y) refl
   where
@@ -199,6 +200,14 @@ place_of_position x l n e = rw place_len (by (ltb (place_in x l) (length l)) ref
     by : (b : Bool) → ltb (place_in x l) (length l) ≡ b → unwrap_or (cond b (Some (place_in x l)) None) n ≡ place_in x l
     by true w = refl
     by false w = let h = ltb-false _ _ w in let m = place_most x l in omega arith
+
+-- whether it is a place that is named
+pub position_eq : (x : List ℕ) (l : List (List ℕ)) (i : ℕ) → i < length l → option_eq nat_eq (position (eq_bytes x) l) (Some i) ≡ eqb (place_in x l) i
+position_eq x l i h = rw place_len (by (ltb (place_in x l) (length l)) refl)
+  where
+    by : (b : Bool) → ltb (place_in x l) (length l) ≡ b → option_eq nat_eq (cond b (Some (place_in x l)) None) (Some i) ≡ eqb (place_in x l) i
+    by true w = refl
+    by false w = let m = ltb-false _ _ w in sym (ne_eqb (place_in x l) i (λ e. omega arith))
 
 -- at is what `partition_point` answers by a closure whose calls say whether an item comes before x
 module _ (f : ℕ → List ℕ) (s x : List ℕ) (o : Index f (length s) s) {at : ℕ} {F : Type 0} {g : Mut F (Bor ℕ × Unit {0}) Bool} {c : F}

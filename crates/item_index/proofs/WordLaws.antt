@@ -8,13 +8,11 @@ use native.Mathlib.Omega.{arith}
 use borrow.Author.Tests.{lt-ltb, le-ltb, eq-eqb, ne_eqb}
 use Rattle.std.specs.Int.{w64, from_be_bytes}
 use Rattle.std.specs.Ordering.{nat_cmp}
-use Rattle.std.specs.Cmp.Lexicographic.{slice_cmp}
-use lib.ListN.{length, get_or, take, drop}
+use lib.ListN.{length, get_or}
 use Rattle.arithmetic.specs.LittleEndian.{AllBytes}
-use Rattle.lists.proofs.EqualLaws.{whole}
 use Rattle.std.specs.declared.cmp.Ordering.{Ordering}
 use Rattle.item_index.specs.Order.{is_before, order_of, horner}
-use Rattle.item_index.proofs.OrderLaws.{three, Alike, alike_back, alike_next, alike_less, all_alike, less, before-is, after_is, same-is, order-library}
+use Rattle.item_index.proofs.OrderLaws.{three, Alike, alike_back, alike_next, alike_less, all_alike, less, before-is, after_is, same-is}
 
 -- ---- the number
 
@@ -89,10 +87,3 @@ module _ {a b : List ℕ} {i : ℕ} (w : Alike a b i) (e : length a ≡ length b
   last_word eo h l eu ev = at_first w e (length a - 8) h (omega arith) eu.0 eu.1 ev.0 ev.1
       (λ m. eo ∙ same_numbers u v m ∙ same-is a b (all_alike a b (length a - 8 + 8) (at_same w e (length a - 8) h (omega arith) eu.0 eu.1 ev.0 ev.1 m) (omega arith) (omega arith)))
       (λ m. eo ∙ m)
-
--- both strings taken anew
-pub order-whole : (a b : List ℕ) {o : Ordering} → o ≡ order_of (take (length a - 0) (drop 0 a)) (take (length b - 0) (drop 0 b)) → o ≡ order_of a b
-order-whole a b h = rw (whole a, whole b) at h
-
-pub order-anew : (a b : List ℕ) {o : Ordering} → o ≡ slice_cmp nat_cmp (take (length a - 0) (drop 0 a)) (take (length b - 0) (drop 0 b)) → o ≡ order_of a b
-order-anew a b h = order-library a b (rw (whole a, whole b) at h)

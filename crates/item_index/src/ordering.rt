@@ -48,13 +48,11 @@ fn compare_words(a: &[u8], b: &[u8]) -> Ordering
 }
 
 // Which of two strings comes first in the order of their bytes. By words, since with `a.cmp(&b)` for all a search among 64 or more keys takes 1.2 to 1.4 times as
-// long.
+// long; and within the sort and the searches, since a call would cost a tenth.
+#[inline(always)]
 pub fn compare(a: &[u8], b: &[u8]) -> Ordering
     ensures { result ≡ order_of a.now b.now }
 {
-    // taken anew, a slice comes in as its two words, and not by way of memory
-    let a = &a[0..a.len()];
-    let b = &b[0..b.len()];
     if a.len() == b.len() && WORD <= a.len() {
         return compare_words(a, b);
     }

@@ -11,7 +11,7 @@ use Rattle.rules.specs.Outcome.{Outcome, fine, refused}
 use Rattle.funding_cell.specs.declared.{FundingRequest.FundingRequest}
 use Rattle.funding_cell.specs.FundingCell.{build_funding_cell}
 use Rattle.udt_cells.specs.Change.{Built, udt_inputs_outputs}
-use Rattle.transaction_writer.specs.declared.{Written.Written}
+use Rattle.std.specs.Prelude.{Result, Ok, Err}
 use Rattle.transaction_writer.specs.Written.{tx_bytes, in_form, writes, leaves}
 use Rattle.known_cases.specs.Rows.{Row, ◌gives◌}
 use Rattle.known_cases.specs.Cases.{our_lock, token_type, plain, amount, room, spending, bare, usual, numbers}
@@ -56,9 +56,9 @@ cell_list l = encode TokenCells l
 
 -- ---- writing
 
-abbrev written_numbers : Written → List ℕ
-written_numbers (Written.Wrote n) = 0 ∷ n ∷ []
-written_numbers (Written.Refused why) = number why ∷ []
+abbrev written_numbers : Result ℕ Refusal → List ℕ
+written_numbers (Ok n) = 0 ∷ n ∷ []
+written_numbers (Err why) = number why ∷ []
 
 -- a transaction of empty lists, one of them in another form, written from its fields; and one read and written again
 abbrev none4 : List ℕ

@@ -86,6 +86,9 @@ module _ (s : List ℕ) (n i : ℕ) {a b : ℕ} (ea : a ≡ start s n i) (eb : b
   unfolding field_start
   field_place p h = rw (← ea, ← eb) h
 
+pub field_out-place : (s : List ℕ) (n i : ℕ) → n ≤ i → (p : ℕ × ℕ) {q : ℕ × ℕ} → q ≡ inside p (part_start s (length s) (length s)) → q ≡ inside p (field_start s n i)
+field_out-place s n i h p e = field_place s n i (start-out s n i h) (start-out s n (i + 1) (omega arith)) p e
+
 pub bytes_field : (s : List ℕ) (n i : ℕ) → AllBytes s → AllBytes (field_of s n i)
 unfolding field_of
 bytes_field s n i b = bytes-part s (start s n i) (start s n (i + 1)) b
@@ -135,6 +138,11 @@ module _ (a b : ℕ) (ha : Fits w32 a) where
 
   pub end_below : (n : ℕ) → Fits w32 n → b < n → Fits w64 (4 + a * b + a)
   end_below n hn h = omega (arith, mul32 a b (omega arith) (omega arith))
+
+-- n is what `word` gave
+pub fix_count-is : (s : List ℕ) {n : ℕ} → n ≡ word s 0 → {r : ℕ} → r ≡ min n (length s) → r ≡ fix_count s
+unfolding fix_count
+fix_count-is s e h = rw (← e) h
 
 -- no more than the bytes, and than the first word
 module _ (s : List ℕ) where

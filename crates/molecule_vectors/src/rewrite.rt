@@ -3,7 +3,6 @@
 use crate::types::Kind;
 use error::Refusal;
 use molecule::write;
-use transaction_writer::Written;
 
 fn put_size(out: &mut [u8], at: usize, n: usize) -> usize {
     write::put_u32(out, at, u32::try_from(n).unwrap_or(u32::MAX))
@@ -49,16 +48,9 @@ fn put_fixvec(out: &mut [u8], at: usize, s: &[u8], size: u32) -> usize {
     end
 }
 
-fn written(answer: Written) -> Result<usize, Refusal> {
-    match answer {
-        Written::Wrote(n) => Ok(n),
-        Written::Refused(refusal) => Err(refusal),
-    }
-}
-
 // By the library's own writer, to the start of out: how long it is.
 pub fn put_transaction(out: &mut [u8], s: &[u8]) -> Result<usize, Refusal> {
-    written(transaction_writer::rewrite(s, out))
+    transaction_writer::rewrite(s, out)
 }
 
 // Puts the value that s is read as.

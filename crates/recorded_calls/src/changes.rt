@@ -35,7 +35,7 @@ impl<'a> From<&'a [u8]> for Change<'a> {
 }
 
 // The file with so many changes.
-#[tactic(auto, using(crate::proofs::Left::changes_none))]
+#[tactic(auto, unfolding(crate::specs::Changes::changed_from))]
 pub fn changed(alloc: Global, file: &[u8], count: u8, changes: &[u8]) -> Result<Vec<u8>, AllocError>
     ensures { IfOk result (λ v. v.items ≡ changed_from file.now 0 count changes.now) }
 {

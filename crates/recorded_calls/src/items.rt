@@ -30,7 +30,7 @@ impl<'a> Iterator for Items<'a> {
 
     ghost remaining = { item_count items_left };
 
-    #[tactic(auto, using(crate::proofs::Left::left_none, crate::proofs::Left::left_more))]
+    #[tactic(auto, unfolding(molecule::specs::Layout::span))]
     fn next(&mut self) -> Option<&'a [u8]> {
         if self.next >= self.count {
             return None;

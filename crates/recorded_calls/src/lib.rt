@@ -5,11 +5,13 @@
 mod calls;
 mod changes;
 mod items;
+mod numbers;
 mod parts;
 mod tally;
 
 pub use calls::{Call, FILL, Mark, Table, is_written, replay_calls};
 pub use changes::changed;
 pub use items::Items;
+pub use numbers::u128_of;
 pub use parts::{Replay, each_part, each_sparse_part};
 pub use tally::{Tallies, Tally};

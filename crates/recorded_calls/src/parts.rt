@@ -9,8 +9,9 @@ pub trait Replay {
 }
 
 // Reads until `buf` is full or the input ends.
-fn fill<R: Read>(input: &mut R, buf: &mut [u8]) -> io::Result<()> {
+fn fill<I: Read>(input: &mut I, buf: &mut [u8]) -> io::Result<()> {
     let mut at = 0;
+    // a while: each read says how far it came
     while at < buf.len() {
         let n = input.read(&mut buf[at..])?;
         if n == 0 {
@@ -21,63 +22,86 @@ fn fill<R: Read>(input: &mut R, buf: &mut [u8]) -> io::Result<()> {
     Ok(())
 }
 
-fn number<R: Read>(input: &mut R) -> io::Result<u32> {
-    let mut bytes = [0; 4];
-    fill(input, &mut bytes)?;
-    Ok(u32::from_le_bytes(bytes))
+// A recording, and room for a part of it.
+#[derive(Drop)]
+struct Recording<I> {
+    input: I,
+    room: Vec<u8>,
 }
 
-// Reads n bytes to `at`, if there is room for them.
-fn fill_at<R: Read>(input: &mut R, room: &mut [u8], at: usize, n: usize) -> io::Result<()> {
-    match room.get_mut(at..at.saturating_add(n)) {
-        Some(stretch) => fill(input, stretch),
-        None => Ok(()),
+impl<I: Read> Recording<I> {
+    fn number(&mut self) -> io::Result<u32> {
+        let mut bytes = [0; 4];
+        fill(&mut self.input, &mut bytes)?;
+        Ok(u32::from_le_bytes(bytes))
     }
-}
 
-// Puts n bytes at `at`, each a copy of the one that stands `back` bytes before it.
-fn copy_back(room: &mut [u8], at: usize, n: usize, back: usize) {
-    for to in at..at.saturating_add(n).min(room.len()) {
-        room[to] = room[to.saturating_sub(back)];
+    // Reads n bytes to `at`, if there is room for them.
+    fn read_to(&mut self, at: usize, n: usize) -> io::Result<()> {
+        let room = self.room.as_mut_slice();
+        match room.get_mut(at..at.saturating_add(n)) {
+            Some(stretch) => fill(&mut self.input, stretch),
+            None => Ok(()),
+        }
     }
-}
 
-// Reads a piece to `at`, and answers where it ends.
-fn piece<R: Read>(input: &mut R, room: &mut [u8], at: usize) -> io::Result<usize> {
-    let mut head = [0; 6];
-    fill(input, &mut head)?;
-    let [n, c0, c1, d0, d1, d2] = head;
-    let end = at.saturating_add(usize::from(n));
-    let copies = usize::from(u16::from_le_bytes([c0, c1]));
-    let back = u32::from_le_bytes([d0, d1, d2, 0]) as usize;
-    fill_at(input, room, at, usize::from(n))?;
-    copy_back(room, end, copies, back);
-    Ok(end.saturating_add(copies))
-}
-
-// Reads a part to `at`, piece by piece, and answers where it ends.
-fn pieces<R: Read>(input: &mut R, room: &mut [u8], at: usize) -> io::Result<usize> {
-    let mut end = at;
-    for _ in 0..number(input)? {
-        end = piece(input, room, end)?;
+    // Puts n bytes at `at`, each a copy of the one that stands `back` bytes before it.
+    fn copy_back(&mut self, at: usize, n: usize, back: usize) {
+        for to in at..at.saturating_add(n).min(self.room.len()) {
+            self.room[to] = self.room[to.saturating_sub(back)];
+        }
     }
-    Ok(end)
+
+    // Reads a piece to `at`, and answers where it ends.
+    fn piece(&mut self, at: usize) -> io::Result<usize> {
+        let mut head = [0; 6];
+        fill(&mut self.input, &mut head)?;
+        let [n, c0, c1, d0, d1, d2] = head;
+        let n = usize::from(n);
+        let copies = usize::from(u16::from_le_bytes([c0, c1]));
+        let back = u32::from_le_bytes([d0, d1, d2, 0]) as usize;
+        let end = at.saturating_add(n);
+        self.read_to(at, n)?;
+        self.copy_back(end, copies, back);
+        Ok(end.saturating_add(copies))
+    }
+
+    // Reads a part to `at`, piece by piece, and answers where it ends.
+    fn pieces(&mut self, at: usize) -> io::Result<usize> {
+        let mut end = at;
+        for _ in 0..self.number()? {
+            end = self.piece(end)?;
+        }
+        Ok(end)
+    }
+
+    // Reads a part that is stored without a run of zeros, and answers where it ends.
+    fn sparse(&mut self) -> io::Result<usize> {
+        let size = self.number()? as usize;
+        let place = self.number()? as usize;
+        let zeros = self.number()? as usize;
+        self.room.fill(0);
+        self.read_to(0, place)?;
+        self.read_to(place.saturating_add(zeros), size.saturating_sub(place))?;
+        Ok(size.saturating_add(zeros))
+    }
 }
 
 // Replays the parts that are stored in pieces, as tools/recorded_tables.py describes, all but the first, which stands in front of each and is only there to
 // be copied from. `longest` is how long it is together with another part at most.
 pub fn each_part<I: Read + Drop, R: Replay>(
     alloc: Global,
-    mut input: I,
+    input: I,
     longest: usize,
     replay: &mut R,
 ) -> io::Result<()> {
-    let mut room = vec![in alloc; 0u8; longest]?;
-    let parts = number(&mut input)?;
-    let first = pieces(&mut input, &mut room, 0)?;
+    let room = vec![in alloc; 0u8; longest]?;
+    let mut recording = Recording { input, room };
+    let parts = recording.number()?;
+    let first = recording.pieces(0)?;
     for _ in 1..parts {
-        let end = pieces(&mut input, &mut room, first)?;
-        replay.part(molecule::part(&room, first, end))?;
+        let end = recording.pieces(first)?;
+        replay.part(molecule::part(&recording.room, first, end))?;
     }
     Ok(())
 }
@@ -85,20 +109,15 @@ pub fn each_part<I: Read + Drop, R: Replay>(
 // Replays the parts that are stored without a run of zeros, as tools/recorded_updates.py describes. `longest` is how long a part is at most.
 pub fn each_sparse_part<I: Read + Drop, R: Replay>(
     alloc: Global,
-    mut input: I,
+    input: I,
     longest: usize,
     replay: &mut R,
 ) -> io::Result<()> {
-    let mut room = vec![in alloc; 0u8; longest]?;
-    for _ in 0..number(&mut input)? {
-        let size = number(&mut input)? as usize;
-        let place = number(&mut input)? as usize;
-        let zeros = number(&mut input)? as usize;
-        room.fill(0);
-        fill_at(&mut input, &mut room, 0, place)?;
-        let rest = size.saturating_sub(place);
-        fill_at(&mut input, &mut room, place.saturating_add(zeros), rest)?;
-        replay.part(molecule::part(&room, 0, size.saturating_add(zeros)))?;
+    let room = vec![in alloc; 0u8; longest]?;
+    let mut recording = Recording { input, room };
+    for _ in 0..recording.number()? {
+        let end = recording.sparse()?;
+        replay.part(molecule::part(&recording.room, 0, end))?;
     }
     Ok(())
 }

@@ -14,11 +14,6 @@ use std::{fmt, io};
 // How long a part is at most: in the longest one transaction is over the limit of size.
 const LONGEST: usize = 140_000;
 
-fn u128_at(s: &[u8], at: usize) -> u128 {
-    let high = u128::from(little_endian::u64_at(s, at.saturating_add(8)));
-    high << 64 | u128::from(little_endian::u64_at(s, at))
-}
-
 // ---- what is recorded
 
 #[derive(Clone, Copy, Debug)]
@@ -41,8 +36,8 @@ impl<'a> From<&'a [u8]> for Negotiation<'a> {
             udt: molecule::field(part, 6, 2),
             updates: molecule::field(part, 6, 3),
             surplus: Surplus {
-                capacity: u128_at(sums, 0),
-                token: u128_at(sums, 16),
+                capacity: recorded_calls::u128_of(sums),
+                token: recorded_calls::u128_of(molecule::part(sums, 16, 32)),
             },
             in_force: little_endian::u32_at(molecule::field(part, 6, 5), 0),
         }

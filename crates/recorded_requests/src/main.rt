@@ -9,7 +9,6 @@ use recorded_calls::{FILL, Items, Replay, Tallies, Tally};
 use std::alloc::{AllocError, Global};
 use std::io;
 use std::io::BufReader;
-use transaction_writer::Written;
 use udt_cells::UdtInputsOutputs;
 use units::{Shannons, Tokens};
 
@@ -49,9 +48,9 @@ struct Request<'a> {
     output: &'a [u8],
 }
 
-fn u128_at(s: &[u8], at: usize) -> u128 {
-    let high = u128::from(little_endian::u64_at(s, at.saturating_add(8)));
-    high << 64 | u128::from(little_endian::u64_at(s, at))
+// The number of 16 bytes at `at`.
+fn u128_at(head: &[u8], at: usize) -> u128 {
+    recorded_calls::u128_of(molecule::part(head, at, at.saturating_add(16)))
 }
 
 fn amount_at(head: &[u8], at: usize) -> Amount {
@@ -130,10 +129,7 @@ fn build_base(r: &Request<'_>, out: &mut [u8]) -> Told<usize> {
         r.figures,
         out,
     );
-    match written {
-        Written::Wrote(n) => Ok(n),
-        Written::Refused(e) => Err(e.number()),
-    }
+    written.map_err(|e| e.number())
 }
 
 fn build_cell(r: &Request<'_>) -> Told<(u128, u128)> {

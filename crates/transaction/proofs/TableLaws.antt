@@ -80,6 +80,16 @@ token-cell_fields s = table-readable (OutPoint & Bytes & end) s ∙ simp (sized 
 pub token-cell_is : (s : List ℕ) → readable TokenCell s ≡ (has_items s 2 && eqb (length (field_of s 2 0)) 36 && readable Bytes (field_of s 2 1))
 token-cell_is s = token-cell_fields s ∙ simp (and-true, and_assoc)
 
+module _ (s : List ℕ) where
+  pub token-cell_head : {r : Bool} → r ≡ has_items s 2 → not r ≡ true → false ≡ readable TokenCell s
+  token-cell_head e h = sym (token-cell_fields s ∙ simp (sym e ∙ not-true _ h))
+
+  pub token-cell_0 : {m : ℕ} → m ≡ length (field_of s 2 0) → (m ≡ 36 → ⊥) → false ≡ readable TokenCell s
+  token-cell_0 e h = sym (token-cell_fields s ∙ simp (← e, ne_eqb _ _ h, and-false))
+
+  pub token-cell_all : {q r : Bool} {m0 : ℕ} {f1 : List ℕ} → q ≡ has_items s 2 → not q ≡ false → m0 ≡ length (field_of s 2 0) → m0 ≡ 36 → f1 ≡ field_of s 2 1 → r ≡ readable Bytes f1 → r ≡ readable TokenCell s
+  token-cell_all e h e0 h0 g1 e1 = sym (token-cell_fields s ∙ simp (← g1, sym e ∙ not-false _ h, eq-eqb _ _ (sym e0 ∙ h0), and-true) (sym e1))
+
 record_fields : (s : List ℕ) → readable Record s ≡ (has_items s 2 && (readable CellOutput (field_of s 2 0) && (readable Bytes (field_of s 2 1) && true)))
 unfolding size fixed count all_readable span
 record_fields s = table-readable (CellOutput & Bytes & end) s

@@ -1,5 +1,5 @@
 use Rattle.distinct_deps.proofs.Ways.{ways}
-use Rattle.distinct_deps.proofs.is_new_last.Goals as goal
+use Rattle.distinct_deps.proofs.Indexed.is_new_last.Goals as goal
 
 pub returns-then-i-n : goal.returns-then-i-n
 returns-then-i-n c = search ways

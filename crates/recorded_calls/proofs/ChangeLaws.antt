@@ -1,0 +1,22 @@
+-- Laws of a file with changes.
+use Rattle.std.proofs.Common.{◌≡◌, ℕ, suc, ◌+◌, ◌-◌, ◌/◌, ◌%◌, ◌<◌, List, ◌++◌, length, ap, arith, append_assoc}
+use Rattle.std.proofs.lemmas.Grind.{common_steps}
+use Rattle.arithmetic.specs.LittleEndian.{u32_at}
+use Rattle.molecule.specs.Layout.{part}
+use Rattle.recorded_calls.specs.Changes.{change_size, changed_from}
+
+changes_more : (file : List ℕ) (from n c : ℕ) (s : List ℕ) → n < c →
+    changed_from file from (c - n) s
+    ≡ (part file from (u32_at s 0 % 65536) ++ part s 5 (change_size s))
+    ++ changed_from file (u32_at s 0 / 65536) (c - (n + 1)) (part s (change_size s) (length s))
+unfolding changed_from
+changes_more file from n c s h =
+    let e : c - n ≡ suc (c - (n + 1)) = omega arith in ap (λ k. changed_from file from k s) e
+
+-- one more change, put behind what is there
+pub changes_step : (old new p b left whole file s : List ℕ) (from upto to size n c : ℕ) → n < c → old ++ changed_from file from (c - n) s ≡ whole →
+    upto ≡ u32_at s 0 % 65536 → to ≡ u32_at s 0 / 65536 → size ≡ change_size s → p ≡ part file from upto → b ≡ part s 5 (change_size s) →
+    new ≡ (old ++ p) ++ b → left ≡ part s size (length s) → new ++ changed_from file to (c - (n + 1)) left ≡ whole
+changes_step old new p b left whole file s from upto to size n c h i u t z ep eb en el =
+    let e = changes_more file from n c s h in
+    grind (arith, common_steps, append_assoc)
