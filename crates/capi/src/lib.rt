@@ -6,7 +6,6 @@ mod replay;
 mod tables;
 
 ghost use Rattle.std.specs.Prelude.{◌≡◌, length};
-ghost use Rattle.arithmetic.specs.Amount.{value, halves};
 ghost use Rattle.molecule.specs.Molecule.{readable};
 ghost use Rattle.transaction.specs.Ckb.{OutPoints, Script, Transaction, Records};
 ghost use Rattle.rules.specs.Judge.{judge};
@@ -24,7 +23,7 @@ ghost use Rattle.answer_words.specs.Answers.{count_words, cell_words, pick_words
 ghost use Rattle.answer_words.specs.Buffers.{bytes_if, item_found};
 
 use answer_words::buffers;
-use arithmetic::Amount;
+use arithmetic::amount;
 use transaction_writer::TxFields;
 use units::Tokens;
 use words::WORDS;
@@ -216,12 +215,9 @@ pub extern "C" fn basinpantry_build_udt_inputs_outputs(
     out: &mut [u8],
     values: &mut [u64; WORDS],
 ) -> u32
-    ensures { ((result, values.new), out.new) ≡ writing pick_words (udt_inputs_outputs cells.now udt.now source.now (value (halves wanted_low wanted_high)) out.old) values.old }
+    ensures { ((result, values.new), out.new) ≡ writing pick_words (udt_inputs_outputs cells.now udt.now source.now (wanted_low + 2 ^ 64 * wanted_high) out.old) values.old }
 {
-    let wanted = Tokens(Amount {
-        low: wanted_low,
-        high: wanted_high,
-    });
+    let wanted = Tokens(amount::from_halves(wanted_low, wanted_high));
     let pick = udt_cells::build_udt_inputs_outputs(cells, udt, source, wanted, out);
     answer_words::tell_pick(pick, values)
 }

@@ -19,7 +19,7 @@ pub extern "C" fn basinpantry_hold_funding(held: &mut [u8], holder: u64, cells: 
     ensures { told_number (with_bytes held_at) result held.new ≡ lent_table held_bytes held_size held.old (hold_funding (held_of held.old) holder cells.now) }
 {
     let a = held_bytes::calls::hold_funding(held, holder, cells);
-    a.number() as u32
+    u32::from(error::number(a))
 }
 
 // The cells of a transaction that the watchtower sent at `time`.
@@ -29,7 +29,7 @@ pub extern "C" fn basinpantry_hold_for_watchtower(held: &mut [u8], cells: &[u8],
 {
     let now = Millis(time);
     let a = held_bytes::calls::hold_for_watchtower(held, cells, now);
-    a.number() as u32
+    u32::from(error::number(a))
 }
 
 // The cells of a transaction that the watchtower could not send are free again.
@@ -38,7 +38,7 @@ pub extern "C" fn basinpantry_release_for_watchtower(held: &mut [u8], cells: &[u
     ensures { told_number (with_bytes held_at) result held.new ≡ lent_table held_bytes held_size held.old (release_for_watchtower (held_of held.old) cells.now) }
 {
     let a = held_bytes::calls::release_for_watchtower(held, cells);
-    a.number() as u32
+    u32::from(error::number(a))
 }
 
 // Writes the out points of every cell that is held at `time`.
@@ -48,7 +48,7 @@ pub extern "C" fn basinpantry_lock_held(held: &mut [u8], time: u64, out: &mut [u
 {
     let now = Millis(time);
     let a = held_bytes::calls::lock_held(held, now, out);
-    a.number() as u32
+    u32::from(error::number(a))
 }
 
 // Writes the out points of `picked` that are held at `time` or in `spent`.
@@ -64,7 +64,7 @@ pub extern "C" fn basinpantry_unavailable(
 {
     let now = Millis(time);
     let a = held_bytes::calls::unavailable(held, picked, spent, now, out);
-    a.number() as u32
+    u32::from(error::number(a))
 }
 
 // Who takes cells: the watchtower, or the funding of `holder`.
@@ -94,7 +94,7 @@ pub extern "C" fn basinpantry_take(
     let now = Millis(time);
     let taker = taker_for(watchtower, holder);
     let a = held_bytes::calls::take(held, picked, spent, taker, now, taken, refused);
-    a.number() as u32
+    u32::from(error::number(a))
 }
 
 // ---- excluded cells
@@ -105,7 +105,7 @@ pub extern "C" fn basinpantry_exclusions_add(map: &mut [u8], hash: &[u8], tx: &[
     ensures { told_number (with_bytes excluded_at) result map.new ≡ lent_tx tx.now map.old (add_on (excluded_at map.old) hash.now tx.now) }
 {
     let a = exclusions::add(map, hash, tx);
-    a.number() as u32
+    u32::from(error::number(a))
 }
 
 // The transaction of this hash was committed in this block.
@@ -115,7 +115,7 @@ pub extern "C" fn basinpantry_exclusions_commit(map: &mut [u8], hash: &[u8], blo
 {
     let number = BlockNumber(block);
     let a = exclusion_marks::commit(map, hash, number);
-    a.number() as u32
+    u32::from(error::number(a))
 }
 
 // Removes the transaction of this hash.
@@ -124,7 +124,7 @@ pub extern "C" fn basinpantry_exclusions_remove(map: &mut [u8], hash: &[u8]) -> 
     ensures { told_number (with_bytes excluded_at) result map.new ≡ lent_map map.old (remove_on (excluded_at map.old) hash.now) }
 {
     let a = exclusions::remove(map, hash);
-    a.number() as u32
+    u32::from(error::number(a))
 }
 
 // Moves an entry to the transaction that replaces it.
@@ -138,7 +138,7 @@ pub extern "C" fn basinpantry_exclusions_migrate_funding_tx(
     ensures { told_number (with_bytes excluded_at) result map.new ≡ lent_tx tx.now map.old (migrate_on (excluded_at map.old) old_hash.now new_hash.now tx.now) }
 {
     let a = exclusions::migrate_funding_tx(map, old_hash, new_hash, tx);
-    a.number() as u32
+    u32::from(error::number(a))
 }
 
 // Drops what was committed 13 blocks before the tip, or earlier.
@@ -148,7 +148,7 @@ pub extern "C" fn basinpantry_exclusions_truncate(map: &mut [u8], tip: u64) -> u
 {
     let number = BlockNumber(tip);
     let a = exclusions::truncate(map, number);
-    a.number() as u32
+    u32::from(error::number(a))
 }
 
 // Writes the out points of all entries, in their order, as a list.
@@ -157,5 +157,5 @@ pub extern "C" fn basinpantry_exclusions_apply(map: &[u8], out: &mut [u8]) -> u3
     ensures { (result, out.new) ≡ lent_list map.now out.old (apply_on (excluded_at map.now) out.old) }
 {
     let a = exclusion_marks::apply(map, out);
-    a.number() as u32
+    u32::from(error::number(a))
 }

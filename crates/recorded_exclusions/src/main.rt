@@ -74,7 +74,7 @@ impl fmt::Display for Kind {
 // Zeros are the empty map, with which a call of no known kind starts too.
 fn start(map: &mut [u8]) -> Answer {
     map.fill(0);
-    Answer::Done
+    Ok(())
 }
 
 fn answer(map: &mut [u8], call: &Call<'_>, list: &mut [u8]) -> Answer {
@@ -93,7 +93,7 @@ fn answer(map: &mut [u8], call: &Call<'_>, list: &mut [u8]) -> Answer {
 
 // Runs the call, and answers its number.
 fn run(map: &mut [u8], call: &Call<'_>, list: &mut [u8]) -> u8 {
-    answer(map, call, list).number()
+    error::number(answer(map, call, list))
 }
 
 // ---- what it comes to

@@ -84,7 +84,7 @@ fn answer(held: Held, call: &Call<'_>, first: &mut [u8], second: &mut [u8]) -> H
     let now = Millis(now);
     let [cells, spent] = call.lent;
     match Kind::try_from(call.kind) {
-        Ok(Kind::Start) => answered(hold_records::empty(), Answer::Done),
+        Ok(Kind::Start) => answered(hold_records::empty(), Ok(())),
         Ok(Kind::HoldFunding) => held_cells::hold_funding(held, holder, cells),
         Ok(Kind::HoldForWatchtower) => watchtower_holds::hold_for_watchtower(held, cells, now),
         Ok(Kind::TakeForHolder) => {
@@ -116,7 +116,7 @@ fn answer(held: Held, call: &Call<'_>, first: &mut [u8], second: &mut [u8]) -> H
 fn run(held: &mut Held, call: &Call<'_>, first: &mut [u8], second: &mut [u8]) -> u8 {
     let after = answer(*held, call, first, second);
     *held = after.held;
-    after.answer.number()
+    error::number(after.answer)
 }
 
 // ---- what it comes to

@@ -3,7 +3,7 @@
 // surpluses; a negotiation is wrong if its surpluses do not sum to the recorded sums, or other bytes are in force at its end.
 #![tactic(auto)]
 
-use arithmetic::{Amount, little_endian};
+use arithmetic::little_endian;
 use error::Refusal;
 use recorded_calls::{Items, Replay};
 use rules::Update;
@@ -95,17 +95,13 @@ impl Surplus {
     }
 }
 
-fn wide(amount: Amount) -> u128 {
-    u128::from(amount.high) << 64 | u128::from(amount.low)
-}
-
 fn told(update: Update) -> Result<Surplus, Refusal> {
     match update {
-        Update::Accepted { capacity, token } => Ok(Surplus {
-            capacity: wide(capacity.0),
-            token: wide(token.0),
+        Ok(surplus) => Ok(Surplus {
+            capacity: surplus.capacity.0,
+            token: surplus.token.0,
         }),
-        Update::Refused(refusal) => Err(refusal),
+        Err(refusal) => Err(refusal),
     }
 }
 

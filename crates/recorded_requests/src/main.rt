@@ -3,13 +3,12 @@
 // so are a funding cell and a pick with another number, other figures or another change output.
 #![tactic(auto)]
 
-use arithmetic::{Amount, little_endian};
-use funding_cell::{FundingCell, FundingRequest};
+use arithmetic::little_endian;
+use funding_cell::FundingRequest;
 use recorded_calls::{FILL, Items, Replay, Tallies, Tally};
 use std::alloc::{AllocError, Global};
 use std::io;
 use std::io::BufReader;
-use udt_cells::UdtInputsOutputs;
 use units::{Shannons, Tokens};
 
 // How long a part is at most together with the first one.
@@ -53,19 +52,8 @@ fn u128_at(head: &[u8], at: usize) -> u128 {
     recorded_calls::u128_of(molecule::part(head, at, at.saturating_add(16)))
 }
 
-fn amount_at(head: &[u8], at: usize) -> Amount {
-    Amount {
-        low: little_endian::u64_at(head, at),
-        high: little_endian::u64_at(head, at.saturating_add(8)),
-    }
-}
-
-fn wide(amount: Amount) -> u128 {
-    u128::from(amount.high) << 64 | u128::from(amount.low)
-}
-
 fn shannons_at(head: &[u8], at: usize) -> Shannons {
-    Shannons::from_u64(little_endian::u64_at(head, at))
+    Shannons::from(little_endian::u64_at(head, at))
 }
 
 fn told<T: Copy>(number: u8, figures: T) -> Told<T> {
@@ -90,9 +78,9 @@ impl<'a> From<&'a [u8]> for Request<'a> {
         let capacity = u128::from(little_endian::u64_at(head, 100));
         Request {
             figures: FundingRequest {
-                local_amount: amount_at(head, 4),
+                local_amount: u128_at(head, 4),
                 local_reserved_ckb_amount: shannons_at(head, 36),
-                remote_amount: amount_at(head, 20),
+                remote_amount: u128_at(head, 20),
                 remote_reserved_ckb_amount: shannons_at(head, 44),
             },
             room: little_endian::u32_at(head, 52) as usize,
@@ -134,20 +122,16 @@ fn build_base(r: &Request<'_>, out: &mut [u8]) -> Told<usize> {
 
 fn build_cell(r: &Request<'_>) -> Told<(u128, u128)> {
     match funding_cell::build_funding_cell(r.ours, r.udt, r.figures) {
-        FundingCell::Cell { capacity, token } => Ok((wide(capacity.0), wide(token.0))),
-        FundingCell::Refused(e) => Err(e.number()),
+        Ok(cell) => Ok((cell.capacity.0, cell.token.0)),
+        Err(e) => Err(e.number()),
     }
 }
 
 fn build_pick(r: &Request<'_>, out: &mut [u8]) -> Told<(usize, u128, u128)> {
     let wanted = Tokens(r.figures.local_amount);
     match udt_cells::build_udt_inputs_outputs(r.cells, r.udt, r.source, wanted, out) {
-        UdtInputsOutputs::Built {
-            taken,
-            change,
-            capacity,
-        } => Ok((taken, wide(change.0), wide(capacity.0))),
-        UdtInputsOutputs::Refused(e) => Err(e.number()),
+        Ok(built) => Ok((built.taken, built.change.0, built.capacity.0)),
+        Err(e) => Err(e.number()),
     }
 }
 

@@ -77,13 +77,9 @@ fn show_inputs<W: Write>(out: &mut W, tx: &[u8]) -> io::Result<()> {
     Ok(())
 }
 
-fn shannons(output: &[u8]) -> u64 {
-    fields::capacity(output).0.low
-}
-
 fn show_output<W: Write>(out: &mut W, tx: &[u8], i: usize) -> io::Result<()> {
     let output = lists::output(tx, i);
-    writeln!(out, "  shannons {}", shannons(output))?;
+    writeln!(out, "  shannons {}", fields::capacity(output).0)?;
     writeln!(out, "    lock {}", Script(fields::lock(output)))?;
     let kind = fields::type_script(output);
     if !kind.is_empty() {

@@ -32,7 +32,7 @@ fn step(s: &[u8], accessor: u8, i: usize) -> &[u8] {
 }
 
 fn shannons(output: &[u8]) -> u64 {
-    fields::capacity(output).0.low
+    arithmetic::amount::low(fields::capacity(output).0)
 }
 
 fn number(s: &[u8], accessor: u8) -> u64 {
