@@ -2,6 +2,7 @@
 use mathlib.Core.Path.{◌≡◌, refl, sym, ap, ◌∙◌}
 use Prim.Native.Nat.{ℕ, ◌-◌, ◌≤◌, ◌<◌, min}
 use mathlib.Core.List.{List}
+use Rattle.std.specs.Prelude.{Err}
 use native.Mathlib.Omega.{arith}
 use borrow.Author.Tests.{lt-leb}
 use lib.ListN.{length, take}
@@ -15,7 +16,6 @@ use Rattle.molecule.proofs.Offsets.{span-length}
 use Rattle.transaction.specs.Ckb.{CellDep, CellDeps}
 use Rattle.transaction.specs.Tx.{tx_at, raw_field}
 use Rattle.rules.specs.Outcome.{Outcome, fine, check, check_with, ◌>>=◌, ◌>>◌}
-use Rattle.transaction_writer.specs.declared.Written.{Written}
 use Rattle.transaction_writer.specs.Written.{fits}
 use Rattle.transaction_writer.proofs.PutLaws.{tx_length}
 use Rattle.list_writer.specs.ListWriter.{fix_list, if_positive}
@@ -50,7 +50,7 @@ module _ (ours lock udt source cells udt_deps lock_dep extra_deps : List ℕ) (c
     same-deps = refl
 
     -- more deps than fit
-    pub over-deps : l₁ < r → (told (Written.Refused Refusal.BufferTooShort), out) ≡ written (fine base) out
+    pub over-deps : l₁ < r → (told (Err Refusal.BufferTooShort), out) ≡ written (fine base) out
     unfolding in_room leaves check check_with ◌>>=◌ ◌>>◌ number values fits
     over-deps h =
         let e = roomy.same in

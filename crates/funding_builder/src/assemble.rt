@@ -13,11 +13,11 @@ ghost use Rattle.base_writer.specs.Lists.{beside_of, lists_of, bytes_of};
 ghost use Rattle.funding_builder.specs.Base.{lent_of, change_capacity, packed, base_tx};
 ghost use Rattle.funding_builder.specs.Steps.{Readable, Roomy, Planned, present_in, cell_of, pick_of};
 
-use base_writer::Plan;
+use base_writer::{Base, Plan};
 use error::Refusal;
 use transaction::fields;
-use transaction_writer::Written;
-use units::{CheckedShannons, Shannons, Tokens};
+use transaction_writer::{TxFields, Written};
+use units::{Shannons, Tokens};
 
 // How many cell deps 133,116 bytes have room for.
 const MOST_DEPS: usize = 3597;
@@ -40,13 +40,10 @@ fn change_capacity(change: Tokens, source: &[u8], udt: &[u8]) -> Shannons
     requires { (readable Script source.now ≡ true) × (readable (option Script) udt.now ≡ true) }
     ensures { shannon_count result ≡ change_capacity (token_count change) source.now udt.now }
 {
-    if change.is_zero() {
+    if change == Tokens::ZERO {
         return Shannons::ZERO;
     }
-    match udt_cells::change_capacity(source, udt) {
-        CheckedShannons::Fits(capacity) => capacity,
-        CheckedShannons::Overflow => Shannons::ZERO,
-    }
+    udt_cells::change_capacity(source, udt).unwrap_or(Shannons::ZERO)
 }
 
 // Writes the base transaction of these deps and figures to the start of out.
@@ -65,29 +62,20 @@ fn write_plan<'a>(
 ) -> Written
     ensures { (told result, out.new) ≡ written (fine (bytes_of (tx_at ours.now).version (lists_of (present_in ours.now) (beside_of lock.now udt.now source.now cells.now udt_deps.now lock_dep.now extra_deps.now) chosen.now plan))) out.old }
 {
-    let deps = fields::cell_deps(ours);
-    let headers = fields::header_deps(ours);
-    let inputs = fields::inputs(ours);
-    let outputs = fields::outputs(ours);
-    let datas = fields::outputs_data(ours);
-    base_writer::write_base(
-        fields::version(ours),
-        deps,
-        udt_deps,
-        lock_dep,
-        extra_deps,
-        headers,
-        inputs,
-        outputs,
-        datas,
+    let present = TxFields::of(ours);
+    let base = Base {
+        present,
         lock,
         udt,
         source,
         cells,
+        udt_deps,
+        lock_dep,
+        extra_deps,
         chosen,
         plan,
-        out,
-    )
+    };
+    base.write(out)
 }
 
 // The same of the lent deps, of which the token's and the lock's count where tokens were picked.
@@ -196,7 +184,7 @@ fn assemble_with<'a>(
     let room = places.len();
     let count = choose_deps(ours, udt_deps, lock_dep, extra_deps, taken, places, sorted);
     if room < count {
-        return Written::Refused(Refusal::BufferTooShort);
+        return Err(Refusal::BufferTooShort);
     }
     let plan = make_plan(capacity, token, taken, change, source, udt);
     let chosen = &places[0..count];
