@@ -25,7 +25,7 @@ use Rattle.molecule.proofs.MoleculeLaws.{encode-decode}
 use Rattle.molecule.proofs.DecodedLaws.{split_fields, encode-array-byte}
 use Rattle.transaction.specs.Ckb.{Uint32, Byte32, Bytes, CellInput, CellDep, CellOutput, RawTransaction, Transaction}
 use Rattle.transaction.specs.Tx.{raw_field, witnesses_of, tx_at}
-use Rattle.transaction_writer.specs.declared.Written.{Written}
+use Rattle.std.specs.Prelude.{Result, Ok, Err}
 use Rattle.transaction_writer.specs.Written.{raw_bytes, tx_bytes, in_form, fits, writes, leaves}
 use Rattle.transaction_writer.proofs.PutLaws.{raw_length, tx_length}
 
@@ -47,7 +47,7 @@ read_word v h =
 
 -- only where both tests pass is the answer `Wrote`, and then it is the length
 answered : (p q : Bool) (refusal : Refusal) (m n : ℕ)
-    → Written.Wrote n ≡ pick p (pick q (Written.Wrote m) (Written.Refused Refusal.BufferTooShort)) (Written.Refused refusal)
+    → Ok n ≡ pick p (pick q (Ok m) (Err Refusal.BufferTooShort)) (Err refusal)
     → (p ≡ true) × (q ≡ true) × (m ≡ n)
 unfolding pick
 answered true true refusal m n h = (refl, refl, cc)
@@ -118,7 +118,7 @@ module _ (v : ℕ) (a b c d e w : List ℕ) where
 
   -- ---- where `write_transaction` answers that it wrote n bytes
 
-  module _ (refusal : Refusal) (out : List ℕ) (n : ℕ) (h : Written.Wrote n ≡ writes (in_form a b c d e w) refusal (tx_bytes v a b c d e w) out) where
+  module _ (refusal : Refusal) (out : List ℕ) (n : ℕ) (h : Ok n ≡ writes (in_form a b c d e w) refusal (tx_bytes v a b c d e w) out) where
     passed : (in_form a b c d e w ≡ true) × (fits (length tx) (length out) ≡ true) × (length tx ≡ n)
     unfolding writes
     passed = answered _ _ refusal _ n h
