@@ -2,10 +2,11 @@
 use mathlib.Core.Path.{◌≡◌, ap, sym, ◌∙◌}
 use Prim.Native.Nat.{ℕ}
 use mathlib.Core.List.{List}
+use Rattle.std.specs.Prelude.{Ok, Result}
 use lib.ListN.{take}
 use Rattle.arithmetic.specs.LittleEndian.{AllBytes}
 use Rattle.molecule.proofs.ItemsLaws.{bytes_take}
-use Rattle.transaction_writer.specs.declared.Written.{Written}
+use Rattle.error.specs.declared.Refusal.{Refusal}
 use Rattle.funding_cell.specs.declared.FundingRequest.{FundingRequest}
 use Rattle.base_writer.specs.Answer.{written, told}
 use Rattle.funding_builder.specs.Base.{Lent, build_base}
@@ -13,7 +14,7 @@ use Rattle.base_theorems.proofs.Claims.{ReadsBack, Encodes, Funds, Keeps, Passes
 use Rattle.base_theorems.proofs.Base.{is-readable, encoded, first-output, kept, compared, tidied, in_balance, of_calls}
 
 module _ (l : Lent) (request : FundingRequest) (out after : List ℕ) where
-  wrote : (n : ℕ) → AllBytes l.ours → AllBytes after → (told (Written.Wrote n), after) ≡ written (build_base l request) out → Based l request (take n after)
+  wrote : (n : ℕ) → AllBytes l.ours → AllBytes after → (told (Ok n), after) ≡ written (build_base l request) out → Based l request (take n after)
   wrote n b a e = record {
     reads_back_lem = of_calls ReadsBack is-readable l request out after n b e;
     is_encoded_lem = of_calls Encodes encoded l request out after n b e (bytes_take n after a);
@@ -24,6 +25,6 @@ module _ (l : Lent) (request : FundingRequest) (out after : List ℕ) where
     balanced = of_calls Balanced in_balance l request out after n b e;
   }
 
-  pub base_step : {r : Written} → AllBytes l.ours → AllBytes after → (told r, after) ≡ written (build_base l request) out
-      → ((n : ℕ) → r ≡ Written.Wrote n → Based l request (take n after))
-  base_step b a e n w = wrote n b a (ap (λ (x : Written). (told x, after)) (sym w) ∙ e)
+  pub base_step : {r : Result ℕ Refusal} → AllBytes l.ours → AllBytes after → (told r, after) ≡ written (build_base l request) out
+      → ((n : ℕ) → r ≡ Ok n → Based l request (take n after))
+  base_step b a e n w = wrote n b a (ap (λ (x : Result ℕ Refusal). (told x, after)) (sym w) ∙ e)

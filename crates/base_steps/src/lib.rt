@@ -2,11 +2,10 @@
 // buffer.
 #![tactic(auto)]
 
-ghost use Rattle.std.specs.Prelude.{◌≡◌, ℕ, take};
+ghost use Rattle.std.specs.Prelude.{◌≡◌, ℕ, take, Ok};
 ghost use Rattle.base_writer.specs.Answer.{written, told};
 ghost use Rattle.funding_builder.specs.Base.{lent_of, build_base};
 ghost use Rattle.base_theorems.proofs.Claims.{Based};
-ghost use Rattle.transaction_writer.specs.declared.{Written.Written};
 
 use funding_cell::FundingRequest;
 use transaction_writer::Written;
@@ -24,7 +23,7 @@ pub fn build_base<'a>(
     out: &mut [u8],
 ) -> Written
     ensures out_after { (told result, out.new) ≡ written (build_base (lent_of ours.now lock.now udt.now source.now cells.now udt_deps.now lock_dep.now extra_deps.now) request) out.old }
-    ensures by_index { (n : ℕ) → result ≡ Written.Wrote n → Based (lent_of ours.now lock.now udt.now source.now cells.now udt_deps.now lock_dep.now extra_deps.now) request (take n out.new) }
+    ensures by_index { (n : ℕ) → result ≡ Ok n → Based (lent_of ours.now lock.now udt.now source.now cells.now udt_deps.now lock_dep.now extra_deps.now) request (take n out.new) }
 {
     transaction_writer::are_bytes(ours);
     let answer = funding_builder::build_base(
