@@ -2,10 +2,10 @@
 use mathlib.Core.Path.{◌≡◌, ap, sym, ◌∙◌}
 use Prim.Native.Nat.{ℕ}
 use mathlib.Core.List.{List}
+use Rattle.std.specs.Prelude.{Ok, Result}
 use lib.ListN.{take}
 use Rattle.arithmetic.specs.LittleEndian.{AllBytes}
 use Rattle.molecule.proofs.ItemsLaws.{bytes_take}
-use Rattle.std.specs.Prelude.{Result, Ok, Err}
 use Rattle.error.specs.declared.Refusal.{Refusal}
 use Rattle.funding_cell.specs.declared.FundingRequest.{FundingRequest}
 use Rattle.base_writer.specs.Answer.{written, told}

@@ -2,7 +2,7 @@
 // buffer.
 #![tactic(auto)]
 
-ghost use Rattle.std.specs.Prelude.{◌≡◌, ℕ, take};
+ghost use Rattle.std.specs.Prelude.{◌≡◌, ℕ, take, Ok};
 ghost use Rattle.base_writer.specs.Answer.{written, told};
 ghost use Rattle.funding_builder.specs.Base.{lent_of, build_base};
 ghost use Rattle.base_theorems.proofs.Claims.{Based};

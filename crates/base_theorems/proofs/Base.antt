@@ -2,6 +2,7 @@
 use mathlib.Core.Path.{◌≡◌, refl, sym, ap, ap₂, ◌∙◌, subst}
 use Prim.Native.Nat.{ℕ, zero, suc, ◌+◌, ◌-◌, ◌^◌, ◌≤◌, ◌<◌}
 use mathlib.Core.Bool.{Bool, true, false, not, cond, ◌&&◌, and-eq-true_iff}
+use Rattle.std.specs.Prelude.{Ok}
 use mathlib.Core.List.{List, [], ◌∷◌, ◌++◌, map}
 use native.Mathlib.Omega.{arith}
 use borrow.Author.Tests.{leb-true}
@@ -10,7 +11,6 @@ use lib.ListN.{length, take, drop, length-append, length-drop}
 use lib.Seq.{take_at}
 use Rattle.arithmetic.specs.LittleEndian.{to_le, AllBytes}
 use Rattle.arithmetic.proofs.LittleEndianLaws.{length-to_le}
-use Rattle.arithmetic.specs.Amount.{value}
 use Rattle.molecule.specs.Partial.{All}
 use Rattle.molecule.specs.Items.{join}
 use Rattle.molecule.specs.Layout.{span, item_of, items_of, item_count, fix_items, content, entry_of}
@@ -24,7 +24,6 @@ use Rattle.molecule.proofs.ReadableLaws.{every}
 use Rattle.lists.proofs.SpanLaws.{span-drop}
 use Rattle.transaction.specs.Ckb.{Bytes, CellDep, CellDeps, Script, CellOutput, Transaction, TokenCells}
 use Rattle.transaction.specs.Tx.{Tx, tx_at, raw_field}
-use Rattle.std.specs.Prelude.{Result, Ok, Err}
 use Rattle.transaction_writer.specs.Written.{fits}
 use Rattle.transaction_writer.proofs.PutLaws.{tx_length}
 use Rattle.rules.specs.Cells.{Cell, pair, cells}
@@ -80,7 +79,7 @@ made l request bytes e =
     let (s, e₂) = then-fine (scripts l.lock l.udt l.source) _ bytes e₁ in
     let (i, e₃) = then-fine (lists l.cells l.udt_deps l.lock_dep l.extra_deps) _ bytes e₂ in
     let (cell, c, e₄) = bind_fine (funding_cell (not (is_empty (tx_at l.ours).outputs)) (not (is_empty l.udt)) request) _ bytes e₃ in
-    let (pick, p, e₅) = bind_fine (pick_typed l.udt (value request.local_amount) (items_of l.cells)) _ bytes e₄ in
+    let (pick, p, e₅) = bind_fine (pick_typed l.udt request.local_amount (items_of l.cells)) _ bytes e₄ in
     let (_, e₆) = check-fine 11 (supplied pick.taken l.udt_deps) _ bytes e₅ in
     let (_, e₇) = check-fine 11 (supplied pick.taken l.lock_dep) _ bytes e₆ in
     let s₁ = check-fine 3 (readable Script l.lock) _ tt s in
@@ -186,7 +185,7 @@ module _ (l : Lent) (request : FundingRequest) (bytes : List ℕ) (b : AllBytes 
     header_deps = ours.header_deps;
     inputs =
         long-append 44 (fix_items 44 (raw_field l.ours 3)) (span (picked l.cells) 0 m.pick.taken) ours.inputs
-        (picked-long l.udt l.cells (value request.local_amount) m.pick m.cells m.figured.is_pick);
+        (picked-long l.udt l.cells request.local_amount m.pick m.cells m.figured.is_pick);
     outputs = outputs-readable;
     outputs_data = data_readable;
     witnesses = witnesses-readable (length (tx_at l.ours).inputs) m.pick.taken;
@@ -364,7 +363,7 @@ module _ (l : Lent) (request : FundingRequest) (bytes : List ℕ) (b : AllBytes 
     pick = m.pick;
     is_pick = m.figured.is_pick;
     inputs = all_inputs ∙ ap (λ (xs : List (List ℕ)). before.inputs ++ xs) (spends l.cells 0 m.pick.taken (item_count l.cells) few);
-    amounts = typed-amounts l.udt (value request.local_amount) (items_of l.cells) m.pick m.figured.is_pick;
+    amounts = typed-amounts l.udt request.local_amount (items_of l.cells) m.pick m.figured.is_pick;
     change = subst (λ (cs : List Cell). Changes l m.pick.change cs) (sym last)
         (change-cells l m.pick.change (all_right (λ (x : List ℕ). length x < 2 ^ 32) (later (raw_field l.ours 4) after) changes outputs_all.1));
   }
@@ -372,7 +371,7 @@ module _ (l : Lent) (request : FundingRequest) (bytes : List ℕ) (b : AllBytes 
       few : m.pick.taken ≤ item_count l.cells
       few =
           let n : length (items_of l.cells) ≡ item_count l.cells = span-length (item_of l.cells) 0 (item_count l.cells) in
-          omega (arith, typed-within l.udt (value request.local_amount) (items_of l.cells) m.pick m.figured.is_pick)
+          omega (arith, typed-within l.udt request.local_amount (items_of l.cells) m.pick m.figured.is_pick)
 
       last : drop (suc after) (cells (tx_at bytes)) ≡ pair changes (map content changed)
       last =

@@ -3,10 +3,10 @@
 use mathlib.Core.Path.{◌≡◌}
 use Prim.Native.Nat.{ℕ, zero, suc, ◌+◌, ◌-◌, ◌≤◌}
 use mathlib.Core.Bool.{true, false, not, cond}
+use Rattle.std.specs.Prelude.{Ok}
 use mathlib.Core.List.{List, [], ◌∷◌, ◌++◌, map}
 use lib.ListN.{length, take, drop}
 use Rattle.arithmetic.specs.LittleEndian.{to_le, AllBytes}
-use Rattle.arithmetic.specs.Amount.{value}
 use Rattle.molecule.specs.Items.{join}
 use Rattle.molecule.specs.Layout.{items_of, content}
 use Rattle.molecule.specs.Molecule.{Value, encode, readable, Good}
@@ -25,7 +25,6 @@ use Rattle.udt_cells.specs.Change.{capacity_for}
 use Rattle.udt_cells.proofs.PickTheorems.{held}
 use Rattle.base_inputs.specs.BaseInputs.{picked_input}
 use Rattle.list_writer.specs.ListWriter.{fix_list}
-use Rattle.std.specs.Prelude.{Result, Ok, Err}
 use Rattle.base_writer.specs.Answer.{written, told}
 use Rattle.transaction_theorems.proofs.Claims.{value_tx}
 use Rattle.transaction_theorems.proofs.WrittenReads.{HasFields}
@@ -45,7 +44,7 @@ Called P =
 -- the figures of the funding cell, and the pick
 pub record Figured (l : Lent) (request : FundingRequest) (cell : Figures) (pick : Pick) : Type 0 where
   pub is_cell : funding_cell (not (is_empty (tx_at l.ours).outputs)) (not (is_empty l.udt)) request ≡ fine cell
-  pub is_pick : pick_typed l.udt (value request.local_amount) (items_of l.cells) ≡ fine pick
+  pub is_pick : pick_typed l.udt request.local_amount (items_of l.cells) ≡ fine pick
 
 -- what the bytes say their fields are: each list of t, in its list form
 abbrev pub Holds : Packed → List ℕ → Type 0
@@ -140,10 +139,10 @@ Changes l (suc n) (c ∷ cs) = Change l (suc n) c × (cs ≡ [])
 -- "cells in list order until the total reaches it"; "A remainder makes one change output with our lock, the type and 16 data bytes"
 pub record Balanced (l : Lent) (request : FundingRequest) (bytes : List ℕ) : Type 0 where
   pub pick : Pick
-  pub is_pick : pick_typed l.udt (value request.local_amount) (items_of l.cells) ≡ fine pick
+  pub is_pick : pick_typed l.udt request.local_amount (items_of l.cells) ≡ fine pick
   -- the inputs behind the present ones spend the first cells, and these hold the local amount and the change
   pub inputs : (tx_at bytes).inputs ≡ (tx_at l.ours).inputs ++ map picked_input (take pick.taken (items_of l.cells))
-  pub amounts : is_empty l.udt ≡ false → held (take pick.taken (items_of l.cells)) ≡ value request.local_amount + pick.change
+  pub amounts : is_empty l.udt ≡ false → held (take pick.taken (items_of l.cells)) ≡ request.local_amount + pick.change
   -- behind the funding cell and the present outputs after 0 stands the change
   pub change : Changes l pick.change (drop (suc (length (tx_at l.ours).outputs - 1)) (cells (tx_at bytes)))
 

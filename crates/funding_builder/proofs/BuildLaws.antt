@@ -3,13 +3,13 @@ use mathlib.Core.Path.{◌≡◌, sym, ap, ap₂, ◌∙◌}
 use Prim.Native.Nat.{ℕ}
 use mathlib.Core.Bool.{Bool, true, false, not}
 use mathlib.Core.List.{List}
+use Rattle.std.specs.Prelude.{Ok, Err, Result}
 use borrow.Author.Tests.{not-true, not-false}
 use lib.Dec.{eqb}
 use lib.ListN.{length}
 use Rattle.error.specs.declared.Refusal.{Refusal}
 use Rattle.error.specs.Refusal.{number, values}
 use Rattle.units.specs.declared.{Shannons.Shannons, Tokens.Tokens}
-use Rattle.units.specs.Units.{token_count}
 use Rattle.molecule.specs.Layout.{items_of, item_of, item_count}
 use Rattle.molecule.specs.Molecule.{readable, option}
 use Rattle.molecule.proofs.Offsets.{span-length}
@@ -21,7 +21,6 @@ use Rattle.rules.specs.Judge.{scripts}
 use Rattle.rules.specs.Told.{refusal}
 use Rattle.rules.proofs.CellLaws.{empty-is}
 use Rattle.rules.proofs.Tests.{is_true, check-fine, check_last}
-use Rattle.std.specs.Prelude.{Ok, Err}
 use Rattle.funding_cell.specs.declared.{FundingRequest.FundingRequest, FundingCell.FundingCell}
 use Rattle.funding_cell.specs.FundingCell.{funding_cell, told as toldCell}
 use Rattle.udt_cells.specs.declared.Picked.{Picked}
@@ -62,21 +61,21 @@ module _ (ours lock udt source cells udt_deps lock_dep extra_deps out : List ℕ
 
   -- ---- with_cell
 
-  module _ (capacity : Shannons) (token wanted : Tokens) (x : Picked) (ex : toldPick x ≡ pick_typed udt (token_count wanted) (items_of cells)) where
-    pub cell-picked : {taken : ℕ} {change : Tokens} {y : Outcome ℕ × List ℕ} → x ≡ Picked.Cells taken change
-        → y ≡ written (with_pick l (cell_of capacity token) (pick_of taken change)) out → y ≡ written (with_cell l (cell_of capacity token) (token_count wanted)) out
+  module _ (capacity : Shannons) (token wanted : Tokens) (x : Result Picked Refusal) (ex : toldPick x ≡ pick_typed udt (wanted.0) (items_of cells)) where
+    pub cell-picked : {taken : ℕ} {change : Tokens} {y : Outcome ℕ × List ℕ} → x ≡ Ok (record { taken = taken; change = change })
+        → y ≡ written (with_pick l (cell_of capacity token) (pick_of taken change)) out → y ≡ written (with_cell l (cell_of capacity token) (wanted.0)) out
     unfolding with_cell ◌>>=◌
     cell-picked {taken} {change} f e = e ∙ rw (← ex, f)
 
-    pub cell-refused : {e : Refusal} → x ≡ Picked.Refused e → (told (Err e), out) ≡ written (with_cell l (cell_of capacity token) (token_count wanted)) out
+    pub cell-refused : {e : Refusal} → x ≡ Err e → (told (Err e), out) ≡ written (with_cell l (cell_of capacity token) (wanted.0)) out
     cell-refused {e} f = refused-is e out no
       where
-        no : with_cell l (cell_of capacity token) (token_count wanted) ≡ refusal e
+        no : with_cell l (cell_of capacity token) (wanted.0) ≡ refusal e
         no = unfold with_cell in unfold ◌>>=◌ in rw (← ex, f)
 
   -- ---- with_request
 
-  module _ (request : FundingRequest) {n : ℕ} (en : n ≡ item_count (raw_field ours 4)) (x : FundingCell)
+  module _ (request : FundingRequest) {n : ℕ} (en : n ≡ item_count (raw_field ours 4)) (x : Result FundingCell Refusal)
       (ex : toldCell x ≡ funding_cell (not (eqb n 0)) (not (eqb (length udt) 0)) request) where
     some-outputs : not (eqb n 0) ≡ not (is_empty (tx_at ours).outputs)
     some-outputs = ap not (sym (empty-is (tx_at ours).outputs ∙ ap (λ (k : ℕ). eqb k 0) (span-length (item_of (raw_field ours 4)) 0 (item_count (raw_field ours 4)) ∙ sym en)))
@@ -84,15 +83,15 @@ module _ (ours lock udt source cells udt_deps lock_dep extra_deps out : List ℕ
     cell-is : toldCell x ≡ funding_cell (not (is_empty (tx_at ours).outputs)) (not (is_empty udt)) request
     cell-is = ex ∙ ap₂ (λ (funded typed : Bool). funding_cell funded typed request) some-outputs (ap not (sym (empty-is udt)))
 
-    pub too_wide : {e : Refusal} → x ≡ FundingCell.Refused e → (told (Err e), out) ≡ written (with_request l request) out
+    pub too_wide : {e : Refusal} → x ≡ Err e → (told (Err e), out) ≡ written (with_request l request) out
     too_wide {e} f = refused-is e out no
       where
         no : with_request l request ≡ refusal e
         no = unfold with_request in unfold ◌>>=◌ in rw (← cell-is, f)
 
-    pub cell_made : {capacity : Shannons} {token : Tokens} {y : Outcome ℕ × List ℕ} → x ≡ FundingCell.Cell capacity token
-        → y ≡ written (with_cell l (cell_of capacity token) (token_count (record { 0 = request.local_amount }))) out → y ≡ written (with_request l request) out
-    unfolding with_request ◌>>=◌ token_count
+    pub cell_made : {capacity : Shannons} {token : Tokens} {y : Outcome ℕ × List ℕ} → x ≡ Ok (record { capacity = capacity; token = token })
+        → y ≡ written (with_cell l (cell_of capacity token) request.local_amount) out → y ≡ written (with_request l request) out
+    unfolding with_request ◌>>=◌
     cell_made f e = e ∙ rw (← cell-is, f)
 
   -- ---- build_base

@@ -7,24 +7,18 @@ use native.Mathlib.Omega.{arith}
 use borrow.Author.Tests.{eq-eqb, ne_eqb, eqb-true, not-true, not-false}
 use lib.Dec.{eqb}
 use lib.ListN.{length}
-use Rattle.arithmetic.specs.Amount.{value, halves, is_zero}
-use Rattle.units.specs.declared.{Shannons.Shannons, Tokens.Tokens, CheckedShannons.CheckedShannons}
-use Rattle.units.specs.Units.{in_shannons, shannon_count, token_count}
-use Rattle.units.specs.Fee.{change_capacity as checkedCapacity}
 use Rattle.molecule.specs.Molecule.{option, size, sizes, readable}
 use Rattle.molecule.specs.Layout.{part}
 use Rattle.molecule.proofs.Valid.{fixed, all_fixed}
 use Rattle.molecule.proofs.LayoutLaws.{part_none}
 use Rattle.molecule.proofs.ReadableLaws.{readable_fixed}
 use Rattle.transaction.specs.Ckb.{Script, TokenCells, CellDep, CellDeps}
-use Rattle.transaction.specs.Tx.{args_of}
 use Rattle.transaction.proofs.ListLaws.{option-some}
 use Rattle.rules.specs.Outcome.{check}
 use Rattle.rules.proofs.CellLaws.{empty-is}
 use Rattle.rules.proofs.Checks.{skip, fail, pass, last_is}
 use Rattle.list_writer.specs.ListWriter.{if_positive}
 use Rattle.udt_cells.specs.Change.{capacity_for}
-use Rattle.udt_cells.proofs.ChangeLaws.{capacity-fits, capacity-over}
 use Rattle.funding_builder.specs.Base.{change_capacity, lists, supplied}
 
 -- ---- the lent lists
@@ -73,34 +67,13 @@ unfolding if_positive
 picked-some zero deps h = absurd (h refl)
 picked-some (suc n) deps h = refl
 
--- ---- figures
+-- ---- the change's capacity
 
-module _ (change : Tokens) (source udt : List ℕ) {z : Bool} (ez : z ≡ is_zero change.0) where
-  pub no_change : z ≡ true → shannon_count (in_shannons (halves 0 0)) ≡ change_capacity (token_count change) source udt
-  unfolding change_capacity is_zero token_count shannon_count
-  no_change h = let e : value change.0 ≡ 0 = eqb-true _ _ (sym ez ∙ h) in rw e
+pub no_change : (n : ℕ) (source udt : List ℕ) → n ≡ 0 → change_capacity n source udt ≡ 0
+unfolding change_capacity
+no_change n source udt e = rw e
 
-  module _ (h : z ≡ false) where
-    some : (n : ℕ) → (n ≡ 0 → ⊥) → capacity_for source udt ≡ change_capacity n source udt
-    unfolding change_capacity
-    some zero k = absurd (k refl)
-    some (suc n) k = refl
-
-    not_zero : token_count change ≡ 0 → ⊥
-    unfolding is_zero token_count
-    not_zero e = no_path (sym (sym ez ∙ h) ∙ eq-eqb _ _ e)
-      where
-        no_path : false ≡ true → ⊥
-        no_path q = let y : ◌≡◌ {A = ℕ} 0 1 = cc in omega arith
-
-    module _ (ready : (readable Script source ≡ true) × (readable (option Script) udt ≡ true))
-        (low : readable Script source ≡ true → readable (option Script) udt ≡ true → capacity_for source udt < 2 ^ 64)
-        {k : CheckedShannons} (ek : k ≡ checkedCapacity (length (args_of source)) (length (args_of udt))) where
-      is-low : capacity_for source udt < 2 ^ 64
-      is-low = low ready.0 ready.1
-
-      pub change-is : {c : Shannons} → k ≡ CheckedShannons.Fits c → shannon_count c ≡ change_capacity (token_count change) source udt
-      change-is f = capacity-fits _ _ is-low ek f ∙ some (token_count change) not_zero
-
-      pub change-over : k ≡ CheckedShannons.Overflow → shannon_count (in_shannons (halves 0 0)) ≡ change_capacity (token_count change) source udt
-      change-over f = absurd (capacity-over _ _ is-low ek f)
+pub some_change : (n : ℕ) (source udt : List ℕ) → (n ≡ 0 → ⊥) → change_capacity n source udt ≡ capacity_for source udt
+unfolding change_capacity
+some_change zero source udt h = absurd (h refl)
+some_change (suc n) source udt h = refl

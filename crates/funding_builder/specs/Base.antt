@@ -2,7 +2,6 @@
 -- `assemble_base_tx`, `add_udt_lock_dep` and `with_extra_cell_deps`): what is refused, in the order of the rules' table, and the transaction that is written,
 -- list by list.
 use Rattle.std.specs.Prelude.{ℕ, zero, suc, ◌-◌, Bool, not, ◌||◌, List, length, eqb}
-use Rattle.arithmetic.specs.Amount.{value}
 use Rattle.molecule.specs.Items.{join}
 use Rattle.molecule.specs.Layout.{items_of}
 use Rattle.molecule.specs.Molecule.{readable, option}
@@ -112,7 +111,7 @@ unfoldable pub with_request : Lent → FundingRequest → Outcome (List ℕ)
 with_request l request = do
   -- a figure or sum too wide
   cell ← funding_cell (not (is_empty (tx_at l.ours).outputs)) (not (is_empty l.udt)) request
-  with_cell l cell (value request.local_amount)
+  with_cell l cell request.local_amount
 
 unfoldable pub build_base : Lent → FundingRequest → Outcome (List ℕ)
 build_base l request = do

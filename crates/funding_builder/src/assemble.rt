@@ -17,7 +17,7 @@ use base_writer::{Base, Plan};
 use error::Refusal;
 use transaction::fields;
 use transaction_writer::{TxFields, Written};
-use units::{CheckedShannons, Shannons, Tokens};
+use units::{Shannons, Tokens};
 
 // How many cell deps 133,116 bytes have room for.
 const MOST_DEPS: usize = 3597;
@@ -40,13 +40,10 @@ fn change_capacity(change: Tokens, source: &[u8], udt: &[u8]) -> Shannons
     requires { (readable Script source.now ≡ true) × (readable (option Script) udt.now ≡ true) }
     ensures { shannon_count result ≡ change_capacity (token_count change) source.now udt.now }
 {
-    if change.is_zero() {
+    if change == Tokens::ZERO {
         return Shannons::ZERO;
     }
-    match udt_cells::change_capacity(source, udt) {
-        CheckedShannons::Fits(capacity) => capacity,
-        CheckedShannons::Overflow => Shannons::ZERO,
-    }
+    udt_cells::change_capacity(source, udt).unwrap_or(Shannons::ZERO)
 }
 
 // Writes the base transaction of these deps and figures to the start of out.
@@ -65,8 +62,9 @@ fn write_plan<'a>(
 ) -> Written
     ensures { (told result, out.new) ≡ written (fine (bytes_of (tx_at ours.now).version (lists_of (present_in ours.now) (beside_of lock.now udt.now source.now cells.now udt_deps.now lock_dep.now extra_deps.now) chosen.now plan))) out.old }
 {
+    let present = TxFields::of(ours);
     let base = Base {
-        present: TxFields::of(ours),
+        present,
         lock,
         udt,
         source,

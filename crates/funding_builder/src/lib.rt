@@ -1,5 +1,5 @@
 // The base transaction of our own side: the funding cell, the tokens that we bring, and what the present transaction has already.
-#![tactic(auto)]
+#![tactic(auto, using(crate::proofs::Ways::ways))]
 
 mod assemble;
 
@@ -23,46 +23,31 @@ use units::{Shannons, Tokens};
 fn is_optional_cell_deps(s: &[u8]) -> bool
     ensures { result ≡ readable (option CellDeps) s.now }
 {
-    if s.len() == 0 {
-        return true;
-    }
-    transaction::is_cell_deps(s)
+    s.is_empty() || transaction::is_cell_deps(s)
 }
 
 // Whether the bytes are a cell dep, or nothing.
 fn is_optional_cell_dep(s: &[u8]) -> bool
     ensures { result ≡ readable (option CellDep) s.now }
 {
-    if s.len() == 0 {
-        return true;
-    }
-    s.len() == 37
+    s.is_empty() || s.len() == 37
 }
 
 // Whether the lent lists are readable; the refusal is 3.
 fn are_lists(cells: &[u8], udt_deps: &[u8], lock_dep: &[u8], extra_deps: &[u8]) -> bool
     ensures { check 3 result ≡ lists cells.now udt_deps.now lock_dep.now extra_deps.now }
 {
-    if !transaction::is_token_cells(cells) {
-        return false;
-    }
-    if !is_optional_cell_deps(udt_deps) {
-        return false;
-    }
-    if !is_optional_cell_dep(lock_dep) {
-        return false;
-    }
-    transaction::is_cell_deps(extra_deps)
+    transaction::is_token_cells(cells)
+        && is_optional_cell_deps(udt_deps)
+        && is_optional_cell_dep(lock_dep)
+        && transaction::is_cell_deps(extra_deps)
 }
 
 // Whether deps are supplied where tokens were picked.
 fn is_supplied(taken: usize, deps: &[u8]) -> bool
     ensures { result ≡ supplied taken deps.now }
 {
-    if taken == 0 {
-        return true;
-    }
-    deps.len() != 0
+    taken == 0 || !deps.is_empty()
 }
 
 // Assembles the base transaction behind the pick; 11 where tokens were picked and deps are missing.
@@ -114,13 +99,11 @@ fn with_cell<'a>(
     requires { Readable (lent_of ours.now lock.now udt.now source.now cells.now udt_deps.now lock_dep.now extra_deps.now) }
     ensures { (told result, out.new) ≡ written (with_cell (lent_of ours.now lock.now udt.now source.now cells.now udt_deps.now lock_dep.now extra_deps.now) (cell_of capacity token) (token_count wanted)) out.old }
 {
-    match udt_cells::pick_typed(cells, udt, wanted) {
-        Picked::Cells { taken, change } => with_pick(
-            ours, lock, udt, source, cells, udt_deps, lock_dep, extra_deps, capacity, token, taken,
-            change, out,
-        ),
-        Picked::Refused(e) => Err(e),
-    }
+    let Picked { taken, change } = udt_cells::pick_typed(cells, udt, wanted)?;
+    with_pick(
+        ours, lock, udt, source, cells, udt_deps, lock_dep, extra_deps, capacity, token, taken,
+        change, out,
+    )
 }
 
 // Makes the funding cell of the request, and goes on from it.
@@ -140,16 +123,23 @@ fn with_request<'a>(
     ensures { (told result, out.new) ≡ written (with_request (lent_of ours.now lock.now udt.now source.now cells.now udt_deps.now lock_dep.now extra_deps.now) request) out.old }
 {
     let funded = fields::output_count(ours) != 0;
-    let typed = udt.len() != 0;
+    let typed = !udt.is_empty();
+    let FundingCell { capacity, token } = funding_cell::funding_cell(funded, typed, request)?;
     let local_amount = request.local_amount;
-    let wanted = Tokens(local_amount);
-    match funding_cell::funding_cell(funded, typed, request) {
-        FundingCell::Cell { capacity, token } => with_cell(
-            ours, lock, udt, source, cells, udt_deps, lock_dep, extra_deps, capacity, token,
-            wanted, out,
-        ),
-        FundingCell::Refused(e) => Err(e),
-    }
+    with_cell(
+        ours,
+        lock,
+        udt,
+        source,
+        cells,
+        udt_deps,
+        lock_dep,
+        extra_deps,
+        capacity,
+        token,
+        Tokens(local_amount),
+        out,
+    )
 }
 
 // Writes the base transaction of a request to the start of out: our present transaction (empty for none) with the funding cell under the funding lock, of

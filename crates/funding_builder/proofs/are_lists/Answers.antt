@@ -1,14 +1,13 @@
-use Rattle.funding_builder.proofs.Ways.{ways}
+use Rattle.std.proofs.Common.{arith}
+use Rattle.std.proofs.lemmas.Grind.{common_steps}
+use Rattle.rules.specs.Outcome.{check, check_with, ◌>>◌}
+use Rattle.funding_builder.specs.Base.{lists}
 use Rattle.funding_builder.proofs.are_lists.Goals as goal
 
-pub returns-then-not-is_token_cells : goal.returns-then-not-is_token_cells
-returns-then-not-is_token_cells c = search ways
+pub returns-then-is_optional_cell_dep : goal.returns-then-is_optional_cell_dep
+unfolding lists check check_with ◌>>◌
+returns-then-is_optional_cell_dep c = grind (arith, common_steps)
 
-pub returns-then-not-is_optional_cell_deps : goal.returns-then-not-is_optional_cell_deps
-returns-then-not-is_optional_cell_deps c = search ways
-
-pub returns-then-not-is_optional_cell_dep : goal.returns-then-not-is_optional_cell_dep
-returns-then-not-is_optional_cell_dep c = search ways
-
-pub returns : goal.returns
-returns c = search ways
+pub returns-else-is_optional_cell_dep : goal.returns-else-is_optional_cell_dep
+unfolding lists check check_with ◌>>◌
+returns-else-is_optional_cell_dep c = grind (arith, common_steps)
