@@ -6,8 +6,8 @@
 - Every folder of crates/ is listed in crates.txt, and no crate lists `libc` or `os`; the file HANDLES, if there is one, allows none: so no function may end the
   process, wait for ever, start threads or open sockets, in place of meeting its contract.
 - Every crate's root file has `#![tactic(auto)]`, by which the check tries its tactics.
-- No function that another crate can call has a `requires`, and each of the library's has an `ensures`. (Programs, and what those that run tests share, known by
-  their use of `io` or `check`, have none.)
+- No function that another crate can call has a `requires`, and each of the library's has an `ensures`. (Programs, and `recorded_calls`, which they alone use,
+  need none.)
 - No source declares a C function, and no proof, definition or clause has a hole (`?`, `?name`, `{! .. !}`) or an axiom.
 
 Prints what it counted, or each place where that is not so, and then ends with 1. It is no verdict: that is `rt ci`.
@@ -15,7 +15,7 @@ Prints what it counted, or each place where that is not so, and then ends with 1
 import glob, os, re, sys
 
 HERE = os.path.dirname(os.path.dirname(os.path.abspath(__file__)))
-TESTS = {'io', 'check'}
+SHARED = 'recorded_calls'
 PAST_THE_HANDLES = {'libc', 'os'}
 HOLE = re.compile(r'(?<![\w-])\?|\{!')
 AXIOM = re.compile(r'\b(axiom|postulate|sorry|Prim\.Axiom)\b')
@@ -52,7 +52,7 @@ def main():
     handles = os.path.join(HERE, 'HANDLES')
     if os.path.exists(handles) and open(handles).read().strip() != 'Handles allowed: none.':
         wrong.append('HANDLES: it allows more than none')
-    programs = {c for c in uses if uses[c] & TESTS}
+    programs = {SHARED}
     for crate in sorted(folders):
         source = os.path.join(HERE, 'crates', crate, 'src')
         root = next((name for name in ('main.rt', 'lib.rt') if os.path.exists(os.path.join(source, name))), None)
@@ -60,6 +60,7 @@ def main():
             programs.add(crate)
         if root is None or not re.search(r'^#!\[tactic\(auto\)\]$', open(os.path.join(source, root)).read(), re.M):
             wrong.append(f'crates/{crate}: its root file has no line #![tactic(auto)]')
+    wrong += [f'crates.txt: {c}, which is no program, uses {SHARED}' for c in sorted(uses) if SHARED in uses[c] and c not in programs]
     for path in sorted(glob.glob(os.path.join(HERE, 'crates/*/src/**/*.rt'), recursive=True)):
         short, text = os.path.relpath(path, HERE), open(path).read()
         if re.search(r'^ *(?:unsafe )?extern "C" *\{', text, re.M):

@@ -1,17 +1,18 @@
 #!/usr/bin/env python3
-"""Writes crates/CRATE/proofs/TableLaws.antt for each crate of CRATES: of each table one law for each way out of the function that tests it.
+"""Writes crates/CRATE/proofs/TableLaws.antt for each crate of CRATES: of each table what `readable` is of its fields, in the tests that the code makes.
 
 A table is a line of TABLES: the laws' prefix, the type of the schema, its fields' types, and the test that the code makes of each field:
-('len', k) for `field_len(s, n, i) != k`, ('is', TYPE) for `!is_..(field(s, n, i))`. The last test is what the function returns.
-Of a table in BY_WORDS the code tests the words of the header: there is one law, what `readable` is of its fields, and crates/transaction/proofs/WordLaws.antt
-has the ways out. Of HEAD's imports a file has those that its laws use. Run it in the repository's root after a change of TABLES."""
+('len', k) for `field_len(s, n, i) == k`, ('is', TYPE) for `is_..(field(s, n, i))`. The law NAME_is joins them with `&&`, as the code does. (Of a script and of an
+output the code tests the words of the header: crates/transaction/proofs/WordLaws.antt has these.) Of a table in WAYS_OUT there is a law for each way out of a
+function that returns at the first test that fails, too. Of HEAD's imports a file has those that its laws use. Run it in the repository's root after a change of
+TABLES."""
 import re
 
-HEAD = '''-- %s: one law for each way out of the function that tests one. Written by tools/tables.py.
+HEAD = '''-- %s: what each is of its fields, in the tests that code makes. Written by tools/tables.py.
 use mathlib.Core.Path.{◌≡◌, refl, sym, ◌∙◌}
 use Prim.Native.Nat.{ℕ}
 use mathlib.Core.List.{List}
-use mathlib.Core.Bool.{Bool, true, false, not, ◌&&◌, and-true, and-false}
+use mathlib.Core.Bool.{Bool, true, false, not, ◌&&◌, and-true, and-false, and_assoc}
 use borrow.Author.Tests.{eq-eqb, ne_eqb, not-true, not-false}
 use lib.Dec.{eqb}
 use lib.ListN.{length}
@@ -35,7 +36,8 @@ TABLES = [
     ('record', 'Record', ['CellOutput', 'Bytes'], [('is', 'CellOutput'), ('is', 'Bytes')]),
 ]
 
-BY_WORDS = ['script', 'output']
+# tables whose laws of each way out are still used: by reader and exclusions, by records, by negotiation
+WAYS_OUT = ['raw', 'transaction', 'record', 'update']
 
 # of each crate: what its tables are, where their types stand, and the tables
 CRATES = [
@@ -47,19 +49,21 @@ CRATES = [
 
 
 def laws(name, ty, fields, tests):
-    n, out, names = len(tests), [], [name + '_head']
+    n, out, names = len(tests), [], [name + '_is', name + '_head']
     parts = ['eqb (length (field_of s %d %d)) %d' % (n, i, a) if k == 'len' else 'readable %s (field_of s %d %d)' % (a, n, i)
              for i, (k, a) in enumerate(tests)]
     nest = 'true'
     for p in reversed(parts):
         nest = '%s && (%s)' % (p, nest) if nest != 'true' else '%s && true' % p
+    left = ' && '.join(['has_items s %d' % n] + parts)
     fixed = ', '.join('sized %s tt %d refl' % (fields[i], a) for i, (k, a) in enumerate(tests) if k == 'len')
-    by_words = name in BY_WORDS
-    out += [('pub ' if by_words else '') + '%s_fields : (s : List ℕ) → readable %s s ≡ (has_items s %d && (%s))' % (name, ty, n, nest),
+    out += ['%s_fields : (s : List ℕ) → readable %s s ≡ (has_items s %d && (%s))' % (name, ty, n, nest),
             'unfolding size fixed count all_readable span',
             '%s_fields s = table-readable (%s & end) s%s' % (name, ' & '.join(fields), ' ∙ simp (%s)' % fixed if fixed else ''), '']
-    if by_words:
-        return out, []
+    out += ['pub %s_is : (s : List ℕ) → readable %s s ≡ (%s)' % (name, ty, left),
+            '%s_is s = %s_fields s ∙ simp (and-true, and_assoc)' % (name, name), '']
+    if name not in WAYS_OUT:
+        return out, [name + '_is']
     out += ['module _ (s : List ℕ) where',
             '  pub %s_head : {r : Bool} → r ≡ has_items s %d → not r ≡ true → false ≡ readable %s s' % (name, n, ty),
             '  %s_head e h = sym (%s_fields s ∙ simp (sym e ∙ not-true _ h))' % (name, name), '']

@@ -1,5 +1,5 @@
 -- The inputs of a base transaction, sized and written.
-use Rattle.std.proofs.Common.{◌≡◌, ℕ, zero, suc, ◌+◌, ◌-◌, ◌*◌, ◌/◌, ◌%◌, ◌^◌, ◌<◌, ◌≤◌, min, Bool, false, not, List, ◌++◌, length, take, drop, sym, refl, ap, ◌∙◌, ap₂, append_assoc, arith, length-append, drop-drop, take-add, w32, Fits, lt-ltb}
+use Rattle.std.proofs.Common.{◌≡◌, ℕ, zero, suc, ◌+◌, ◌-◌, ◌*◌, ◌/◌, ◌%◌, ◌^◌, ◌<◌, ◌≤◌, min, Bool, false, not, List, ◌++◌, length, take, drop, sym, refl, ap, ◌∙◌, ap₂, append_assoc, arith, length-append, add-zero, drop-drop, take-add, w32, Fits, lt-ltb}
 use mathlib.Core.List.{flatten}
 use Rattle.arithmetic.specs.LittleEndian.{to_le}
 use Rattle.arithmetic.proofs.LittleEndianLaws.{length-to_le, wrapped}
@@ -40,22 +40,19 @@ run_is s {n} e h =
 
 -- ---- the picked ones
 
-zero_on : (cells : List ℕ) (i : ℕ) → picked cells (i + 0) ≡ picked cells i
-zero_on cells i = let e : i + 0 ≡ i = omega arith in ap (picked cells) e
-
-module _ (cells : List ℕ) (i : ℕ) {cell point : List ℕ} (ec : cell ≡ item_of cells i) (ep : point ≡ first_of cell) where
+module _ (cells : List ℕ) (i : ℕ) {point : List ℕ} (ep : point ≡ first_of (item_of cells i)) where
   picked-is : picked cells i ≡ to_le 8 0 ++ point
   unfolding picked picked_input
-  picked-is = rw (ep, ec)
+  picked-is = rw ep
 
   picked-length : length (picked cells i) ≡ 8 + length point
   picked-length = ap length picked-is ∙ simp (length-append, length-to_le)
 
   pub picked_more : {k n a b : ℕ} → Sizing (picked cells) 0 k i n → i < k → a ≡ min (n + 8) 133117 → b ≡ min (a + length point) 133117
       → Sizing (picked cells) 0 k (i + 1) b
-  picked_more {k} {n} {a} {b} g h ea eb =
-      let q : b ≡ min (n + length (picked cells (i + 0))) 133117 = omega (arith, picked-length, ap length (zero_on cells i)) in
-      size-more g h refl q
+  picked_more {n = n} {b = b} g h ea eb =
+      let q : b ≡ min (n + length (picked cells i)) 133117 = omega (arith, picked-length) in
+      size-more g h (ap (λ j. length (picked cells j)) (sym (add-zero i))) q
 
   pub picked_put : {out o₁ o₂ : List ℕ} {at n₁ n₂ : ℕ} → at + length (picked cells i) ≤ length out → o₁ ≡ put_at out at (to_le 8 0) → n₁ ≡ put_end out at (to_le 8 0)
       → o₂ ≡ put_at o₁ n₁ point → n₂ ≡ put_end o₁ n₁ point → Put out at (picked cells i) o₂ n₂
@@ -73,17 +70,17 @@ module _ (cells : List ℕ) (k : ℕ) where
 
   module _ {out o₁ : List ℕ} {at i n₁ : ℕ} (g : Writing (picked cells) 0 out at k i o₁ n₁) where
     pub turn_room : i < k → n₁ + length (picked cells i) ≤ length o₁
-    turn_room h = rw (zero_on cells i) at (write-room g h)
+    turn_room h = rw add-zero at (write-room g h)
 
     pub turn_more : {o₂ : List ℕ} {n₂ : ℕ} → i < k → Put o₁ n₁ (picked cells i) o₂ n₂ → Writing (picked cells) 0 out at k (i + 1) o₂ n₂
-    turn_more h p = write_then g h (as_bytes (sym (zero_on cells i)) p)
+    turn_more h p = write_then g h (rw add-zero p)
 
     pub turn_end : k ≤ i → Put out at (flatten (span (picked cells) 0 k)) o₁ n₁
     turn_end h = write-end g h
 
 -- each has 8 bytes or more
 eight : (cells : List ℕ) (i : ℕ) → 8 ≤ length (picked cells i)
-eight cells i = omega (arith, picked-length cells i refl refl)
+eight cells i = omega (arith, picked-length cells i refl)
 
 eights : (cells : List ℕ) (n : ℕ) → 8 * n ≤ length (body (picked cells) 0 n)
 eights cells zero = omega arith
@@ -96,12 +93,6 @@ unfolding body
 picked_eights cells n = eights cells n
 
 -- ---- the whole
-
-pub count_put : (n : ℕ) (run : List ℕ) {out o₁ o₂ : List ℕ} {at n₁ n₂ : ℕ} → at + 4 + length run ≤ length out → o₁ ≡ put_at out at (to_le 4 n)
-    → n₁ ≡ put_end out at (to_le 4 n) → o₂ ≡ put_at o₁ n₁ run → n₂ ≡ put_end o₁ n₁ run → Put out at (to_le 4 n ++ run) o₂ n₂
-count_put n run h e₁ f₁ e₂ f₂ =
-    let l = length-to_le 4 n in
-    and_put run (did (to_le 4 n) e₁ f₁ (omega arith)) e₂ f₂ (omega arith)
 
 module _ (present cells : List ℕ) (k : ℕ) where
   inputs-bytes : to_le 4 (fix_count present + k) ++ flatten (fix_items 44 present) ++ flatten (span (picked cells) 0 k) ≡ fix_list (input_list present cells k)
@@ -129,18 +120,25 @@ module _ (present cells : List ℕ) (k : ℕ) where
     pub picks-few : Fits w32 k
     picks-few = record { fits = omega (arith, room.1, picked_eights cells k) }
 
-    module _ {run : List ℕ} (er : run ≡ flatten (fix_items 44 present)) where
-      pub present-room : at + 4 + length run ≤ length out
-      present-room = omega (arith, room.0, ap length er)
+    -- behind the count n and the present ones
+    module _ (n : ℕ) {run o₁ : List ℕ} {n₁ n₂ : ℕ} (er : run ≡ flatten (fix_items 44 present)) (e₁ : o₁ ≡ put_at out at (to_le 4 n)) (f₁ : n₁ ≡ put_end out at (to_le 4 n))
+        (f₂ : n₂ ≡ put_end o₁ n₁ run) where
+      front : {o₂ : List ℕ} → o₂ ≡ put_at o₁ n₁ run → Put out at (to_le 4 n ++ run) o₂ n₂
+      front e₂ =
+          let l = length-to_le 4 n in
+          let w = room.0 in
+          let r = ap length er in
+          and_put run (did (to_le 4 n) e₁ f₁ (omega arith)) e₂ f₂ (omega arith)
 
-      module _ (n : ℕ) {r : ℕ} {o : List ℕ} (p : Put out at (to_le 4 n ++ run) o r) where
-        pub picked-room : r + length (flatten (span (picked cells) 0 k)) ≤ length o
+      module _ {o₂ : List ℕ} (e₂ : o₂ ≡ put_at o₁ n₁ run) where
+        pub picked-room : n₂ + length (flatten (span (picked cells) 0 k)) ≤ length o₂
         picked-room =
+            let p = front e₂ in
             let z = length-append (to_le 4 n) run in
             omega (arith, room.0, ap length er, p.end, length-to_le 4 n, length-kept p)
 
-        pub inputs_put : {c : ℕ} {o₂ : List ℕ} {n₂ : ℕ} → c ≡ fix_count present → n ≡ (c + k) % 2 ^ 32 → Put o r (flatten (span (picked cells) 0 k)) o₂ n₂
-            → Put out at (fix_list (input_list present cells k)) o₂ n₂
+        pub inputs_put : {c : ℕ} {o₃ : List ℕ} {n₃ : ℕ} → c ≡ fix_count present → n ≡ (c + k) % 2 ^ 32 → Put o₂ n₂ (flatten (span (picked cells) 0 k)) o₃ n₃
+            → Put out at (fix_list (input_list present cells k)) o₃ n₃
         inputs_put {c} ec en q =
             let w : to_le 4 n ≡ to_le 4 (fix_count present + k) = ap (to_le 4) en ∙ wrapped (c + k) ∙ ap (λ (m : ℕ). to_le 4 (m + k)) ec in
-            as_bytes (rw (w, er) inputs-bytes) (then p q)
+            as_bytes (rw (w, er) inputs-bytes) (then (front e₂) q)

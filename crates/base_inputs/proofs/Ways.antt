@@ -2,6 +2,6 @@
 use Rattle.std.proofs.Common.{rules}
 use Rattle.list_writer.proofs.LoopLaws.{size_none}
 use Rattle.list_writer.proofs.AnswerLaws.{list_out, list_out-end, list_in_lem, list_in_end}
-use Rattle.base_inputs.proofs.InputLaws.{run_is, picked_more, picked_put, picked-end, write-start, turn_room, turn_more, turn_end, count_put, inputs_far, inputs_cap, inputs-room, picks-few, present-room, picked-room, inputs_put}
+use Rattle.base_inputs.proofs.InputLaws.{run_is, picked_more, picked_put, picked-end, write-start, turn_room, turn_more, turn_end, inputs_far, inputs_cap, inputs-room, picks-few, picked-room, inputs_put}
 
-pub ruleset ways = (rules, size_none, list_out, list_out-end, list_in_lem, list_in_end, run_is, picked_more, picked_put, picked-end, write-start, turn_room, turn_more, turn_end, count_put, inputs_far, inputs_cap, inputs-room, picks-few, present-room, picked-room, inputs_put)
+pub ruleset ways = (rules, size_none, list_out, list_out-end, list_in_lem, list_in_end, run_is, picked_more, picked_put, picked-end, write-start, turn_room, turn_more, turn_end, inputs_far, inputs_cap, inputs-room, picks-few, picked-room, inputs_put)

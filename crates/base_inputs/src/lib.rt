@@ -3,108 +3,105 @@
 // that was given.
 #![tactic(auto)]
 
-ghost use Rattle.std.specs.Prelude.{◌≡◌, ◌+◌, ◌≤◌, min, ◌++◌, length};
+ghost use Rattle.std.specs.Prelude.{◌≡◌, ◌+◌, ◌≤◌, min, length};
 ghost use mathlib.Core.List.{flatten};
-ghost use Rattle.arithmetic.specs.LittleEndian.{to_le};
-ghost use Rattle.molecule.specs.Layout.{span, fix_items};
+ghost use Rattle.molecule.specs.Layout.{span, item_of, fix_items};
 ghost use Rattle.molecule.specs.Write.{Put};
-ghost use Rattle.list_writer.specs.ListWriter.{fix_list, put_list, put_list_end};
+ghost use Rattle.transaction.specs.Tx.{first_of};
+ghost use Rattle.list_writer.specs.ListWriter.{put_list, put_list_end};
 ghost use Rattle.list_writer.specs.Around.{Room};
-ghost use Rattle.base_inputs.specs.BaseInputs.{picked, input_list, inputs_size};
+ghost use Rattle.base_inputs.specs.BaseInputs.{picked, inputs_size, inputs_bytes};
 
 use list_writer::{MAX_BYTES, capped, fits};
 use molecule::write;
 use transaction::fields;
 
-// The present inputs, one after the other: what follows their count.
-fn present_inputs(present: &[u8]) -> &[u8]
-    ensures { result.now ≡ flatten (fix_items 44 present.now) }
-{
-    let n = molecule::fix_count(present) as usize;
-    molecule::part(present, 4, 4 + 44 * n)
+// The inputs: those of the list `present`, then those of the first `taken` of `cells`.
+#[derive(Clone, Copy)]
+pub struct Inputs<'a> {
+    pub present: &'a [u8],
+    pub cells: &'a [u8],
+    pub taken: usize,
 }
 
-// How long the inputs of the first k cells are.
-fn picked_size(cells: &[u8], k: usize) -> usize
-    ensures { result ≡ min (length (flatten (span (picked cells.now) 0 k))) 133117 }
-{
-    let mut n: usize = 0;
-    let mut i: usize = 0;
-    while i < k {
-        let cell = molecule::item(cells, i);
-        let point = fields::token_cell_out_point(cell);
-        n = capped(n, 8);
-        n = capped(n, point.len());
-        i += 1;
+impl<'a> Inputs<'a> {
+    // The present ones, one after the other: what follows their count.
+    fn run(self) -> &'a [u8]
+        ensures { result.now ≡ flatten (fix_items 44 self.entry.present.now) }
+    {
+        let n = molecule::fix_count(self.present) as usize;
+        molecule::part(self.present, 4, 4 + 44 * n)
     }
-    n
-}
 
-// How long the inputs are. Each picked one has 8 bytes or more, so that more cells than fit a transaction are not looked at.
-pub fn inputs_size(present: &[u8], cells: &[u8], k: usize) -> usize
-    ensures { result ≡ min (length (fix_list (input_list present.now cells.now k))) 133117 }
-{
-    if k > MAX_BYTES / 8 {
-        return MAX_BYTES + 1;
+    // The out point of cell i.
+    fn point(self, i: usize) -> &'a [u8]
+        ensures { result.now ≡ first_of (item_of self.entry.cells.now i) }
+    {
+        fields::token_cell_out_point(molecule::item(self.cells, i))
     }
-    let run = present_inputs(present);
-    let n = capped(4, run.len());
-    capped(n, picked_size(cells, k))
-}
 
-// Puts the input of cell i.
-fn put_picked(out: &mut [u8], at: usize, cells: &[u8], i: usize) -> usize
-    requires { at + length (picked cells.now i) ≤ length out.old }
-    ensures { Put out.old at (picked cells.now i) out.new result }
-{
-    let cell = molecule::item(cells, i);
-    let point = fields::token_cell_out_point(cell);
-    let at = write::put_u64(out, at, 0);
-    write::put(out, at, point)
-}
-
-// Puts the inputs of the first k cells.
-fn put_all_picked(out: &mut [u8], at: usize, cells: &[u8], k: usize) -> usize
-    requires { at + length (flatten (span (picked cells.now) 0 k)) ≤ length out.old }
-    ensures { Put out.old at (flatten (span (picked cells.now) 0 k)) out.new result }
-{
-    let mut next = at;
-    let mut i: usize = 0;
-    while i < k {
-        next = put_picked(out, next, cells, i);
-        i += 1;
+    // How long the picked ones are.
+    fn picked_len(self) -> usize
+        ensures { result ≡ min (length (flatten (span (picked self.entry.cells.now) 0 self.entry.taken))) 133117 }
+    {
+        let mut n = 0;
+        for i in 0..self.taken {
+            n = capped(n, 8);
+            n = capped(n, self.point(i).len());
+        }
+        n
     }
-    next
-}
 
-// Puts the count of the inputs and the present ones.
-fn put_present(out: &mut [u8], at: usize, n: u32, run: &[u8]) -> usize
-    requires { at + 4 + length run.now ≤ length out.old }
-    ensures { Put out.old at (to_le 4 n ++ run.now) out.new result }
-{
-    let at = write::put_u32(out, at, n);
-    write::put(out, at, run)
-}
-
-// Puts the inputs where they fit. Their count is modulo 2^32, as four bytes hold it.
-fn put_whole(out: &mut [u8], at: usize, present: &[u8], cells: &[u8], k: usize) -> usize
-    requires { Room out.old at (inputs_size present.now cells.now k) }
-    ensures { Put out.old at (fix_list (input_list present.now cells.now k)) out.new result }
-{
-    let n = std::num::wrapping_add_u32(molecule::fix_count(present), k as u32);
-    let run = present_inputs(present);
-    let at = put_present(out, at, n, run);
-    put_all_picked(out, at, cells, k)
-}
-
-// Puts the inputs: those of `present`, then those of the first k of `cells`.
-pub fn put_inputs(out: &mut [u8], at: usize, present: &[u8], cells: &[u8], k: usize) -> usize
-    ensures out_after { out.new ≡ put_list out.old at (fix_list (input_list present.now cells.now k)) }
-    ensures value { result ≡ put_list_end out.old at (fix_list (input_list present.now cells.now k)) }
-{
-    let n = inputs_size(present, cells, k);
-    if !fits(n, at, out.len()) {
-        return at;
+    // How long the inputs are. Each picked one has 8 bytes or more, so that more cells than fit a transaction are not looked at.
+    pub fn len(self) -> usize
+        ensures { result ≡ min (length (inputs_bytes self.entry)) 133117 }
+    {
+        if self.taken > MAX_BYTES / 8 {
+            return MAX_BYTES + 1;
+        }
+        capped(capped(4, self.run().len()), self.picked_len())
     }
-    put_whole(out, at, present, cells, k)
+
+    // Puts the input of cell i.
+    fn put_one(self, out: &mut [u8], at: usize, i: usize) -> usize
+        requires { at + length (picked self.cells.now i) ≤ length out.old }
+        ensures { Put out.old at (picked self.entry.cells.now i) out.new result }
+    {
+        let at = write::put_u64(out, at, 0);
+        write::put(out, at, self.point(i))
+    }
+
+    // Puts the picked ones.
+    fn put_picked(self, out: &mut [u8], at: usize) -> usize
+        requires { at + length (flatten (span (picked self.cells.now) 0 self.taken)) ≤ length out.old }
+        ensures { Put out.old at (flatten (span (picked self.entry.cells.now) 0 self.entry.taken)) out.new result }
+    {
+        let mut next = at;
+        for i in 0..self.taken {
+            next = self.put_one(out, next, i);
+        }
+        next
+    }
+
+    // Puts the inputs where they fit. Their count is modulo 2^32, as four bytes hold it.
+    fn put_whole(self, out: &mut [u8], at: usize) -> usize
+        requires { Room out.old at (inputs_size self.present.now self.cells.now self.taken) }
+        ensures { Put out.old at (inputs_bytes self.entry) out.new result }
+    {
+        let n = molecule::fix_count(self.present).wrapping_add(self.taken as u32);
+        let at = write::put_u32(out, at, n);
+        let at = write::put(out, at, self.run());
+        self.put_picked(out, at)
+    }
+
+    // Puts the inputs.
+    pub fn put(self, out: &mut [u8], at: usize) -> usize
+        ensures out_after { out.new ≡ put_list out.old at (inputs_bytes self.entry) }
+        ensures value { result ≡ put_list_end out.old at (inputs_bytes self.entry) }
+    {
+        if !fits(self.len(), at, out.len()) {
+            return at;
+        }
+        self.put_whole(out, at)
+    }
 }

@@ -1,38 +1,32 @@
 -- The outputs of a base transaction, sized and written.
+use Rattle.std.proofs.Common.{nat_eq}
 use mathlib.Core.Path.{◌≡◌, refl, sym, ap, ap₂, ◌∙◌}
-use Prim.Native.Nat.{ℕ, ◌+◌, ◌<◌, min}
+use Prim.Native.Nat.{ℕ, ◌+◌, min}
 use mathlib.Core.Bool.{Bool, true, false}
 use mathlib.Core.List.{List, [], ◌++◌}
-use native.Mathlib.Omega.{arith}
 use borrow.Author.Tests.{eqb-true, eqb-false}
 use lib.ListN.{length}
-use Rattle.arithmetic.specs.Amount.{is_zero}
 use Rattle.units.specs.{declared.Shannons.Shannons, Units.shannon_count}
 use Rattle.molecule.specs.Items.{join}
 use Rattle.list_writer.specs.ListWriter.{if_positive, put_list, put_list_end}
 use Rattle.list_writer.specs.Around.{around, list_size}
 use Rattle.list_writer.proofs.HeadLaws.{positive, around-length}
-use Rattle.list_writer.proofs.AnswerLaws.{capped_list, too_long_lem, too_long-end}
+use Rattle.list_writer.proofs.AnswerLaws.{capped_list}
 use Rattle.cell_output.specs.CellOutput.{cell_output, output_head}
-use Rattle.cell_output.proofs.CellOutputLaws.{output-length, runs}
+use Rattle.cell_output.proofs.CellOutputLaws.{output-length, output_is}
 use Rattle.base_lists.specs.BaseLists.{output_list}
 
 -- ---- how long
 
-pub cell_cap : (m n : ℕ) {a r : ℕ} → a ≡ min (24 + m) 133117 → r ≡ min (a + n) 133117 → r ≡ min (24 + m + n) 133117
-cell_cap m n e f = omega arith
-
 -- whether there is a change
-module _ (c : Shannons) {z : Bool} (ez : z ≡ is_zero c.0) where
+module _ (c : Shannons) {z : Bool} (ez : z ≡ nat_eq c.0 0) where
   is_none : z ≡ true → shannon_count c ≡ 0
-  unfolding is_zero shannon_count
   is_none h = eqb-true _ _ (sym ez ∙ h)
 
   is_some : z ≡ false → shannon_count c ≡ 0 → ⊥
-  unfolding is_zero shannon_count
   is_some h = eqb-false _ _ (sym ez ∙ h)
 
-module _ (change : Shannons) (source udt : List ℕ) {z : Bool} (ez : z ≡ is_zero change.0) where
+module _ (change : Shannons) (source udt : List ℕ) {z : Bool} (ez : z ≡ nat_eq change.0 0) where
   abbrev output : List ℕ
   output = cell_output (shannon_count change) source udt
 
@@ -64,65 +58,35 @@ module _ (capacity : ℕ) (lock udt present : List ℕ) (k change : ℕ) (source
 
 -- ---- written
 
-module _ (capacity : ℕ) (lock udt present : List ℕ) (k change : ℕ) (source out : List ℕ) (at : ℕ) where
-  abbrev all : List ℕ
-  all = join (output_list capacity lock udt present k change source)
-
-  module _ {n : ℕ} (e : n ≡ min (24 + length lock + length udt) 133117) (h : 133116 < n) where
-    first-long : 133116 < length all
-    first-long = omega (arith, outputs-length capacity lock udt present k change source)
-
-    pub first_out : out ≡ put_list out at all
-    first_out = too_long_lem out at all first-long
-
-    pub first-out-end : at ≡ put_list_end out at all
-    first-out-end = too_long-end out at all first-long
-
-module _ (capacity : ℕ) (lock udt present : List ℕ) (k : ℕ) (change : Shannons) (source out : List ℕ) (at : ℕ) {z : Bool} (ez : z ≡ is_zero change.0) where
+module _ (capacity : ℕ) (lock udt present : List ℕ) (k : ℕ) (change : Shannons) (source out : List ℕ) (at : ℕ) {z : Bool} (ez : z ≡ nat_eq change.0 0) {head : List ℕ}
+    (eh : head ≡ output_head capacity (length lock) (length udt)) where
   abbrev back : ℕ
   back = shannon_count change
 
-  abbrev whole : List ℕ
-  whole = join (output_list capacity lock udt present k back source)
+  abbrev all : List ℕ
+  all = join (output_list capacity lock udt present k back source)
 
-  module _ {n : ℕ} (some : z ≡ false) (e : n ≡ min (24 + length source + length udt) 133117) (h : 133116 < n) where
-    last_long : 133116 < length whole
-    last_long =
-        let y = ap length (positive back (cell_output back source udt) (is_some change ez some)) in
-        omega (arith, outputs-length capacity lock udt present k back source, output-length back source udt)
+  module _ (none : z ≡ true) where
+    alone : around (head ++ (lock ++ (udt ++ []))) present k [] ≡ all
+    unfolding if_positive
+    alone =
+        let y : [] ≡ if_positive back (cell_output back source udt) = rw (is_none change ez none) refl in
+        ap₂ (λ (a l : List ℕ). around a present k l) (output_is capacity lock udt eh) y ∙ sym (outputs-around capacity lock udt present k back source)
 
-    pub last_out : out ≡ put_list out at whole
-    last_out = too_long_lem out at whole last_long
+    pub cells_put : {after : List ℕ} → after ≡ put_list out at (around (head ++ (lock ++ (udt ++ []))) present k []) → after ≡ put_list out at all
+    cells_put p = p ∙ ap (put_list out at) alone
 
-    pub last_out-end : at ≡ put_list_end out at whole
-    last_out-end = too_long-end out at whole last_long
+    pub cells-end : {next : ℕ} → next ≡ put_list_end out at (around (head ++ (lock ++ (udt ++ []))) present k []) → next ≡ put_list_end out at all
+    cells-end p = p ∙ ap (put_list_end out at) alone
 
-  module _ {head : List ℕ} (eh : head ≡ output_head capacity (length lock) (length udt)) where
-    first-is : head ++ lock ++ udt ≡ cell_output capacity lock udt
-    first-is = rw eh (runs capacity lock udt)
+  module _ (some : z ≡ false) {tail : List ℕ} (et : tail ≡ output_head back (length source) (length udt)) where
+    with_change_lem : around (head ++ (lock ++ (udt ++ []))) present k (tail ++ (source ++ (udt ++ []))) ≡ all
+    with_change_lem =
+        let y = output_is back source udt et ∙ sym (positive back (cell_output back source udt) (is_some change ez some)) in
+        ap₂ (λ (a l : List ℕ). around a present k l) (output_is capacity lock udt eh) y ∙ sym (outputs-around capacity lock udt present k back source)
 
-    module _ (none : z ≡ true) where
-      alone : around (head ++ lock ++ udt) present k [] ≡ whole
-      unfolding if_positive
-      alone =
-          let y : [] ≡ if_positive back (cell_output back source udt) = rw (is_none change ez none) refl in
-          ap₂ (λ (a l : List ℕ). around a present k l) first-is y ∙ sym (outputs-around capacity lock udt present k back source)
+    pub change_put : {after : List ℕ} → after ≡ put_list out at (around (head ++ (lock ++ (udt ++ []))) present k (tail ++ (source ++ (udt ++ [])))) → after ≡ put_list out at all
+    change_put p = p ∙ ap (put_list out at) with_change_lem
 
-      pub cells_put : {after : List ℕ} → after ≡ put_list out at (around (head ++ lock ++ udt) present k []) → after ≡ put_list out at whole
-      cells_put p = p ∙ ap (put_list out at) alone
-
-      pub cells-end : {next : ℕ} → next ≡ put_list_end out at (around (head ++ lock ++ udt) present k []) → next ≡ put_list_end out at whole
-      cells-end p = p ∙ ap (put_list_end out at) alone
-
-    module _ (some : z ≡ false) {tail : List ℕ} (et : tail ≡ output_head back (length source) (length udt)) where
-      with_change_lem : around (head ++ lock ++ udt) present k (tail ++ source ++ udt) ≡ whole
-      with_change_lem =
-          let y : tail ++ source ++ udt ≡ if_positive back (cell_output back source udt) =
-          rw et (runs back source udt) ∙ sym (positive back (cell_output back source udt) (is_some change ez some)) in
-          ap₂ (λ (a l : List ℕ). around a present k l) first-is y ∙ sym (outputs-around capacity lock udt present k back source)
-
-      pub change_put : {after : List ℕ} → after ≡ put_list out at (around (head ++ lock ++ udt) present k (tail ++ source ++ udt)) → after ≡ put_list out at whole
-      change_put p = p ∙ ap (put_list out at) with_change_lem
-
-      pub change-end : {next : ℕ} → next ≡ put_list_end out at (around (head ++ lock ++ udt) present k (tail ++ source ++ udt)) → next ≡ put_list_end out at whole
-      change-end p = p ∙ ap (put_list_end out at) with_change_lem
+    pub change-end : {next : ℕ} → next ≡ put_list_end out at (around (head ++ (lock ++ (udt ++ []))) present k (tail ++ (source ++ (udt ++ [])))) → next ≡ put_list_end out at all
+    change-end p = p ∙ ap (put_list_end out at) with_change_lem

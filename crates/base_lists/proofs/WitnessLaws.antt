@@ -1,13 +1,12 @@
 -- The witnesses of a base transaction, sized and written.
 use mathlib.Core.Path.{◌≡◌, refl, sym, ap, ap₂, ◌∙◌}
-use Prim.Native.Nat.{ℕ, zero, suc, ◌-◌, ◌≤◌, ◌<◌, min}
-use mathlib.Core.Bool.{Bool, true, false, not, cond, and-false}
+use Prim.Native.Nat.{ℕ, zero, suc, min}
 use mathlib.Core.List.{List, [], ◌∷◌, ◌++◌, flatten, append-nil}
 use native.Mathlib.Omega.{arith}
-use borrow.Author.Tests.{lt-ltb, le-ltb, ltb-true, not-true, not-false}
-use lib.Dec.{ltb}
-use lib.ListN.{length, take, replicate}
-use lib.Seq.{take_all}
+use borrow.Author.Tests.{le-ltb}
+use Rattle.std.specs.Prelude.{Some, None}
+use Rattle.std.proofs.lemmas.Bool.Decides.{nat_tests}
+use lib.ListN.{length, replicate}
 use Rattle.arithmetic.specs.LittleEndian.{to_le, num_at}
 use Rattle.molecule.specs.Items.{join, unwords, offsets}
 use Rattle.molecule.specs.Layout.{span, word, item_count}
@@ -15,7 +14,7 @@ use Rattle.list_writer.specs.ListWriter.{bytes_item, item_or, later, if_any, put
 use Rattle.list_writer.specs.Around.{around, list_size}
 use Rattle.list_writer.proofs.HeadLaws.{around-length}
 use Rattle.base_lists.specs.BaseLists.{placeholder, witness_list}
-use Rattle.base_lists.specs.Parts.{both_above}
+use Rattle.base_lists.specs.Parts.{between}
 
 -- the constant of the code
 pub mark_bytes : 85 ∷ 0 ∷ 0 ∷ 0 ∷ 85 ∷ 0 ∷ 0 ∷ 0 ∷ 16 ∷ 0 ∷ 0 ∷ 0 ∷ 85 ∷ 0 ∷ 0 ∷ 0 ∷ 85 ∷ 0 ∷ 0 ∷ 0 ∷ 65 ∷ 0 ∷ 0 ∷ 0 ∷ replicate 65 0 ≡ placeholder
@@ -26,24 +25,6 @@ mark_bytes = refl
 mark_length : length placeholder ≡ 89
 unfolding placeholder bytes_item join unwords offsets flatten to_le
 mark_length = refl
-
--- ---- inputs picked behind present ones
-
-module _ (m q : ℕ) where
-  pub behind-none : m ≡ 0 → false ≡ both_above m q
-  unfolding both_above
-  behind-none e = rw e refl
-
-  pub behind_no_pick : q ≡ 0 → false ≡ both_above m q
-  unfolding both_above
-  behind_no_pick e = rw e (sym (and-false (ltb 0 m)))
-
-  pub behind_yes : (m ≡ 0 → ⊥) → (q ≡ 0 → ⊥) → true ≡ both_above m q
-  unfolding both_above
-  behind_yes h k =
-      let a : 0 < m = omega (arith, h) in
-      let b : 0 < q = omega (arith, k) in
-      rw (lt-ltb 0 m a, lt-ltb 0 q b)
 
 -- ---- the list: empty witnesses are the later items of no bytes
 
@@ -66,62 +47,60 @@ two_marks : (n : ℕ) → join (placeholder ∷ replicate n (bytes_item []) ++ (
 unfolding around later
 two_marks n = ap₂ (λ (xs ys : List (List ℕ)). join (placeholder ∷ xs ++ ys)) (sym (empty-items 1 n)) (sym mark_any)
 
-one_mark : (m q : ℕ) → both_above m q ≡ false → join (witness_list m q) ≡ around placeholder [] 0 []
-unfolding witness_list around later if_any span both_above
+between_none : (n : ℕ) → between n 0 ≡ None
+unfolding between
+between_none n = grind (arith, nat_tests)
+
+between_some : (n q : ℕ) → between (suc n) (suc q) ≡ Some n
+unfolding between
+between_some n q = grind (arith, nat_tests)
+
+one_mark : (m q : ℕ) → None ≡ between m q → join (witness_list m q) ≡ around placeholder [] 0 []
+unfolding witness_list around later if_any span
 one_mark zero q h = refl
 one_mark (suc n) zero h = refl
-one_mark (suc n) (suc q) h =
-    let z : ◌≡◌ {A = ℕ} 0 1 = ap (λ (b : Bool). cond b 0 1) (behind_yes (suc n) (suc q) (λ e. omega arith) (λ e. omega arith) ∙ h) in
-    absurd (omega arith)
+one_mark (suc n) (suc q) h = cc (between_some n q)
 
-second_mark : (m q : ℕ) → both_above m q ≡ true → join (witness_list m q) ≡ around placeholder [] (m - 1) placeholder
-unfolding witness_list both_above
-second_mark zero q h = let z : 0 < 0 = ltb-true 0 0 h in absurd (omega arith)
-second_mark (suc n) zero h =
-    let z : ◌≡◌ {A = ℕ} 1 0 = ap (λ (b : Bool). cond b 0 1) (behind_no_pick (suc n) 0 refl ∙ h) in
-    absurd (omega arith)
-second_mark (suc n) (suc q) h = let e : n ≡ suc n - 1 = omega arith in two_marks n ∙ ap (λ (k : ℕ). around placeholder [] k placeholder) e
+second_mark : (m q k : ℕ) → Some k ≡ between m q → join (witness_list m q) ≡ around placeholder [] k placeholder
+unfolding witness_list
+second_mark zero q k h = let e : between zero q ≡ None = unfold between in refl in cc
+second_mark (suc n) zero k h = cc (between_none (suc n))
+second_mark (suc n) (suc q) k h = let e : n ≡ k = cc (between_some n q) in rw e (two_marks k)
 
 -- ---- sized and written
 
-module _ (m q : ℕ) {b : Bool} (e : b ≡ both_above m q) where
-  one : not b ≡ true → join (witness_list m q) ≡ around placeholder [] 0 []
-  one h = one_mark m q (sym e ∙ not-true b h)
+module _ (m q : ℕ) where
+  abbrev whole : List ℕ
+  whole = join (witness_list m q)
 
-  one-length : not b ≡ true → length (join (witness_list m q)) ≡ list_size 89 [] 0 0
-  one-length h = ap length (one h) ∙ around-length placeholder [] 0 [] ∙ ap (λ (n : ℕ). list_size n [] 0 0) mark_length
+  module _ (h : None ≡ between m q) where
+    pub one_cap : {r : ℕ} → r ≡ min (list_size 89 [] 0 0) 133117 → r ≡ min (length whole) 133117
+    one_cap e =
+        e ∙ ap (λ (n : ℕ). min n 133117)
+        (sym (ap length (one_mark m q h) ∙ around-length placeholder [] 0 [] ∙ ap (λ (n : ℕ). list_size n [] 0 0) mark_length))
 
-  two : not b ≡ false → join (witness_list m q) ≡ around placeholder [] (m - 1) placeholder
-  two h = second_mark m q (sym e ∙ not-false b h)
+    module _ (out : List ℕ) (at : ℕ) {mark : List ℕ} (em : mark ≡ placeholder) where
+      one : around (mark ++ []) [] 0 [] ≡ whole
+      one = ap (λ (l : List ℕ). around l [] 0 []) (append-nil mark ∙ em) ∙ sym (one_mark m q h)
 
-  two-length : not b ≡ false → length (join (witness_list m q)) ≡ list_size 89 [] (m - 1) 89
-  two-length h = ap length (two h) ∙ around-length placeholder [] (m - 1) placeholder ∙ ap (λ (n : ℕ). list_size n [] (m - 1) n) mark_length
+      pub one_put : {after : List ℕ} → after ≡ put_list out at (around (mark ++ []) [] 0 []) → after ≡ put_list out at whole
+      one_put e = e ∙ ap (put_list out at) one
 
-  pub one_cap : {r : ℕ} → not b ≡ true → r ≡ min (list_size 89 [] 0 0) 133117 → r ≡ min (length (join (witness_list m q))) 133117
-  one_cap h k = k ∙ ap (λ (n : ℕ). min n 133117) (sym (one-length h))
+      pub one_end : {next : ℕ} → next ≡ put_list_end out at (around (mark ++ []) [] 0 []) → next ≡ put_list_end out at whole
+      one_end e = e ∙ ap (put_list_end out at) one
 
-  pub two_cap : {k r : ℕ} → not b ≡ false → k ≡ m - 1 → r ≡ min (list_size 89 [] k 89) 133117 → r ≡ min (length (join (witness_list m q))) 133117
-  two_cap h ek e' = rw ek at e' ∙ ap (λ (n : ℕ). min n 133117) (sym (two-length h))
+  module _ {k : ℕ} (h : Some k ≡ between m q) where
+    pub two_cap : {r : ℕ} → r ≡ min (list_size 89 [] k 89) 133117 → r ≡ min (length whole) 133117
+    two_cap e =
+        e ∙ ap (λ (n : ℕ). min n 133117)
+        (sym (ap length (second_mark m q k h) ∙ around-length placeholder [] k placeholder ∙ ap (λ (n : ℕ). list_size n [] k n) mark_length))
 
-  module _ (out : List ℕ) (at : ℕ) {bytes : List ℕ} (eb : bytes ≡ placeholder) where
-    mark_is : take 89 bytes ≡ placeholder
-    mark_is = let l : length bytes ≤ 89 = omega (arith, ap length eb, mark_length) in take_all 89 bytes l ∙ eb
+    module _ (out : List ℕ) (at : ℕ) {mark : List ℕ} (em : mark ≡ placeholder) where
+      two : around (mark ++ []) [] k (mark ++ []) ≡ whole
+      two = ap (λ (l : List ℕ). around l [] k l) (append-nil mark ∙ em) ∙ sym (second_mark m q k h)
 
-    three : take 89 bytes ++ [] ++ [] ≡ placeholder
-    three = append-nil (take 89 bytes ++ []) ∙ append-nil (take 89 bytes) ∙ mark_is
+      pub two_put : {after : List ℕ} → after ≡ put_list out at (around (mark ++ []) [] k (mark ++ [])) → after ≡ put_list out at whole
+      two_put e = e ∙ ap (put_list out at) two
 
-    pub one_put : {after : List ℕ} → not b ≡ true → after ≡ put_list out at (around (take 89 bytes ++ [] ++ []) [] 0 []) → after ≡ put_list out at (join (witness_list m q))
-    one_put h p = p ∙ ap (put_list out at) (ap (λ (l : List ℕ). around l [] 0 []) three ∙ sym (one h))
-
-    pub one_end : {next : ℕ} → not b ≡ true → next ≡ put_list_end out at (around (take 89 bytes ++ [] ++ []) [] 0 []) → next ≡ put_list_end out at (join (witness_list m q))
-    one_end h p = p ∙ ap (put_list_end out at) (ap (λ (l : List ℕ). around l [] 0 []) three ∙ sym (one h))
-
-    module _ {k : ℕ} (h : not b ≡ false) (ek : k ≡ m - 1) where
-      both : around (take 89 bytes ++ [] ++ []) [] k (take 89 bytes ++ [] ++ []) ≡ join (witness_list m q)
-      both = ap₂ (λ (l : List ℕ) (n : ℕ). around l [] n l) three ek ∙ sym (two h)
-
-      pub two_put : {after : List ℕ} → after ≡ put_list out at (around (take 89 bytes ++ [] ++ []) [] k (take 89 bytes ++ [] ++ [])) → after ≡ put_list out at (join (witness_list m q))
-      two_put p = p ∙ ap (put_list out at) both
-
-      pub two-end : {next : ℕ} → next ≡ put_list_end out at (around (take 89 bytes ++ [] ++ []) [] k (take 89 bytes ++ [] ++ [])) → next ≡ put_list_end out at (join (witness_list m q))
-      two-end p = p ∙ ap (put_list_end out at) both
+      pub two-end : {next : ℕ} → next ≡ put_list_end out at (around (mark ++ []) [] k (mark ++ [])) → next ≡ put_list_end out at whole
+      two-end e = e ∙ ap (put_list_end out at) two

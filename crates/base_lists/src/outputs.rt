@@ -5,71 +5,71 @@ ghost use Rattle.molecule.specs.Items.{join};
 ghost use Rattle.list_writer.specs.ListWriter.{if_positive, put_list, put_list_end};
 ghost use Rattle.cell_output.specs.CellOutput.{cell_output};
 ghost use Rattle.base_lists.specs.BaseLists.{output_list};
+ghost use Rattle.base_lists.specs.Parts.{outputs_bytes};
 
 use cell_output::output_head;
-use list_writer::{MAX_BYTES, capped, list_size, put_list};
+use list_writer::{Later, capped, list_size, put_list};
 use units::Shannons;
 
 // How long a cell's output is.
-fn cell_size(lock: &[u8], udt: &[u8]) -> usize
+fn cell_len(lock: &[u8], udt: &[u8]) -> usize
     ensures { result ≡ min (24 + length lock.now + length udt.now) 133117 }
 {
-    let n = capped(24, lock.len());
-    capped(n, udt.len())
+    capped(capped(24, lock.len()), udt.len())
 }
 
-// How long the change's output is; a change without a capacity has none.
-fn change_size(change: Shannons, source: &[u8], udt: &[u8]) -> usize
-    ensures { result ≡ min (length (if_positive (shannon_count change) (cell_output (shannon_count change) source.now udt.now))) 133117 }
-{
-    if change.is_zero() {
-        return 0;
-    }
-    cell_size(source, udt)
+// The funding cell under `lock`, with the type `udt` and of this capacity; the later ones of the present transaction; and the change under the lock
+// `source`, unless its capacity is 0.
+#[derive(Clone, Copy)]
+pub struct Outputs<'a> {
+    pub capacity: Shannons,
+    pub lock: &'a [u8],
+    pub udt: &'a [u8],
+    pub present: Later<'a>,
+    pub change: Shannons,
+    pub source: &'a [u8],
 }
 
-// How long the outputs are, whatever the funding cell's capacity is.
-pub fn outputs_size(
-    lock: &[u8],
-    udt: &[u8],
-    present: &[u8],
-    k: usize,
-    change: Shannons,
-    source: &[u8],
-) -> usize
-    ensures { (n : ℕ) → result ≡ min (length (join (output_list n lock.now udt.now present.now k (shannon_count change) source.now))) 133117 }
-{
-    let first = cell_size(lock, udt);
-    let last = change_size(change, source, udt);
-    list_size(first, present, k, last)
-}
+impl Outputs<'_> {
+    // How long the change's output is; a change without a capacity has none.
+    fn change_len(self) -> usize
+        ensures { result ≡ min (length (if_positive (shannon_count self.entry.change) (cell_output (shannon_count self.entry.change) self.entry.source.now self.entry.udt.now))) 133117 }
+    {
+        if self.change == Shannons::ZERO {
+            0
+        } else {
+            cell_len(self.source, self.udt)
+        }
+    }
 
-// Puts the outputs: the funding cell, the k outputs of `present` after its first, and the change under the lock `source`, unless its capacity is 0.
-pub fn put_outputs(
-    out: &mut [u8],
-    at: usize,
-    capacity: Shannons,
-    lock: &[u8],
-    udt: &[u8],
-    present: &[u8],
-    k: usize,
-    change: Shannons,
-    source: &[u8],
-) -> usize
-    ensures out_after { out.new ≡ put_list out.old at (join (output_list (shannon_count capacity) lock.now udt.now present.now k (shannon_count change) source.now)) }
-    ensures value { result ≡ put_list_end out.old at (join (output_list (shannon_count capacity) lock.now udt.now present.now k (shannon_count change) source.now)) }
-{
-    if cell_size(lock, udt) > MAX_BYTES {
-        return at;
+    // How long the outputs are, whatever the funding cell's capacity is.
+    pub fn len(self) -> usize
+        ensures { (n : ℕ) → result ≡ min (length (join (output_list n self.entry.lock.now self.entry.udt.now self.entry.present.list.now self.entry.present.count (shannon_count self.entry.change) self.entry.source.now))) 133117 }
+    {
+        list_size(
+            cell_len(self.lock, self.udt),
+            self.present,
+            self.change_len(),
+        )
     }
-    let head = output_head(capacity, lock.len(), udt.len());
-    if change.is_zero() {
-        let none = &lock[0..0];
-        return put_list(out, at, &head, lock, udt, present, k, none, none, none);
+
+    // Puts them.
+    pub fn put(self, out: &mut [u8], at: usize) -> usize
+        ensures out_after { out.new ≡ put_list out.old at (outputs_bytes self.entry) }
+        ensures value { result ≡ put_list_end out.old at (outputs_bytes self.entry) }
+    {
+        let head = output_head(self.capacity, self.lock.len(), self.udt.len());
+        let cell = [&head, self.lock, self.udt];
+        if self.change == Shannons::ZERO {
+            return put_list(out, at, &cell, self.present, &[]);
+        }
+        let tail = output_head(self.change, self.source.len(), self.udt.len());
+        put_list(
+            out,
+            at,
+            &cell,
+            self.present,
+            &[&tail, self.source, self.udt],
+        )
     }
-    if cell_size(source, udt) > MAX_BYTES {
-        return at;
-    }
-    let last = output_head(change, source.len(), udt.len());
-    put_list(out, at, &head, lock, udt, present, k, &last, source, udt)
 }

@@ -1,12 +1,13 @@
 // The data of the outputs.
-ghost use Rattle.std.specs.Prelude.{◌≡◌, ℕ, min, cond, length};
+ghost use Rattle.std.specs.Prelude.{◌≡◌, ℕ, min, cond, length, is_some};
 ghost use Rattle.molecule.specs.Items.{join};
 ghost use Rattle.units.specs.Units.{token_count};
 ghost use Rattle.list_writer.specs.ListWriter.{if_positive, put_list, put_list_end};
 ghost use Rattle.list_writer.specs.Around.{around};
 ghost use Rattle.base_lists.specs.BaseLists.{amount_item, data_list};
+ghost use Rattle.base_lists.specs.Parts.{data_bytes};
 
-use list_writer::{list_size, put_list};
+use list_writer::{Later, list_size, put_list};
 use units::Tokens;
 
 // An amount as a cell's data: a length of 16, and so many bytes.
@@ -20,73 +21,62 @@ fn amount_item(t: Tokens) -> [u8; 20]
     ]
 }
 
-// How many bytes the funding cell's data has in the list.
-fn first_len(typed: bool) -> usize
-    ensures { result ≡ cond typed 20 4 }
-{
-    if typed {
-        return 20;
-    }
-    4
+// The funding cell's tokens, if it is typed, and else no data; the entries of the present transaction after its first, each empty where it is missing; and the change's
+// tokens, unless they are 0.
+#[derive(Clone, Copy)]
+pub struct OutputsData<'a> {
+    pub tokens: Option<Tokens>,
+    pub present: Later<'a>,
+    pub change: Tokens,
 }
 
-// How many the change's has; a change of 0 has none.
-fn change_len(change: Tokens) -> usize
-    ensures { result ≡ length (if_positive (token_count change) (amount_item (token_count change))) }
-{
-    if change.is_zero() {
-        return 0;
+impl OutputsData<'_> {
+    // How many bytes the funding cell's data has in the list.
+    fn first_len(self) -> usize
+        ensures { result ≡ cond (is_some self.entry.tokens) 20 4 }
+    {
+        if self.tokens.is_some() { 20 } else { 4 }
     }
-    20
-}
 
-// How long the list is, whatever the funding cell's tokens are.
-pub fn outputs_data_size(typed: bool, present: &[u8], k: usize, change: Tokens) -> usize
-    ensures { (tokens : ℕ) → result ≡ min (length (join (data_list typed tokens present.now k (token_count change)))) 133117 }
-{
-    let first = first_len(typed);
-    let last = change_len(change);
-    list_size(first, present, k, last)
-}
-
-// Puts the list behind its first item.
-fn put_behind(
-    out: &mut [u8],
-    at: usize,
-    first: &[u8],
-    present: &[u8],
-    k: usize,
-    change: Tokens,
-) -> usize
-    ensures out_after { out.new ≡ put_list out.old at (around first.now present.now k (if_positive (token_count change) (amount_item (token_count change)))) }
-    ensures value { result ≡ put_list_end out.old at (around first.now present.now k (if_positive (token_count change) (amount_item (token_count change)))) }
-{
-    let none = &first[0..0];
-    if change.is_zero() {
-        return put_list(out, at, first, none, none, present, k, none, none, none);
+    // How many the change's has; a change of 0 has none.
+    fn change_len(self) -> usize
+        ensures { result ≡ length (if_positive (token_count self.entry.change) (amount_item (token_count self.entry.change))) }
+    {
+        if self.change == Tokens::ZERO { 0 } else { 20 }
     }
-    let last = amount_item(change);
-    put_list(out, at, first, none, none, present, k, &last, none, none)
-}
 
-// Puts the data of the outputs: the funding cell's tokens, if it is typed; the k entries of `present` after its first, each empty where it is missing; the
-// change's tokens, unless they are 0.
-pub fn put_outputs_data(
-    out: &mut [u8],
-    at: usize,
-    typed: bool,
-    tokens: Tokens,
-    present: &[u8],
-    k: usize,
-    change: Tokens,
-) -> usize
-    ensures out_after { out.new ≡ put_list out.old at (join (data_list typed (token_count tokens) present.now k (token_count change))) }
-    ensures value { result ≡ put_list_end out.old at (join (data_list typed (token_count tokens) present.now k (token_count change))) }
-{
-    if !typed {
-        let first = [0u8, 0, 0, 0];
-        return put_behind(out, at, &first, present, k, change);
+    // How long the list is, whatever the funding cell's tokens are.
+    pub fn len(self) -> usize
+        ensures { (tokens : ℕ) → result ≡ min (length (join (data_list (is_some self.entry.tokens) tokens self.entry.present.list.now self.entry.present.count (token_count self.entry.change)))) 133117 }
+    {
+        list_size(self.first_len(), self.present, self.change_len())
     }
-    let first = amount_item(tokens);
-    put_behind(out, at, &first, present, k, change)
+
+    // Puts the list behind its first item.
+    fn put_behind(self, out: &mut [u8], at: usize, first: &[u8]) -> usize
+        ensures out_after { out.new ≡ put_list out.old at (around first.now self.entry.present.list.now self.entry.present.count (if_positive (token_count self.entry.change) (amount_item (token_count self.entry.change)))) }
+        ensures value { result ≡ put_list_end out.old at (around first.now self.entry.present.list.now self.entry.present.count (if_positive (token_count self.entry.change) (amount_item (token_count self.entry.change)))) }
+    {
+        if self.change == Tokens::ZERO {
+            return put_list(out, at, &[first], self.present, &[]);
+        }
+        put_list(
+            out,
+            at,
+            &[first],
+            self.present,
+            &[&amount_item(self.change)],
+        )
+    }
+
+    // Puts the list.
+    pub fn put(self, out: &mut [u8], at: usize) -> usize
+        ensures out_after { out.new ≡ put_list out.old at (data_bytes self.entry) }
+        ensures value { result ≡ put_list_end out.old at (data_bytes self.entry) }
+    {
+        match self.tokens {
+            Some(tokens) => self.put_behind(out, at, &amount_item(tokens)),
+            None => self.put_behind(out, at, &[0, 0, 0, 0]),
+        }
+    }
 }

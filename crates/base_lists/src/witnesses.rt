@@ -1,12 +1,10 @@
 // The witnesses: the placeholder of a signature for the first input, and for the first picked one behind present inputs.
-ghost use Rattle.std.specs.Prelude.{◌≡◌, ◌-◌, min, length};
-ghost use Rattle.molecule.specs.Items.{join};
+ghost use Rattle.std.specs.Prelude.{◌≡◌, min, length};
 ghost use Rattle.list_writer.specs.ListWriter.{put_list, put_list_end};
-ghost use Rattle.base_lists.specs.BaseLists.{placeholder, witness_list};
-ghost use Rattle.base_lists.specs.Parts.{both_above};
+ghost use Rattle.base_lists.specs.BaseLists.{placeholder};
+ghost use Rattle.base_lists.specs.Parts.{witness_bytes, between};
 
-use arithmetic::sizes;
-use list_writer::{list_size, put_list};
+use list_writer::{Later, list_size, put_list};
 
 // Six numbers (how long the witness args are, their size, three offsets, how long the lock is), and 65 zero bytes.
 const PLACEHOLDER: [u8; 89] = [
@@ -22,43 +20,60 @@ fn placeholder() -> [u8; 89]
     PLACEHOLDER
 }
 
-// Whether inputs are picked behind present ones.
-fn picked_behind(present: usize, picked: usize) -> bool
-    ensures { result ≡ both_above present picked }
-{
-    if present == 0 {
-        return false;
-    }
-    if picked == 0 {
-        return false;
-    }
-    true
+// By how many inputs are present and how many are picked.
+#[derive(Clone, Copy, Debug, PartialEq, Eq, Hash)]
+pub struct Witnesses {
+    pub present: usize,
+    pub picked: usize,
 }
 
-// How long the witnesses are, by how many inputs are present and how many are picked.
-pub fn witnesses_size(present: usize, picked: usize) -> usize
-    ensures { result ≡ min (length (join (witness_list present picked))) 133117 }
-{
-    let bytes = [0u8];
-    let none = &bytes[0..0];
-    if !picked_behind(present, picked) {
-        return list_size(89, none, 0, 0);
+impl Witnesses {
+    // How many empty witnesses stand between the two placeholders, where inputs are picked behind present ones. Else there is one placeholder.
+    #[tactic(auto, using(std::proofs::lemmas::Bool::Decides::nat_tests), unfolding(crate::specs::Parts::between))]
+    fn between(self) -> Option<usize>
+        ensures { result ≡ between self.present self.picked }
+    {
+        if self.present == 0 || self.picked == 0 {
+            return None;
+        }
+        Some(self.present - 1)
     }
-    let n = sizes::saturating_sub(present, 1);
-    list_size(89, none, n, 89)
-}
 
-// Puts the witnesses. Those between the two placeholders are empty, as the later items of no list are.
-pub fn put_witnesses(out: &mut [u8], at: usize, present: usize, picked: usize) -> usize
-    ensures out_after { out.new ≡ put_list out.old at (join (witness_list present picked)) }
-    ensures value { result ≡ put_list_end out.old at (join (witness_list present picked)) }
-{
-    let bytes = placeholder();
-    let mark = &bytes[0..89];
-    let none = &mark[0..0];
-    if !picked_behind(present, picked) {
-        return put_list(out, at, mark, none, none, none, 0, none, none, none);
+    // How long the witnesses are.
+    pub fn len(self) -> usize
+        ensures { result ≡ min (length (witness_bytes self)) 133117 }
+    {
+        match self.between() {
+            None => list_size(
+                89,
+                Later {
+                    list: &[],
+                    count: 0,
+                },
+                0,
+            ),
+            Some(count) => list_size(89, Later { list: &[], count }, 89),
+        }
     }
-    let empty = sizes::saturating_sub(present, 1);
-    put_list(out, at, mark, none, none, none, empty, mark, none, none)
+
+    // Puts the witnesses. Those between the two placeholders are empty, as the later items of no list are.
+    pub fn put(self, out: &mut [u8], at: usize) -> usize
+        ensures out_after { out.new ≡ put_list out.old at (witness_bytes self) }
+        ensures value { result ≡ put_list_end out.old at (witness_bytes self) }
+    {
+        let mark = placeholder();
+        match self.between() {
+            None => put_list(
+                out,
+                at,
+                &[&mark],
+                Later {
+                    list: &[],
+                    count: 0,
+                },
+                &[],
+            ),
+            Some(count) => put_list(out, at, &[&mark], Later { list: &[], count }, &[&mark]),
+        }
+    }
 }

@@ -1,4 +1,4 @@
 pub mod ListLaws
-pub mod FrontLaws
+pub mod PutLaws
 pub mod AnswerLaws
 pub mod Ways

@@ -1,7 +1,7 @@
 -- What closes the needs of this crate's functions: `search ways`.
 use borrow.Author.Rules.{rules}
-use Rattle.base_writer.proofs.ListLaws.{none-size, some_size, put_none, end_none, put_some, end-some, sized}
-use Rattle.base_writer.proofs.FrontLaws.{front_put, data_put, data_end, back_done}
-use Rattle.base_writer.proofs.AnswerLaws.{base_long, base_short, base_fits, base_written, base_front, base_back, base_put}
+use Rattle.base_writer.proofs.ListLaws.{data_made, sized}
+use Rattle.base_writer.proofs.PutLaws.{put_front, put_back, back_fits, put_both}
+use Rattle.base_writer.proofs.AnswerLaws.{base_refused, base_written, base_fits}
 
-pub ruleset ways = (rules, none-size, some_size, put_none, end_none, put_some, end-some, sized, front_put, data_put, data_end, back_done, base_long, base_short, base_fits, base_written, base_front, base_back, base_put)
+pub ruleset ways = (rules, data_made, sized, put_front, put_back, back_fits, put_both, base_refused, base_written, base_fits)

@@ -1,9 +1,9 @@
 -- What a call that writes a transaction answers, and what it leaves in the lent buffer (docs/RULES.md, "A peer's update arrives", row "writing", and above the table "Lent
 -- bytes beyond those written keep their value"; "The three demands", 1: after a refusal every lent output byte is as before).
-use Rattle.std.specs.Prelude.{ℕ, List, ◌++◌, length, drop}
+use Rattle.std.specs.Prelude.{ℕ, List, ◌++◌, length, drop, Result, Ok, Err}
 use Rattle.rules.specs.Outcome.{Outcome, fine, refused, check, ◌>>=◌, ◌>>◌}
 use Rattle.rules.specs.Told.{refusal}
-use Rattle.transaction_writer.specs.declared.Written.{Written}
+use Rattle.error.specs.declared.Refusal.{Refusal}
 use Rattle.transaction_writer.specs.Written.{fits}
 
 -- over the lent buffer or 133,116 bytes
@@ -23,6 +23,6 @@ abbrev pub written : Outcome (List ℕ) → List ℕ → Outcome ℕ × List ℕ
 written tx out = leaves (in_room out tx) out
 
 -- the number and figures of each answer
-abbrev pub told : Written → Outcome ℕ
-told (Written.Wrote n) = fine n
-told (Written.Refused e) = refusal e
+abbrev pub told : Result ℕ Refusal → Outcome ℕ
+told (Ok n) = fine n
+told (Err e) = refusal e

@@ -10,7 +10,9 @@ use Rattle.base_inputs.specs.BaseInputs.{input_list}
 use Rattle.base_lists.specs.BaseLists.{output_list, data_list, witness_list}
 use Rattle.list_writer.specs.ListWriter.{fix_list}
 use Rattle.cell_deps.specs.CellDeps.{deps_at}
-use Rattle.base_writer.specs.declared.{Plan.Plan, Sizes.Sizes}
+use Rattle.transaction_writer.specs.declared.Sizes.{Sizes}
+use Rattle.transaction_writer.specs.TxFields.{total}
+use Rattle.base_writer.specs.declared.Plan.{Plan}
 
 -- a list of sized items; the empty one where there are no bytes
 unfoldable pub or_empty : List ℕ → List ℕ
@@ -75,28 +77,21 @@ pub record Capped (z : Sizes) (x : Lists) : Type 0 where
   pub datas : z.datas ≡ min (length x.datas) 133117
   pub witnesses : z.witnesses ≡ min (length x.witnesses) 133117
 
-abbrev pub total : Sizes → ℕ
-total z = 44 + z.deps + z.headers + z.inputs + z.outputs + z.datas + z.witnesses
-
 -- the sizes are those of the lists, and there is room for all
 pub record Fitting (z : Sizes) (x : Lists) (out : List ℕ) : Type 0 where
   pub sizes : Capped z x
   pub low : total z ≤ 133116
   pub room : total z ≤ length out
 
--- there is room for the head and the first three lists a, b and c, of these sizes; for the last three
-pub record FrontFits (z : Sizes) (a b c out : List ℕ) : Type 0 where
-  pub deps : z.deps ≡ length a
-  pub headers : z.headers ≡ length b
-  pub inputs : z.inputs ≡ length c
-  pub low : total z ≤ 133116
-  pub room : total z ≤ length out
+-- there is room for the last three
+abbrev pub BackFits : ℕ → Lists → List ℕ → Type 0
+BackFits at x out =
+    (length x.outputs + length x.datas + length x.witnesses ≤ 133116)
+    × (at + length x.outputs + length x.datas + length x.witnesses ≤ length out)
 
-abbrev pub BackFits : ℕ → List ℕ → List ℕ → List ℕ → List ℕ → Type 0
-BackFits at d e f out = (length d + length e + length f ≤ 133116) × (at + length d + length e + length f ≤ length out)
+-- the head and the first three, and the last three
+unfoldable pub front : ℕ → Sizes → Lists → List ℕ
+front version z x = tx_head version z.deps z.headers z.inputs z.outputs z.datas z.witnesses ++ x.deps ++ x.headers ++ x.inputs
 
-unfoldable pub front : ℕ → Sizes → List ℕ → List ℕ → List ℕ → List ℕ
-front version z a b c = tx_head version z.deps z.headers z.inputs z.outputs z.datas z.witnesses ++ a ++ b ++ c
-
-unfoldable pub back : List ℕ → List ℕ → List ℕ → List ℕ
-back d e f = d ++ e ++ f
+unfoldable pub back : Lists → List ℕ
+back x = x.outputs ++ x.datas ++ x.witnesses

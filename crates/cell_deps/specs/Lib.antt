@@ -1,1 +1,2 @@
 pub mod CellDeps
+pub mod DepLists

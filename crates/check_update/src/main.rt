@@ -2,15 +2,17 @@
 // its values.
 #![tactic(auto)]
 
-const STDIN_FILENO: i32 = 0;
+use case_file::FILE_BYTES;
+use std::io;
+use std::io::{Read, Write};
+use verdict_line::LINE_BYTES;
 
-const STDOUT_FILENO: i32 = 1;
-
-fn main() {
+fn main(rt: HostRuntime) -> io::Result<()> {
     // one byte more than the longest case file, so that a longer one is seen to be too long
-    let mut file = [0u8; case_file::FILE_BYTES + 1];
-    let n = io::read_full(STDIN_FILENO, &mut file);
-    let mut line = [0u8; verdict_line::LINE_BYTES];
-    let length = case_file::check_case(&file[0..n], &mut line);
-    io::write_all(STDOUT_FILENO, &line[0..length]);
+    let most = FILE_BYTES as u64 + 1;
+    let mut file = Vec::new(rt.alloc());
+    rt.reader().take(most).read_to_end(&mut file)?;
+    let mut line = [0u8; LINE_BYTES];
+    let length = case_file::check_case(&file, &mut line);
+    io::writer(&rt).write_all(&line[..length])
 }

@@ -3,8 +3,7 @@ use mathlib.Core.Path.{◌≡◌, refl}
 use mathlib.Core.Bool.{Bool, true, false}
 use mathlib.Core.List.{[]}
 use Prim.Native.Nat.{ℕ, ◌-◌, ◌^◌}
-use Rattle.arithmetic.specs.Amount.{amount_of}
-use Rattle.units.specs.Units.{in_shannons, shannon_count}
+use Rattle.units.specs.Units.{in_shannons}
 use Rattle.rules.specs.Outcome.{Outcome, fine, refused, check, check_with, ◌>>=◌, ◌>>◌}
 use Rattle.rules.specs.Judge.{Figures}
 use Rattle.funding_cell.specs.declared.FundingRequest.{FundingRequest}
@@ -12,17 +11,17 @@ use Rattle.funding_cell.specs.FundingCell.{cell_of, cell_of_sums, funding_cell}
 
 abbrev request : ℕ → ℕ → ℕ → ℕ → FundingRequest
 request local localReserve remote remoteReserve = record {
-  local_amount = amount_of local;
-  local_reserved_ckb_amount = in_shannons (amount_of localReserve);
-  remote_amount = amount_of remote;
-  remote_reserved_ckb_amount = in_shannons (amount_of remoteReserve);
+  local_amount = local;
+  local_reserved_ckb_amount = in_shannons localReserve;
+  remote_amount = remote;
+  remote_reserved_ckb_amount = in_shannons remoteReserve;
 }
 
 abbrev cell : ℕ → ℕ → Outcome Figures
 cell capacity token = fine (record { capacity = capacity; token = token })
 
 unfoldable computing : Unit {0}
-unfolding check check_with ◌>>=◌ ◌>>◌ shannon_count cell_of cell_of_sums funding_cell
+unfolding check check_with ◌>>=◌ ◌>>◌ cell_of cell_of_sums funding_cell
 computing = tt
 
 -- untyped, a figure or a sum of 2^64 is too wide, and 2^64 - 1 is not

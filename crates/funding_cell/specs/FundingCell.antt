@@ -1,23 +1,24 @@
 -- The funding cell's figures (docs/RULES.md, "Our own side"): "Funding cell, untyped: local amount plus local reserve, each figure below 2^64, and, if the
 -- present transaction has outputs, remote amount plus remote reserve. Unfunded, the remote figures are unread. Typed: amounts sum in 128 bits as data,
 -- reserves sum as capacity."
-use Rattle.std.specs.Prelude.{ℕ, ◌+◌, ◌^◌, Bool, true, false, not, cond, List, ltb}
-use Rattle.arithmetic.specs.Amount.{value, halves, sum}
-use Rattle.units.specs.declared.CheckedShannons.{CheckedShannons}
-use Rattle.units.specs.Units.{in_shannons, shannon_count, token_count, checked_shannons}
+use Rattle.std.specs.Prelude.{ℕ, ◌+◌, ◌^◌, Bool, true, false, not, cond, List, ltb, Option, Result}
+use Rattle.std.specs.Option.{option_map}
+use Rattle.arithmetic.specs.Amount.{sum}
+use Rattle.units.specs.declared.Shannons.{Shannons}
+use Rattle.error.specs.declared.Refusal.{Refusal}
+use Rattle.units.specs.Units.{in_shannons, shannon_count, token_count}
 use Rattle.molecule.specs.Molecule.{readable, option}
 use Rattle.transaction.specs.Ckb.{Script}
 use Rattle.rules.specs.Outcome.{Outcome, fine, check, given, ◌>>=◌, ◌>>◌}
 use Rattle.rules.specs.Cells.{read_ours}
 use Rattle.rules.specs.Surplus.{is_empty}
 use Rattle.rules.specs.Judge.{Figures}
-use Rattle.rules.specs.Told.{refusal}
+use Rattle.rules.specs.Told.{told_by}
 use Rattle.funding_cell.specs.declared.{FundingRequest.FundingRequest, FundingCell.FundingCell}
 
--- the number and figures of each answer
-abbrev pub told : FundingCell → Outcome Figures
-told (FundingCell.Cell capacity token) = fine (record { capacity = shannon_count capacity; token = token_count token })
-told (FundingCell.Refused e) = refusal e
+-- the figures of an answer in numbers
+abbrev pub told : Result FundingCell Refusal → Outcome Figures
+told = told_by (λ c. record { capacity = shannon_count c.capacity; token = token_count c.token })
 
 -- a figure or sum too wide is 7 (where a sum is below 2^64, so is each figure)
 unfoldable pub cell_of : ℕ → ℕ → Outcome Figures
@@ -32,9 +33,9 @@ cell_of_sums typed amounts reserves = cond typed (cell_of reserves amounts) (cel
 
 -- by whether the present transaction has outputs; unfunded, the remote figures are unread
 unfoldable pub funding_cell : Bool → Bool → FundingRequest → Outcome Figures
-funding_cell false typed r = cell_of_sums typed (value r.local_amount) (shannon_count r.local_reserved_ckb_amount)
+funding_cell false typed r = cell_of_sums typed r.local_amount (shannon_count r.local_reserved_ckb_amount)
 funding_cell true typed r =
-    cell_of_sums typed (value r.local_amount + value r.remote_amount)
+    cell_of_sums typed (r.local_amount + r.remote_amount)
     (shannon_count r.local_reserved_ckb_amount + shannon_count r.remote_reserved_ckb_amount)
 
 unfoldable pub build_funding_cell : List ℕ → List ℕ → FundingRequest → Outcome Figures
@@ -53,10 +54,10 @@ counted true r = r
 counted false r = record {
   local_amount = r.local_amount;
   local_reserved_ckb_amount = r.local_reserved_ckb_amount;
-  remote_amount = halves 0 0;
-  remote_reserved_ckb_amount = in_shannons (halves 0 0);
+  remote_amount = 0;
+  remote_reserved_ckb_amount = in_shannons 0;
 }
 
 -- the sum of the reserves
-unfoldable pub reserves : FundingRequest → CheckedShannons
-reserves r = checked_shannons (sum r.local_reserved_ckb_amount.0 r.remote_reserved_ckb_amount.0)
+unfoldable pub reserves : FundingRequest → Option Shannons
+reserves r = option_map in_shannons (sum r.local_reserved_ckb_amount.0 r.remote_reserved_ckb_amount.0)

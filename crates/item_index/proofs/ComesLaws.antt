@@ -8,7 +8,7 @@ use borrow.Author.Tests.{ltb-true, ltb-false, le-ltb}
 use lib.Dec.{ltb}
 use Rattle.lists.specs.Lists.{eq_bytes}
 use Rattle.lists.proofs.EqualLaws.{eq_true}
-use Rattle.item_index.specs.declared.ordering.Order.{Order}
+use Rattle.std.specs.declared.cmp.Ordering.{Ordering}
 use Rattle.item_index.specs.Order.{is_before, order_of}
 use Rattle.item_index.specs.Index.{comes}
 use Rattle.item_index.proofs.OrderLaws.{before_not, before_trans, before_other, after_less, order_less, order-more, order_same}
@@ -65,17 +65,17 @@ module _ (f : ℕ → List ℕ) where
 
   -- ---- the ways out
 
-  module _ {p q : ℕ} {x y : List ℕ} (ex : x ≡ f p) (ey : y ≡ f q) {o : Order} (eo : o ≡ order_of x y) where
-    here : o ≡ order_of (f p) (f q)
-    here = eo ∙ ap₂ order_of ex ey
+  module _ {p q : ℕ} {x y : List ℕ} (ex : x ≡ f p) (ey : y ≡ f q) where
+    here : {o : Ordering} → o ≡ order_of x y → o ≡ order_of (f p) (f q)
+    here eo = eo ∙ ap₂ order_of ex ey
 
-    pub first_less : o ≡ Order.Before → true ≡ comes f p q
+    pub first_less : Ordering.Less ≡ order_of x y → true ≡ comes f p q
     unfolding comes
-    first_less e = sym (rw (order_less (f p) (f q) (sym e ∙ here)))
+    first_less e = sym (rw (order_less (f p) (f q) (here e)))
 
-    pub first_more : o ≡ Order.After → false ≡ comes f p q
-    first_more e = sym (late_item p q (order-more (f p) (f q) (sym e ∙ here)))
+    pub first_more : Ordering.Greater ≡ order_of x y → false ≡ comes f p q
+    first_more e = sym (late_item p q (order-more (f p) (f q) (here e)))
 
-    pub first-same : o ≡ Order.Same → {r : Bool} → r ≡ ltb p q → r ≡ comes f p q
+    pub first-same : Ordering.Equal ≡ order_of x y → {r : Bool} → r ≡ ltb p q → r ≡ comes f p q
     unfolding comes
-    first-same e h = h ∙ sym (rw (order_same (f p) (f q) (sym e ∙ here), before_not (f q)))
+    first-same e h = h ∙ sym (rw (order_same (f p) (f q) (here e), before_not (f q)))

@@ -1,88 +1,52 @@
 -- Looking up by halves.
 use mathlib.Core.Path.{◌≡◌, refl, sym, ap, ap₂, ◌∙◌}
-use Prim.Native.Nat.{ℕ, zero, suc, ◌+◌, ◌-◌, ◌/◌, ◌≤◌, ◌<◌}
+use Prim.Native.Nat.{ℕ, zero, suc, ◌+◌, ◌≤◌, ◌<◌}
 use mathlib.Core.Bool.{Bool, true, false, cond, false≢true}
-use mathlib.Core.List.{List}
+use mathlib.Core.List.{List, [], ◌∷◌}
 use native.Mathlib.Nat.{add-zero, zero-add}
 use native.Mathlib.Omega.{arith}
 use borrow.Author.Tests.{ltb-true, ltb-false, lt-ltb, le-ltb}
 use lib.Dec.{ltb}
-use lib.ListN.{length, get_or}
+use lib.ListN.{length, get_or, take}
+use Rattle.std.proofs.Common.{length-take-le, not}
+use Rattle.std.proofs.lemmas.List.{get_or-take}
+use Rattle.std.specs.Prelude.{Option, Some, None, Result, Ok, Err, unwrap_or}
+use Rattle.std.specs.declared.cmp.Ordering.{Ordering}
+use Rattle.std.specs.Ordering.{is_lt, ordering_index}
+use Rattle.std.specs.Result.{is_ok, MatchResult}
+use Rattle.std.specs.List.{position, position_or_len}
+use Rattle.std.specs.Borrow.{Bor}
+use Rattle.std.specs.Fn.{Mut, Called, ComputesKey}
+use Rattle.std.proofs.lemmas.Fn.{always_returns_same}
+use Rattle.std.proofs.lemmas.List.Sorted.{IsPartitionPoint-from_clause}
+use Rattle.std.specs.List.Sorted.{IsPartitionedBy, IsPartitionPoint, IsNonDecreasingBy, IsBinarySearchResult}
+use Rattle.std.proofs.lemmas.Grind.{get_or_default_zero}
 use Rattle.molecule.specs.Layout.{span}
+use Rattle.molecule.proofs.Offsets.{span-length}
 use Rattle.lists.specs.Lists.{eq_bytes, contains}
 use Rattle.lists.proofs.LoopLaws.{at_place}
 use Rattle.lists.proofs.EqualLaws.{not_so, eq_refl, eq_true}
-use Rattle.item_index.specs.declared.ordering.Order.{Order}
 use Rattle.item_index.specs.Order.{is_before, order_of}
-use Rattle.item_index.specs.Index.{Stands, Index, Lower, place_in}
-use Rattle.item_index.proofs.OrderLaws.{three, before_not, after_less, after_trans, before-later, before_earlier, before_differs, before_other, order_less, order-more, order_same}
+use Rattle.item_index.specs.Index.{Stands, Index, place_in}
+use Rattle.item_index.proofs.OrderLaws.{three, before_not, after_is, after_trans, before-later, before_earlier, before_differs, before_other, order_less, order-more, order_same}
 use Rattle.item_index.proofs.ComesLaws.{item_late, not_first}
-use Rattle.item_index.proofs.MergeLaws.{rises_on}
+use Rattle.item_index.proofs.MergeLaws.{rises_same, rises_on}
 
 -- from an item on, none that follows comes before it
 pub items-on : {f : ℕ → List ℕ} {s : List ℕ} {n : ℕ} → Index f n s → (i j : ℕ) → i ≤ j → j < n → is_before (f (get_or s j 0)) (f (get_or s i 0)) ≡ false
 items-on {f} {s} o i j p q = item_late f (get_or s j 0) (get_or s i 0) (rises_on o.order i j (omega arith) p q)
 
--- if s is the index, those below `low` come before x, those from `high` on do not
-pub record Halving (f : ℕ → List ℕ) (s : List ℕ) (n : ℕ) (x : List ℕ) (low high : ℕ) : Type 0 where
-  pub room : n ≤ length s
-  pub meet : low ≤ high
-  pub end : high ≤ n
-  pub below : Index f n s → (i : ℕ) → i < low → is_before (f (get_or s i 0)) x ≡ true
-  pub rest : Index f n s → (i : ℕ) → high ≤ i → i < n → is_before (f (get_or s i 0)) x ≡ false
-
-pub halve_start : (f : ℕ → List ℕ) (s : List ℕ) (n : ℕ) (x : List ℕ) → n ≤ length s → Halving f s n x 0 n
-halve_start f s n x r = record { room = r; meet = omega arith; end = omega arith; below = λ o i h. absurd (omega arith); rest = λ o i h l. absurd (omega arith) }
-
-module _ {f : ℕ → List ℕ} {s : List ℕ} {n : ℕ} {x : List ℕ} {low high : ℕ} (k : Halving f s n x low high) where
-  pub halve_end : high ≤ low → Lower f s n x low
-  halve_end h =
-      let m = k.meet in
-      let e = k.end in
-      record { within = omega arith; below = k.below; rest = λ o i p q. k.rest o i (omega arith) q }
-
-  module _ (h : low < high) where
-    pub halve_in : low + (high - low) / 2 < length s
-    halve_in =
-        let e = k.end in
-        let r = k.room in
-        omega arith
-
-    module _ {p : ℕ} (ep : p ≡ get_or s (low + (high - low) / 2) 0) {y : List ℕ} (ey : y ≡ f p) where
-      there : y ≡ f (get_or s (low + (high - low) / 2) 0)
-      there = ey ∙ ap f ep
-
-      up : is_before y x ≡ true → Halving f s n x (low + (high - low) / 2 + 1) high
-      up t =
-          let e = k.end in
-          record {
-            room = k.room;
-            meet = omega arith;
-            end = e;
-            below = λ o i l. before-later (f (get_or s i 0)) y x (ap (λ (w : List ℕ). is_before w (f (get_or s i 0))) there ∙ items-on o i (low + (high - low) / 2) (omega arith) (omega arith)) t;
-            rest = k.rest;
-          }
-
-      down : is_before y x ≡ false → Halving f s n x low (low + (high - low) / 2)
-      down t =
-          let e = k.end in
-          record {
-            room = k.room;
-            meet = omega arith;
-            end = omega arith;
-            below = k.below;
-            rest = λ o i l m. after_trans x y (f (get_or s i 0)) t (ap (is_before (f (get_or s i 0))) there ∙ items-on o (low + (high - low) / 2) i l m);
-          }
-
-      module _ {o : Order} (eo : o ≡ order_of y x) where
-        pub halve_up : o ≡ Order.Before → Halving f s n x (low + (high - low) / 2 + 1) high
-        halve_up t = up (order_less y x (sym t ∙ eo))
-
-        pub halve_same : o ≡ Order.Same → Halving f s n x low (low + (high - low) / 2)
-        halve_same t = down (ap (λ (w : List ℕ). is_before w x) (order_same y x (sym t ∙ eo)) ∙ before_not x)
-
-        pub halve_down : o ≡ Order.After → Halving f s n x low (low + (high - low) / 2)
-        halve_down t = down (after_less x y (order-more y x (sym t ∙ eo)))
+-- an index of the first n is one of these alone
+pub index_front : {f : ℕ → List ℕ} {s : List ℕ} {n : ℕ} → Index f n s → Index f (length (take n s)) (take n s)
+index_front {f} {s} {n} o = rw (length-take-le n s o.room) (record {
+  room = omega (arith, length-take-le n s o.room);
+  inside = λ j h. rw (at j h) (o.inside j h);
+  onto = λ i h. let w = o.onto i h in record { at = w.at; from = w.from; below = w.below; is = at w.at w.below ∙ w.is };
+  order = rises_same s (take n s) 0 n (λ i a b. at i b) o.order;
+})
+  where
+    at : (i : ℕ) → i < n → get_or (take n s) i 0 ≡ get_or s i 0
+    at i h = get_or-take n s i 0 h
 
 -- ---- where it stands
 
@@ -134,118 +98,181 @@ by_place {f} {s} {n} x o h i q = one (o.onto i q)
 low_differs : (x y : List ℕ) → is_before y x ≡ true → eq_bytes x y ≡ false
 low_differs x y t = eq_sym x y (before_differs y x t)
 
--- ---- the ways out
+-- ---- what the library's searches say of an index of a whole list
 
-module _ {f : ℕ → List ℕ} {s : List ℕ} {n : ℕ} {x : List ℕ} {at : ℕ} (k : Lower f s n x at) where
-  pub place_none : n ≤ at → Index f n s → n ≡ place_in x (span f 0 n)
-  place_none h o = sym (nowhere_there x f 0 n (λ i p q. by_place x o (λ a l. low_differs x (f (get_or s a 0)) (k.below o a (omega arith))) i (omega arith)))
+pub lt_is : (x y : List ℕ) → is_lt (order_of x y) ≡ is_before x y
+unfolding order_of
+lt_is x y = by (is_before x y) (is_before y x)
+  where
+    by : (b c : Bool) → is_lt (cond b Ordering.Less (cond c Ordering.Greater Ordering.Equal)) ≡ b
+    by true c = refl
+    by false true = refl
+    by false false = refl
 
-  module _ (h : at < n) {p : ℕ} (ep : p ≡ get_or s at 0) {y : List ℕ} (ey : y ≡ f p) {r : Bool} (er : r ≡ eq_bytes x y) where
+-- of y, and z that does not come before it
+ranked : (y z x : List ℕ) → is_before z y ≡ false → ordering_index (order_of y x) ≤ ordering_index (order_of z x)
+unfolding order_of
+ranked y z x h = by (is_before y x) refl (is_before x y) refl
+  where
+    more : is_before z x ≡ false → (c : Bool) → 1 ≤ ordering_index (cond false Ordering.Less (cond c Ordering.Greater Ordering.Equal))
+    more e true = omega arith
+    more e false = omega arith
+
+    by : (b : Bool) → is_before y x ≡ b → (c : Bool) → is_before x y ≡ c → ordering_index (cond b Ordering.Less (cond c Ordering.Greater Ordering.Equal)) ≤ ordering_index (order_of z x)
+    by true e c w = omega arith
+    by false e true w = rw (← after_is z x (before_earlier x y z w h)) (omega arith)
+    by false e false w = let t : is_before z x ≡ false = after_trans x y z e h in rw t (more t (is_before x z))
+
+module _ (f : ℕ → List ℕ) (s x : List ℕ) (o : Index f (length s) s) where
+  pub parted : IsPartitionedBy (λ p. is_lt (order_of (f p) x)) s
+  parted i j d h l t =
+      let ei : get_or s i d ≡ get_or s i 0 = get_or_default_zero s i d (omega arith) in
+      let ej : get_or s j d ≡ get_or s j 0 = get_or_default_zero s j d l in
+      let u : is_before (f (get_or s j 0)) x ≡ true = rw (ej, lt_is) at t in
+      rw (ei, lt_is) (before-later (f (get_or s i 0)) (f (get_or s j 0)) x (items-on o i j h l) u)
+
+  pub index_rises : IsNonDecreasingBy (λ p. ordering_index (order_of (f p) x)) s
+  index_rises i j d h l =
+      let ei : get_or s i d ≡ get_or s i 0 = get_or_default_zero s i d (omega arith) in
+      let ej : get_or s j d ≡ get_or s j 0 = get_or_default_zero s j d l in
+      rw (ei, ej) (ranked (f (get_or s i 0)) (f (get_or s j 0)) x (items-on o i j h l))
+
+  -- none of them is x
+  pub none_is : ((a : ℕ) → a < length s → eq_bytes x (f (get_or s a 0)) ≡ false) → false ≡ contains x (span f 0 (length s))
+  none_is each =
+      let n = length s in
+      sym (place-there x f 0 n ∙ ap (λ (v : ℕ). ltb v n) (nowhere_there x f 0 n (λ i p q. by_place x o each i (omega arith))) ∙ le-ltb n n (omega arith))
+
+  found : (r : Result ℕ ℕ) → MatchResult r (λ i. i < length s) (λ i. i ≤ length s) → IsBinarySearchResult (λ p. order_of (f p) x) s r → is_ok r ≡ contains x (span f 0 (length s))
+  found (Ok i) h k =
+      let n = length s in
+      let p : ℕ = get_or s i 0 in
+      sym (at_place x f p 0 n (o.inside i h)
+      (ap (λ (v : ℕ). eq_bytes x (f v)) (zero-add p) ∙ ap (eq_bytes x) (order_same (f p) x (sym (k 0))) ∙ eq_refl x))
+  found (Err i) h k = none_is (λ a l. three a i (λ w. low a w) (λ w. high a (omega arith) l) (λ w. high a (omega arith) l))
+    where
+      point : IsPartitionPoint (λ p. order_of (f p) x ≡ Ordering.Less) (λ p. order_of (f p) x ≡ Ordering.Greater) s i
+      point = k index_rises
+
+      low : (a : ℕ) → a < i → eq_bytes x (f (get_or s a 0)) ≡ false
+      low a w = low_differs x (f (get_or s a 0)) (order_less (f (get_or s a 0)) x (sym (point.0 a 0 (omega arith) w)))
+
+      high : (a : ℕ) → i ≤ a → a < length s → eq_bytes x (f (get_or s a 0)) ≡ false
+      high a w l = before_differs x (f (get_or s a 0)) (order-more (f (get_or s a 0)) x (sym (point.1 a 0 w l)))
+
+  -- r is what `binary_search_by` answers by a closure whose calls say which of an item and x comes first
+  pub search_is : {F : Type 0} {g : Mut F (Bor ℕ × Unit {0}) Ordering} {c : F} (r : Result ℕ ℕ) → ((q : ℕ → Ordering) → ComputesKey g q c → IsBinarySearchResult q s r)
+      → ((a : Bor ℕ × Unit {0}) (t : Ordering) (c' : F) → Called g c a t c' → (t ≡ order_of (f a.0.now) x) × (c' ≡ c))
+      → MatchResult r (λ i. i < length s) (λ i. i ≤ length s) → {b : Bool} → b ≡ is_ok r → b ≡ contains x (span f 0 (length s))
+  search_is {F} {g} {c} r clause calls h e = e ∙ found r h (clause (λ p. order_of (f p) x) (always_returns_same g (λ a t. t ≡ order_of (f a.0.now) x) c calls))
+
+-- ---- the first place
+
+place_len : (x : List ℕ) (l : List (List ℕ)) → position_or_len (eq_bytes x) l ≡ place_in x l
+unfolding place_in
+place_len x [] = refl
+place_len x (y ∷ l) = by (eq_bytes x y) (place_len x l)
+  where
+    by : (b : Bool) → position_or_len (eq_bytes x) l ≡ place_in x l → cond (not b) (1 + position_or_len (eq_bytes x) l) 0 ≡ cond b 0 (suc (place_in x l))
+    by true e = refl
+    by false e = omega arith
+
+place_most : (x : List ℕ) (l : List (List ℕ)) → place_in x l ≤ length l
+unfolding place_in
+place_most x [] = omega arith
+place_most x (y ∷ l) = by (eq_bytes x y) (place_most x l)
+  where
+    by : (b : Bool) → place_in x l ≤ length l → cond b 0 (suc (place_in x l)) ≤ suc (length l)
+    by true e = omega arith
+    by false e = omega arith
+
+position_none : (x : List ℕ) (f : ℕ → List ℕ) (n : ℕ) → n ≡ place_in x (span f 0 n) → None ≡ position (eq_bytes x) (span f 0 n)
+position_none x f n e = sym (rw (place_len, ← e, span-length f 0 n, le-ltb n n (omega arith)))
+
+position_some : (x : List ℕ) (f : ℕ → List ℕ) (n p : ℕ) → p < n → p ≡ place_in x (span f 0 n) → Some p ≡ position (eq_bytes x) (span f 0 n)
+position_some x f n p h e = sym (rw (place_len, ← e, span-length f 0 n, lt-ltb p n h))
+
+-- a place or none, and the place, or else how many there are
+pub place_of_position : (x : List ℕ) (l : List (List ℕ)) (n : ℕ) → length l ≡ n → unwrap_or (position (eq_bytes x) l) n ≡ place_in x l
+place_of_position x l n e = rw place_len (by (ltb (place_in x l) (length l)) refl)
+  where
+    by : (b : Bool) → ltb (place_in x l) (length l) ≡ b → unwrap_or (cond b (Some (place_in x l)) None) n ≡ place_in x l
+    by true w = refl
+    by false w = let h = ltb-false _ _ w in let m = place_most x l in omega arith
+
+-- at is what `partition_point` answers by a closure whose calls say whether an item comes before x
+module _ (f : ℕ → List ℕ) (s x : List ℕ) (o : Index f (length s) s) {at : ℕ} {F : Type 0} {g : Mut F (Bor ℕ × Unit {0}) Bool} {c : F}
+    (clause : (q : ℕ → Bool) → ComputesKey g q c → IsPartitionedBy q s → IsPartitionPoint (λ y. q y ≡ true) (λ y. q y ≡ false) s at)
+    (calls : (a : Bor ℕ × Unit {0}) (r : Bool) (c' : F) → Called g c a r c' → (r ≡ is_lt (order_of (f a.0.now) x)) × (c' ≡ c)) where
+  point : IsPartitionPoint (λ p. is_lt (order_of (f p) x) ≡ true) (λ p. is_lt (order_of (f p) x) ≡ false) s at
+  point = IsPartitionPoint-from_clause (λ p. is_lt (order_of (f p) x)) s at clause (parted f s x o) calls
+
+  below : (i : ℕ) → i < at → is_before (f (get_or s i 0)) x ≡ true
+  below i h = sym (lt_is (f (get_or s i 0)) x) ∙ point.0 i 0 (omega arith) h
+
+  rest : (i : ℕ) → at ≤ i → i < length s → is_before (f (get_or s i 0)) x ≡ false
+  rest i h l = sym (lt_is (f (get_or s i 0)) x) ∙ point.1 i 0 h l
+
+  pub place_none : at ≡ length s → None ≡ position (eq_bytes x) (span f 0 (length s))
+  place_none h = position_none x f (length s)
+      (sym (nowhere_there x f 0 (length s) (λ i p q. by_place x o (λ a l. low_differs x (f (get_or s a 0)) (below a (omega arith))) i (omega arith))))
+
+  module _ (h : at < length s) {y : List ℕ} (ey : y ≡ f (get_or s at 0)) {r : Bool} (er : r ≡ eq_bytes x y) where
     -- another item stands where x would
-    pub place_other : r ≡ false → Index f n s → n ≡ place_in x (span f 0 n)
-    place_other t o = sym (nowhere_there x f 0 n (λ i p q. by_place x o each i (omega arith)))
+    pub place_other : r ≡ false → None ≡ position (eq_bytes x) (span f 0 (length s))
+    place_other t = position_none x f (length s) (sym (nowhere_there x f 0 (length s) (λ i p q. by_place x o each i (omega arith))))
       where
         first : is_before x (f (get_or s at 0)) ≡ true
-        first = before_other x (f (get_or s at 0)) (k.rest o at (omega arith) h) (ap (eq_bytes x) (sym (ey ∙ ap f ep)) ∙ sym er ∙ t)
+        first = before_other x (f (get_or s at 0)) (rest at (omega arith) h) (ap (eq_bytes x) (sym ey) ∙ sym er ∙ t)
 
-        later : (a : ℕ) → at ≤ a → a < n → eq_bytes x (f (get_or s a 0)) ≡ false
+        later : (a : ℕ) → at ≤ a → a < length s → eq_bytes x (f (get_or s a 0)) ≡ false
         later a p l = before_differs x (f (get_or s a 0)) (before_earlier x (f (get_or s at 0)) (f (get_or s a 0)) first (items-on o at a p l))
 
-        each : (a : ℕ) → a < n → eq_bytes x (f (get_or s a 0)) ≡ false
+        each : (a : ℕ) → a < length s → eq_bytes x (f (get_or s a 0)) ≡ false
         each a l = three a at
-            (λ w. low_differs x (f (get_or s a 0)) (k.below o a w))
+            (λ w. low_differs x (f (get_or s a 0)) (below a w))
             (λ w. later a (omega arith) l)
             (λ w. later a (omega arith) l)
 
     -- x itself, and of all places that have it the smallest
-    pub place_here : r ≡ true → Index f n s → p ≡ place_in x (span f 0 n)
-    place_here t o = sym (sym (add-zero (place_in x (span f 0 n))) ∙ first-there x f 0 n p (omega arith) inside before equal)
+    pub place_here : r ≡ true → Some (get_or s at 0) ≡ position (eq_bytes x) (span f 0 (length s))
+    place_here t = position_some x f (length s) p (omega arith) (sym (sym (add-zero (place_in x (span f 0 (length s)))) ∙ first-there x f 0 (length s) p (omega arith) (omega arith) before equal))
       where
-        equal : eq_bytes x (f p) ≡ true
+        p : ℕ
+        p = get_or s at 0
+
+        inside : get_or s at 0 < length s
+        inside = o.inside at h
+
+        equal : eq_bytes x (f (get_or s at 0)) ≡ true
         equal = ap (eq_bytes x) (sym ey) ∙ sym er ∙ t
 
-        inside : p < 0 + n
-        inside = let l = o.inside at h in omega arith
-
         -- an equal item at a smaller place would stand before it in the index
-        smaller : (a : ℕ) → a < p → Stands a s 0 n → eq_bytes x (f a) ≡ true → ⊥
+        smaller : (a : ℕ) → a < get_or s at 0 → Stands a s 0 (length s) → eq_bytes x (f a) ≡ true → ⊥
         smaller a l w e = three w.at at
-            (λ m. false≢true (sym (low_differs x (f (get_or s w.at 0)) (k.below o w.at m)) ∙ ap (λ (v : ℕ). eq_bytes x (f v)) w.is ∙ e))
-            (λ m. let q = ep ∙ ap (λ (v : ℕ). get_or s v 0) (sym m) ∙ w.is in omega arith)
+            (λ m. false≢true (sym (low_differs x (f (get_or s w.at 0)) (below w.at m)) ∙ ap (λ (v : ℕ). eq_bytes x (f v)) w.is ∙ e))
+            (λ m. let q = ap (λ (v : ℕ). get_or s v 0) (sym m) ∙ w.is in omega arith)
             (λ m. not_first f (get_or s w.at 0) (get_or s at 0) (rises_on o.order at w.at (omega arith) (omega arith) w.below)
-            (λ z. false≢true (sym (before_not x) ∙ ap₂ is_before (eq_true x (f p) equal ∙ ap f ep) (eq_true x (f a) e ∙ ap f (sym w.is)) ∙ z))
+            (λ z. false≢true (sym (before_not x) ∙ ap₂ is_before (eq_true x (f (get_or s at 0)) equal) (eq_true x (f a) e ∙ ap f (sym w.is)) ∙ z))
             (λ z q. let i1 = w.is in omega arith))
 
-        before : (a : ℕ) → 0 ≤ a → a < p → eq_bytes x (f a) ≡ false
-        before a z l = let m = o.inside at h in not_so (eq_bytes x (f a)) (smaller a l (o.onto a (omega arith)))
+        before : (a : ℕ) → 0 ≤ a → a < get_or s at 0 → eq_bytes x (f a) ≡ false
+        before a z l = not_so (eq_bytes x (f a)) (smaller a l (o.onto a (omega arith)))
 
-pub place_short : (f : ℕ → List ℕ) (s x : List ℕ) (n : ℕ) → length s < n → Index f n s → n ≡ place_in x (span f 0 n)
-place_short f s x n h o = absurd (let r = o.room in omega arith)
-
--- ---- the search that ends where x is met
-
--- if s is the index, those below `low` come before x, and those from `high` on after it
-pub record Seeking (f : ℕ → List ℕ) (s : List ℕ) (n : ℕ) (x : List ℕ) (low high : ℕ) : Type 0 where
-  pub room : n ≤ length s
-  pub meet : low ≤ high
-  pub end : high ≤ n
-  pub below : Index f n s → (i : ℕ) → i < low → is_before (f (get_or s i 0)) x ≡ true
-  pub above : Index f n s → (i : ℕ) → high ≤ i → i < n → is_before x (f (get_or s i 0)) ≡ true
-
-pub search_start : (f : ℕ → List ℕ) (s : List ℕ) (n : ℕ) (x : List ℕ) → n ≤ length s → Seeking f s n x 0 n
-search_start f s n x r = record { room = r; meet = omega arith; end = omega arith; below = λ o i h. absurd (omega arith); above = λ o i h l. absurd (omega arith) }
+-- ---- the ways out of the functions that are lent an index of the first n
 
 pub search_short : (f : ℕ → List ℕ) (s x : List ℕ) (n : ℕ) → length s < n → Index f n s → false ≡ contains x (span f 0 n)
 search_short f s x n h o = absurd (let r = o.room in omega arith)
 
-module _ {f : ℕ → List ℕ} {s : List ℕ} {n : ℕ} {x : List ℕ} {low high : ℕ} (k : Seeking f s n x low high) where
-  pub search_none : high ≤ low → Index f n s → false ≡ contains x (span f 0 n)
-  search_none h o =
-      sym (place-there x f 0 n ∙ ap (λ (v : ℕ). ltb v n) (nowhere_there x f 0 n (λ i p q. by_place x o each i (omega arith))) ∙ le-ltb n n (omega arith))
-    where
-      each : (a : ℕ) → a < n → eq_bytes x (f (get_or s a 0)) ≡ false
-      each a l = three a low
-          (λ w. low_differs x (f (get_or s a 0)) (k.below o a w))
-          (λ w. before_differs x (f (get_or s a 0)) (k.above o a (omega arith) l))
-          (λ w. before_differs x (f (get_or s a 0)) (k.above o a (omega arith) l))
+pub place_short : (f : ℕ → List ℕ) (s x : List ℕ) (n : ℕ) → length s < n → Index f n s → n ≡ place_in x (span f 0 n)
+place_short f s x n h o = absurd (let r = o.room in omega arith)
 
-  module _ (h : low < high) where
-    pub search_in : low + (high - low) / 2 < length s
-    search_in =
-        let e = k.end in
-        let r = k.room in
-        omega arith
+module _ (f : ℕ → List ℕ) (s x : List ℕ) (n : ℕ) (o : Index f n s) where
+  whole_of : length (take n s) ≡ n
+  whole_of = length-take-le n s o.room
 
-    module _ {p : ℕ} (ep : p ≡ get_or s (low + (high - low) / 2) 0) {y : List ℕ} (ey : y ≡ f p) {o : Order} (eo : o ≡ order_of y x) where
-      found_at : y ≡ f (get_or s (low + (high - low) / 2) 0)
-      found_at = ey ∙ ap f ep
+  pub search_front : {r : Bool} → (Index f (length (take n s)) (take n s) → r ≡ contains x (span f 0 (length (take n s)))) → r ≡ contains x (span f 0 n)
+  search_front h = rw whole_of at (h (index_front o))
 
-      pub search_up : o ≡ Order.Before → Seeking f s n x (low + (high - low) / 2 + 1) high
-      search_up t =
-          let e = k.end in
-          record {
-            room = k.room;
-            meet = omega arith;
-            end = e;
-            below = λ ix i l. before-later (f (get_or s i 0)) y x (ap (λ (w : List ℕ). is_before w (f (get_or s i 0))) found_at ∙ items-on ix i (low + (high - low) / 2) (omega arith) (omega arith))
-                (order_less y x (sym t ∙ eo));
-            above = k.above;
-          }
-
-      pub search_down : o ≡ Order.After → Seeking f s n x low (low + (high - low) / 2)
-      search_down t =
-          let e = k.end in
-          record {
-            room = k.room;
-            meet = omega arith;
-            end = omega arith;
-            below = k.below;
-            above = λ ix i l m. before_earlier x y (f (get_or s i 0)) (order-more y x (sym t ∙ eo)) (ap (is_before (f (get_or s i 0))) found_at ∙ items-on ix (low + (high - low) / 2) i l m);
-          }
-
-      pub search_met : o ≡ Order.Same → Index f n s → true ≡ contains x (span f 0 n)
-      search_met t ix =
-          let e = k.end in
-          let i : ℕ = get_or s (low + (high - low) / 2) 0 in
-          sym (at_place x f i 0 n (ix.inside (low + (high - low) / 2) (omega arith))
-          (ap (λ (v : ℕ). eq_bytes x (f v)) (zero-add i) ∙ ap (eq_bytes x) (sym found_at ∙ order_same y x (sym t ∙ eo)) ∙ eq_refl x))
+  pub place_front : {r : Option ℕ} {p : ℕ} → (Index f (length (take n s)) (take n s) → r ≡ position (eq_bytes x) (span f 0 (length (take n s)))) → p ≡ unwrap_or r n → p ≡ place_in x (span f 0 n)
+  place_front {r} h e = e ∙ ap (λ (t : Option ℕ). unwrap_or t n) (rw whole_of at (h (index_front o))) ∙ place_of_position x (span f 0 n) n (span-length f 0 n)

@@ -6,11 +6,13 @@ use mathlib.Core.List.{List, [], ◌∷◌}
 use native.Mathlib.Omega.{arith}
 use borrow.Author.Tests.{ltb-true, ltb-false, lt-ltb, le-ltb, eq-eqb, ne_eqb}
 use lib.Dec.{ltb}
-use lib.ListN.{length, drop, get_or, drop_of_length-le}
+use lib.ListN.{length, drop, get_or}
 use lib.Seq.{drop-cons}
+use Rattle.std.specs.Cmp.Lexicographic.{slice_cmp}
+use Rattle.std.specs.Ordering.{nat_cmp}
 use Rattle.lists.specs.Lists.{eq_bytes}
 use Rattle.lists.proofs.EqualLaws.{not_so, eq_refl, eq_true}
-use Rattle.item_index.specs.declared.ordering.Order.{Order}
+use Rattle.std.specs.declared.cmp.Ordering.{Ordering}
 use Rattle.item_index.specs.Order.{is_before, order_of}
 
 -- ---- cases
@@ -121,28 +123,28 @@ before_earlier x y z p q = by (eq_bytes y z) refl
 
 -- ---- which of two comes first
 
-pub before-is : (x y : List ℕ) → is_before x y ≡ true → Order.Before ≡ order_of x y
+pub before-is : (x y : List ℕ) → is_before x y ≡ true → Ordering.Less ≡ order_of x y
 unfolding order_of
 before-is x y e = sym (rw e)
 
-pub after_is : (x y : List ℕ) → is_before y x ≡ true → Order.After ≡ order_of x y
+pub after_is : (x y : List ℕ) → is_before y x ≡ true → Ordering.Greater ≡ order_of x y
 unfolding order_of
 after_is x y e = sym (rw (after_less y x e, e))
 
-pub same-is : (x y : List ℕ) → x ≡ y → Order.Same ≡ order_of x y
+pub same-is : (x y : List ℕ) → x ≡ y → Ordering.Equal ≡ order_of x y
 unfolding order_of
 same-is x y e = sym (rw (e, before_not y))
 
-abbrev Told : Order → List ℕ → List ℕ → Type 0
-Told Order.Before x y = is_before x y ≡ true
-Told Order.Same x y = x ≡ y
-Told Order.After x y = is_before y x ≡ true
+abbrev Told : Ordering → List ℕ → List ℕ → Type 0
+Told Ordering.Less x y = is_before x y ≡ true
+Told Ordering.Equal x y = x ≡ y
+Told Ordering.Greater x y = is_before y x ≡ true
 
 told : (x y : List ℕ) → Told (order_of x y) x y
 unfolding order_of
 told x y = by (is_before x y) refl (is_before y x) refl
   where
-    by : (b : Bool) → is_before x y ≡ b → (c : Bool) → is_before y x ≡ c → Told (cond b Order.Before (cond c Order.After Order.Same)) x y
+    by : (b : Bool) → is_before x y ≡ b → (c : Bool) → is_before y x ≡ c → Told (cond b Ordering.Less (cond c Ordering.Greater Ordering.Equal)) x y
     by true e c w = e
     by false e true w = w
     by false e false w = equal (eq_bytes x y) refl
@@ -151,13 +153,13 @@ told x y = by (is_before x y) refl (is_before y x) refl
         equal true t = eq_true x y t
         equal false t = absurd (false≢true (sym e ∙ before_other x y w t))
 
-pub order_less : (x y : List ℕ) → Order.Before ≡ order_of x y → is_before x y ≡ true
+pub order_less : (x y : List ℕ) → Ordering.Less ≡ order_of x y → is_before x y ≡ true
 order_less x y e = rw (← e) at (told x y)
 
-pub order-more : (x y : List ℕ) → Order.After ≡ order_of x y → is_before y x ≡ true
+pub order-more : (x y : List ℕ) → Ordering.Greater ≡ order_of x y → is_before y x ≡ true
 order-more x y e = rw (← e) at (told x y)
 
-pub order_same : (x y : List ℕ) → Order.Same ≡ order_of x y → x ≡ y
+pub order_same : (x y : List ℕ) → Ordering.Equal ≡ order_of x y → x ≡ y
 order_same x y e = rw (← e) at (told x y)
 
 -- ---- the first i bytes are the same: what follows decides
@@ -204,35 +206,23 @@ all_alike (x ∷ a) (y ∷ b) i k h l =
     ap₂ ◌∷◌ (k.same 0 (omega arith))
     (all_alike a b (i - 1) (record { first = omega arith; second = omega arith; same = λ j p. k.same (suc j) (omega arith) }) (omega arith) (omega arith))
 
--- ---- byte by byte
+-- ---- where they differ
 
-module _ {a b : List ℕ} {i : ℕ} (k : Alike a b i) where
-  short : i < length a → length b ≤ i → is_before b a ≡ true
-  unfolding is_before
-  short h l = behind b a i (alike_back k) ∙ rw (drop-cons a i 0 h, drop_of_length-le b l)
+module _ {a b : List ℕ} {i : ℕ} (k : Alike a b i) (h : i < length a) (l : i < length b) where
+  pub less : get_or a i 0 < get_or b i 0 → is_before a b ≡ true
+  less d = behind a b i k ∙ rw (drop-cons a i 0 h, drop-cons b i 0 l) (before_less _ _ _ _ d)
 
-  pub compare_short : i < length a → length b ≤ i → Order.After ≡ order_of a b
-  compare_short h l = after_is a b (short h l)
+-- ---- the library's comparison of lists of numbers is this one
 
-  pub compare_longer : length a ≤ i → i < length b → Order.Before ≡ order_of a b
-  unfolding is_before
-  compare_longer h l = before-is a b (behind a b i k ∙ rw (drop_of_length-le a h, drop-cons b i 0 l))
+pub order_lists : (x y : List ℕ) → slice_cmp nat_cmp x y ≡ order_of x y
+unfolding order_of is_before
+order_lists [] [] = refl
+order_lists [] (b ∷ ys) = refl
+order_lists (a ∷ xs) [] = refl
+order_lists (a ∷ xs) (b ∷ ys) = three a b
+    (λ h. let l : a ≤ b = omega arith in rw (lt-ltb a b h))
+    (λ h. let l : b ≤ a = omega arith in let m : a ≤ b = omega arith in rw (le-ltb a b l, le-ltb b a m, eq-eqb a b h) (order_lists xs ys))
+    (λ h. let l : b ≤ a = omega arith in rw (le-ltb a b l, lt-ltb b a h, ne_eqb a b (λ e. omega arith)))
 
-  pub compare_end : length a ≤ i → length b ≤ i → Order.Same ≡ order_of a b
-  compare_end h l = same-is a b (all_alike a b i k h l)
-
-  module _ (h : i < length a) (l : i < length b) where
-    pub less : get_or a i 0 < get_or b i 0 → is_before a b ≡ true
-    less d = behind a b i k ∙ rw (drop-cons a i 0 h, drop-cons b i 0 l) (before_less _ _ _ _ d)
-
-    pub more : get_or b i 0 < get_or a i 0 → is_before b a ≡ true
-    more d = behind b a i (alike_back k) ∙ rw (drop-cons a i 0 h, drop-cons b i 0 l) (before_less _ _ _ _ d)
-
-    pub compare_less : get_or a i 0 < get_or b i 0 → Order.Before ≡ order_of a b
-    compare_less d = before-is a b (less d)
-
-    pub compare_more : get_or b i 0 < get_or a i 0 → Order.After ≡ order_of a b
-    compare_more d = after_is a b (more d)
-
-    pub compare_on : get_or b i 0 ≤ get_or a i 0 → get_or a i 0 ≤ get_or b i 0 → Alike a b (i + 1)
-    compare_on d e = alike_next k h l (omega arith)
+pub order-library : (x y : List ℕ) {o : Ordering} → o ≡ slice_cmp nat_cmp x y → o ≡ order_of x y
+order-library x y e = e ∙ order_lists x y

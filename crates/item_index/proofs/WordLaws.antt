@@ -1,40 +1,34 @@
 -- Numbers of several bytes, the first byte highest, are in the order of their bytes.
-use mathlib.Core.Path.{◌≡◌, refl, sym, ap, ap₂, ◌∙◌}
+use mathlib.Core.Path.{◌≡◌, ◌∙◌}
 use Prim.Native.Nat.{ℕ, zero, suc, ◌+◌, ◌-◌, ◌*◌, ◌≤◌, ◌<◌}
 use mathlib.Core.Bool.{true}
-use mathlib.Core.List.{List}
+use mathlib.Core.List.{List, [], ◌∷◌}
 use native.Mathlib.Nat.{add-zero}
 use native.Mathlib.Omega.{arith}
+use borrow.Author.Tests.{lt-ltb, le-ltb, eq-eqb, ne_eqb}
+use Rattle.std.specs.Int.{w64, from_be_bytes}
+use Rattle.std.specs.Ordering.{nat_cmp}
+use Rattle.std.specs.Cmp.Lexicographic.{slice_cmp}
 use lib.ListN.{length, get_or, take, drop}
 use Rattle.arithmetic.specs.LittleEndian.{AllBytes}
 use Rattle.lists.proofs.EqualLaws.{whole}
-use Rattle.item_index.specs.declared.ordering.Order.{Order}
+use Rattle.std.specs.declared.cmp.Ordering.{Ordering}
 use Rattle.item_index.specs.Order.{is_before, order_of, horner}
-use Rattle.item_index.proofs.OrderLaws.{three, Alike, alike_back, alike_next, alike_less, all_alike, less, before-is, after_is, same-is}
+use Rattle.item_index.proofs.OrderLaws.{three, Alike, alike_back, alike_next, alike_less, all_alike, less, before-is, after_is, same-is, order-library}
 
 -- ---- the number
 
-pub four_is : (s : List ℕ) (at : ℕ) {a b c d : ℕ} → a ≡ get_or s at 0 → b ≡ get_or s (at + 1) 0 → c ≡ get_or s (at + 2) 0 → d ≡ get_or s (at + 3) 0
-    → 256 * (256 * (256 * a + b) + c) + d ≡ horner 0 4 s at
+pub word_is : (s : List ℕ) (at : ℕ) {n : ℕ} → n ≡ from_be_bytes w64 (get_or s at 0 ∷ get_or s (at + 1) 0 ∷ get_or s (at + 2) 0 ∷ get_or s (at + 3) 0
+    ∷ get_or s (at + 4) 0 ∷ get_or s (at + 5) 0 ∷ get_or s (at + 6) 0 ∷ get_or s (at + 7) 0 ∷ []) → n ≡ horner 0 8 s at
 unfolding horner
-four_is s at {a} {b} {c} {d} ea eb ec ed =
-    let e : at + 2 ≡ at + 1 + 1 = omega arith in
-    let f : at + 3 ≡ at + 1 + 1 + 1 = omega arith in
-    rw (ea, eb, ec ∙ ap (λ (n : ℕ). get_or s n 0) e, ed ∙ ap (λ (n : ℕ). get_or s n 0) f) (omega arith)
-
--- what stands before counts 2^32 times
-after_four : (p : ℕ) (s : List ℕ) (i : ℕ) → horner p 4 s i ≡ 4294967296 * p + horner 0 4 s i
-unfolding horner
-after_four p s i = omega arith
-
-two_fours : (s : List ℕ) (at : ℕ) → horner 0 8 s at ≡ horner (horner 0 4 s at) 4 s (at + 1 + 1 + 1 + 1)
-unfolding horner
-two_fours s at = refl
-
-pub eight_is : (s : List ℕ) (at : ℕ) {high low : ℕ} → high ≡ horner 0 4 s at → low ≡ horner 0 4 s (at + 4) → 4294967296 * high + low ≡ horner 0 8 s at
-eight_is s at {high} {low} eh el =
-    let e : at + 1 + 1 + 1 + 1 ≡ at + 4 = omega arith in
-    sym (two_fours s at ∙ ap (horner (horner 0 4 s at) 4 s) e ∙ after_four (horner 0 4 s at) s (at + 4) ∙ ap₂ (λ (x y : ℕ). 4294967296 * x + y) (sym eh) (sym el))
+word_is s at e =
+    let e2 : at + 1 + 1 ≡ at + 2 = omega arith in
+    let e3 : at + 2 + 1 ≡ at + 3 = omega arith in
+    let e4 : at + 3 + 1 ≡ at + 4 = omega arith in
+    let e5 : at + 4 + 1 ≡ at + 5 = omega arith in
+    let e6 : at + 5 + 1 ≡ at + 6 = omega arith in
+    let e7 : at + 6 + 1 ≡ at + 7 = omega arith in
+    e ∙ rw (e2, e3, e4, e5, e6, e7) (omega arith)
 
 -- ---- the order
 
@@ -67,39 +61,38 @@ module _ (a b : List ℕ) (ba : AllBytes a) (bb : AllBytes b) where
 
 module _ {a b : List ℕ} {i : ℕ} (w : Alike a b i) (e : length a ≡ length b) (j : ℕ) (h : j ≤ i) (l : j + 8 ≤ length a) {u v : ℕ}
     (eu : u ≡ horner 0 8 a j) (ba : AllBytes a) (ev : v ≡ horner 0 8 b j) (bb : AllBytes b) where
-  at_less : u < v → Order.Before ≡ order_of a b
-  at_less m = before-is a b (word_less a b ba bb 8 0 j (alike_less j h w) l (omega arith) (omega arith))
+  at_same : u ≡ v → Alike a b (j + 8)
+  at_same m = word_same a b ba bb 8 0 j (alike_less j h w) l (omega arith) (omega arith)
 
-  at_more : v < u → Order.After ≡ order_of a b
-  at_more m = after_is a b (word_less b a bb ba 8 0 j (alike_back (alike_less j h w)) (omega arith) l (omega arith))
+  -- what the words say, unless they are the same
+  at_first : {A : Type 0} → (u ≡ v → A) → (nat_cmp u v ≡ order_of a b → A) → A
+  at_first same other = three u v
+      (λ m. other (rw (lt-ltb u v m) (before-is a b (word_less a b ba bb 8 0 j (alike_less j h w) l (omega arith) (omega arith)))))
+      same
+      (λ m. let n : v ≤ u = omega arith in
+      other (rw (le-ltb u v n, ne_eqb u v (λ k. omega arith)) (after_is a b (word_less b a bb ba 8 0 j (alike_back (alike_less j h w)) (omega arith) l (omega arith)))))
 
-  at_same : v ≤ u → u ≤ v → Alike a b (j + 8)
-  at_same m n = word_same a b ba bb 8 0 j (alike_less j h w) l (omega arith) (omega arith)
+same_numbers : (u v : ℕ) → u ≡ v → nat_cmp u v ≡ Ordering.Equal
+same_numbers u v e = let l : v ≤ u = omega arith in rw (le-ltb u v l, eq-eqb u v e)
 
 module _ {a b : List ℕ} {i : ℕ} (w : Alike a b i) (e : length a ≡ length b) {u v : ℕ} where
   -- the next word
   module _ (h : i < length a - 8) (eu : (u ≡ horner 0 8 a i) × AllBytes a) (ev : (v ≡ horner 0 8 b i) × AllBytes b) where
-    pub next_less : u < v → Order.Before ≡ order_of a b
-    next_less = at_less w e i (omega arith) (omega arith) eu.0 eu.1 ev.0 ev.1
+    pub next_other : {o : Ordering} → (u ≡ v → ⊥) → o ≡ nat_cmp u v → o ≡ order_of a b
+    next_other n eo = at_first w e i (omega arith) (omega arith) eu.0 eu.1 ev.0 ev.1 (λ m. absurd (n m)) (λ m. eo ∙ m)
 
-    pub next_more : v < u → Order.After ≡ order_of a b
-    next_more = at_more w e i (omega arith) (omega arith) eu.0 eu.1 ev.0 ev.1
-
-    pub next-same : v ≤ u → u ≤ v → Alike a b (i + 8)
+    pub next-same : u ≡ v → Alike a b (i + 8)
     next-same = at_same w e i (omega arith) (omega arith) eu.0 eu.1 ev.0 ev.1
 
   -- the last
-  module _ (h : length a - 8 ≤ i) (l : 8 ≤ length a) (eu : (u ≡ horner 0 8 a (length a - 8)) × AllBytes a) (ev : (v ≡ horner 0 8 b (length a - 8)) × AllBytes b) where
-    pub last_less : u < v → Order.Before ≡ order_of a b
-    last_less = at_less w e (length a - 8) h (omega arith) eu.0 eu.1 ev.0 ev.1
-
-    pub last_more : v < u → Order.After ≡ order_of a b
-    last_more = at_more w e (length a - 8) h (omega arith) eu.0 eu.1 ev.0 ev.1
-
-    pub last_same : v ≤ u → u ≤ v → Order.Same ≡ order_of a b
-    last_same m n =
-        same-is a b (all_alike a b (length a - 8 + 8) (at_same w e (length a - 8) h (omega arith) eu.0 eu.1 ev.0 ev.1 m n) (omega arith) (omega arith))
+  pub last_word : {o : Ordering} → o ≡ nat_cmp u v → length a - 8 ≤ i → 8 ≤ length a → (u ≡ horner 0 8 a (length a - 8)) × AllBytes a → (v ≡ horner 0 8 b (length a - 8)) × AllBytes b → o ≡ order_of a b
+  last_word eo h l eu ev = at_first w e (length a - 8) h (omega arith) eu.0 eu.1 ev.0 ev.1
+      (λ m. eo ∙ same_numbers u v m ∙ same-is a b (all_alike a b (length a - 8 + 8) (at_same w e (length a - 8) h (omega arith) eu.0 eu.1 ev.0 ev.1 m) (omega arith) (omega arith)))
+      (λ m. eo ∙ m)
 
 -- both strings taken anew
-pub order-whole : (a b : List ℕ) {o : Order} → o ≡ order_of (take (length a - 0) (drop 0 a)) (take (length b - 0) (drop 0 b)) → o ≡ order_of a b
+pub order-whole : (a b : List ℕ) {o : Ordering} → o ≡ order_of (take (length a - 0) (drop 0 a)) (take (length b - 0) (drop 0 b)) → o ≡ order_of a b
 order-whole a b h = rw (whole a, whole b) at h
+
+pub order-anew : (a b : List ℕ) {o : Ordering} → o ≡ slice_cmp nat_cmp (take (length a - 0) (drop 0 a)) (take (length b - 0) (drop 0 b)) → o ≡ order_of a b
+order-anew a b h = order-library a b (rw (whole a, whole b) at h)

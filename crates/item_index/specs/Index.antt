@@ -37,39 +37,7 @@ pub record Index (f : ℕ → List ℕ) (n : ℕ) (s : List ℕ) : Type 0 where
 
 -- ---- what the functions inside promise one another
 
--- after is s with what stands from lo on and before hi put in order
-pub record Sorts (f : ℕ → List ℕ) (s : List ℕ) (lo hi : ℕ) (after : List ℕ) : Type 0 where
-  pub long : length after ≡ length s
-  pub under : (i : ℕ) → i < lo → get_or after i 0 ≡ get_or s i 0
-  pub over : (i : ℕ) → hi ≤ i → get_or after i 0 ≡ get_or s i 0
-  pub kept : (v : ℕ) → Stands v s lo hi → Stands v after lo hi
-  pub none : (v : ℕ) → Stands v after lo hi → Stands v s lo hi
-  pub order : Rises f after lo hi
-
--- after has, from lo on and before hi, what s has there, in order
-pub record Merged (f : ℕ → List ℕ) (s : List ℕ) (lo hi : ℕ) (after : List ℕ) : Type 0 where
-  pub kept : (v : ℕ) → Stands v s lo hi → Stands v after lo hi
-  pub none : (v : ℕ) → Stands v after lo hi → Stands v s lo hi
-  pub order : Rises f after lo hi
-
--- of two parts, from i to mid and from j to hi, that are merged: whether the next is the other part's
-unfoldable pub from_right : (ℕ → List ℕ) → List ℕ → ℕ → ℕ → ℕ → ℕ → Bool
-from_right f s i mid j hi = cond (ltb i mid) (cond (ltb j hi) (comes f (get_or s j 0) (get_or s i 0)) false) true
-
--- after has, from lo on and before hi, what t has there, and is else s
-pub record Copied (t s : List ℕ) (lo hi : ℕ) (after : List ℕ) : Type 0 where
-  pub long : length after ≡ length s
-  pub under : (i : ℕ) → i < lo → get_or after i 0 ≡ get_or s i 0
-  pub over : (i : ℕ) → hi ≤ i → get_or after i 0 ≡ get_or s i 0
-  pub there : (i : ℕ) → lo ≤ i → i < hi → get_or after i 0 ≡ get_or t i 0
-
 -- the first n are 0 to n - 1
 pub record Counts (n : ℕ) (after : List ℕ) : Type 0 where
   pub room : n ≤ length after
   pub each : (i : ℕ) → i < n → get_or after i 0 ≡ i
-
--- the first r of n come before x, and the others do not, if s is the index of n items
-pub record Lower (f : ℕ → List ℕ) (s : List ℕ) (n : ℕ) (x : List ℕ) (r : ℕ) : Type 0 where
-  pub within : r ≤ n
-  pub below : Index f n s → (i : ℕ) → i < r → is_before (f (get_or s i 0)) x ≡ true
-  pub rest : Index f n s → (i : ℕ) → r ≤ i → i < n → is_before (f (get_or s i 0)) x ≡ false

@@ -1,6 +1,6 @@
 -- Strings in the order of their bytes.
 use Rattle.std.specs.Prelude.{Bool, true, false, cond, List, [], ◌∷◌, ℕ, zero, suc, ◌+◌, ◌*◌, ltb, get_or}
-use Rattle.item_index.specs.declared.ordering.Order.{Order}
+use Rattle.std.specs.declared.cmp.Ordering.{Ordering}
 
 -- byte by byte, the first that differs decides; a string comes before those that go on from it
 unfoldable pub is_before : List ℕ → List ℕ → Bool
@@ -10,8 +10,8 @@ is_before (a ∷ xs) [] = false
 is_before (a ∷ xs) (b ∷ ys) = cond (ltb a b) true (cond (ltb b a) false (is_before xs ys))
 
 -- which of two comes first
-unfoldable pub order_of : List ℕ → List ℕ → Order
-order_of x y = cond (is_before x y) Order.Before (cond (is_before y x) Order.After Order.Same)
+unfoldable pub order_of : List ℕ → List ℕ → Ordering
+order_of x y = cond (is_before x y) Ordering.Less (cond (is_before y x) Ordering.Greater Ordering.Equal)
 
 -- ---- what the functions inside promise one another
 

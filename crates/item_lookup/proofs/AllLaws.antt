@@ -1,11 +1,12 @@
 -- All of one list's items in another: one law for each way out.
-use Rattle.std.proofs.Common.{◌≡◌, ℕ, ◌+◌, ◌-◌, ◌<◌, ◌≤◌, Bool, true, false, cond, List, [], ◌∷◌, sym, refl, ap, ◌∙◌, ap₂, zero-add, arith}
+use Rattle.std.proofs.Common.{◌≡◌, ℕ, ◌+◌, ◌-◌, ◌<◌, ◌≤◌, Bool, true, false, cond, List, [], ◌∷◌, length, take, sym, refl, ap, ◌∙◌, ap₂, zero-add, arith}
 use mathlib.Core.Bool.{false≢true, and-eq-true_iff}
 use Rattle.molecule.specs.Layout.{span, fix_count, fix_item, fix_items}
 use Rattle.lists.specs.Lists.{eq_bytes, extends, contains, contains_all}
 use Rattle.lists.proofs.LoopLaws.{at_place, Among, Seek, among_more}
 use Rattle.lists.proofs.SpanLaws.{span-whole}
 use Rattle.item_index.specs.Index.{key_of, Index}
+use Rattle.item_index.proofs.FindLaws.{search_front}
 use Rattle.item_lookup.specs.Lookup.{are_among}
 
 pub at_first_lem : (y : List ℕ) (g : ℕ → List ℕ) (n i : ℕ) → i < n → eq_bytes y (g i) ≡ true → contains y (span g 0 n) ≡ true
@@ -32,16 +33,13 @@ all_extends xs ys e t = sym (extends_all xs ys ys (sym e ∙ t) (λ x h. h))
 pub scan_start : (a b : List ℕ) (k n i : ℕ) {x : List ℕ} → x ≡ fix_item a k i → Seek x (fix_item b k) n 0 (contains (fix_item a k i) (span (fix_item b k) 0 n))
 scan_start a b k n i e = record { rest = ap₂ contains (sym e) (span-whole (fix_item b k) n) }
 
-pub found : (a b : List ℕ) (k n i : ℕ) (s : List ℕ) → Index (key_of b k 0) n s → {x : List ℕ} {r : Bool} → x ≡ fix_item a k i
-    → (Index (key_of b k 0) n s → r ≡ contains x (span (key_of b k 0) 0 n)) → r ≡ contains (fix_item a k i) (span (fix_item b k) 0 n)
+pub found : (a b : List ℕ) (k n i p q : ℕ) (s : List ℕ) → (n ≤ p → n ≤ q → Index (key_of b k 0) n s) → n ≤ p → n ≤ q → {x : List ℕ} {r : Bool} → x ≡ fix_item a k i
+    → (Index (key_of b k 0) (length (take n s)) (take n s) → r ≡ contains x (span (key_of b k 0) 0 (length (take n s)))) → r ≡ contains (fix_item a k i) (span (fix_item b k) 0 n)
 unfolding key_of
-found a b k n i s o e h = h o ∙ ap (λ (l : List ℕ). contains l (span (fix_item b k) 0 n)) e
+found a b k n i p q s o hp hq {x} e h = search_front (key_of b k 0) s x n (o hp hq) h ∙ ap (λ (l : List ℕ). contains l (span (fix_item b k) 0 n)) e
 
 pub some-start : (f : ℕ → List ℕ) (ys : List (List ℕ)) (from m : ℕ) → Among f ys m from (contains_all (span f from (m - from)) ys)
 some-start f ys from m = record { rest = refl }
-
-pub index_for : (f : ℕ → List ℕ) (n p q : ℕ) (s : List ℕ) → (n ≤ p → n ≤ q → Index f n s) → n ≤ p → n ≤ q → Index f n s
-index_for f n p q s h l m = h l m
 
 -- both lists by their counts
 pub all_whole : (a b : List ℕ) (k : ℕ) {m n : ℕ} → m ≡ fix_count a → n ≡ fix_count b → {q : Bool} → q ≡ are_among a 0 m b k n → q ≡ contains_all (fix_items k a) (fix_items k b)

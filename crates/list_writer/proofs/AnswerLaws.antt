@@ -1,37 +1,16 @@
 -- Whether bytes fit, and what a writer that found out answers.
 use mathlib.Core.Path.{◌≡◌, refl, sym, ◌∙◌}
-use Prim.Native.Nat.{ℕ, ◌+◌, ◌-◌, ◌*◌, ◌≤◌, ◌<◌, min}
-use mathlib.Core.Bool.{Bool, true, false, not, ◌&&◌, cond, and-false, and-eq-true_iff}
+use Prim.Native.Nat.{ℕ, ◌+◌, ◌*◌, ◌≤◌, min}
+use mathlib.Core.Bool.{Bool, true, false, not, ◌&&◌, cond, and-eq-true_iff}
 use mathlib.Core.List.{List, ◌++◌, flatten}
 use native.Mathlib.Omega.{arith}
-use borrow.Author.Tests.{le-leb, lt-leb, leb-true, not-true, not-false}
+use borrow.Author.Tests.{le-leb, leb-true, not-true, not-false}
 use lib.ListN.{length}
 use lib.Dec.{leb}
 use Rattle.molecule.specs.Write.{put_at, put_end, Put}
 use Rattle.molecule.proofs.WriteLaws.{put_yes, end_yes, did, then, length-kept}
 use Rattle.list_writer.specs.ListWriter.{later, put_list, put_list_end}
 use Rattle.list_writer.specs.Around.{head_size, list_size, fits_at}
-
-module _ (n at len : ℕ) where
-  pub fit-long : 133116 < n → false ≡ fits_at n at len
-  unfolding fits_at
-  fit-long h = rw (lt-leb n 133116 h)
-
-  fit-out : len < at + n → false ≡ fits_at n at len
-  unfolding fits_at
-  fit-out h = simp (lt-leb (at + n) len h, and-false)
-
-  pub fit_far : len < at → false ≡ fits_at n at len
-  fit_far h = fit-out (omega arith)
-
-  pub fit_short : at ≤ len → len - at < n → false ≡ fits_at n at len
-  fit_short h k = fit-out (omega arith)
-
-  pub fit_yes : n ≤ 133116 → at ≤ len → n ≤ len - at → true ≡ fits_at n at len
-  unfolding fits_at
-  fit_yes h k l =
-      let z : at + n ≤ len = omega arith in
-      rw (le-leb n 133116 h, le-leb (at + n) len z)
 
 pub fit-room : (at len : ℕ) {m n : ℕ} {r : Bool} → n ≡ min m 133117 → r ≡ fits_at n at len → not r ≡ false → (at + m ≤ len) × (m ≤ 133116)
 unfolding fits_at
@@ -86,16 +65,6 @@ did_list xs e f low room = let l = le-leb (length xs) 133116 low in did xs (rw l
 pub and_list : (ys : List ℕ) {out o₁ o₂ : List ℕ} {at n₁ n₂ : ℕ} {xs : List ℕ} → Put out at xs o₁ n₁ → o₂ ≡ put_list o₁ n₁ ys → n₂ ≡ put_list_end o₁ n₁ ys
     → length ys ≤ 133116 → at + length xs + length ys ≤ length out → Put out at (xs ++ ys) o₂ n₂
 and_list ys p e f low room = let l = length-kept p in then p (did_list ys e f low (omega (arith, p.end)))
-
--- a list that is longer than a transaction may be
-module _ (out : List ℕ) (at : ℕ) (xs : List ℕ) (h : 133116 < length xs) where
-  pub too_long_lem : out ≡ put_list out at xs
-  unfolding put_list
-  too_long_lem = rw (lt-leb (length xs) 133116 h)
-
-  pub too_long-end : at ≡ put_list_end out at xs
-  unfolding put_list_end
-  too_long-end = rw (lt-leb (length xs) 133116 h)
 
 -- ---- sizes that stop at a cap, of parts and of the whole
 

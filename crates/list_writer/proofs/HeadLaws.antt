@@ -10,31 +10,11 @@ use Rattle.molecule.specs.Items.{join, unwords, offsets, header}
 use Rattle.molecule.specs.Write.{put_at, put_end, Put}
 use Rattle.molecule.proofs.ItemsLaws.{length-join}
 use Rattle.molecule.proofs.Offsets.{span-length}
-use Rattle.molecule.proofs.WriteLaws.{did, then, and_put, as_bytes, none}
+use Rattle.molecule.proofs.WriteLaws.{did, then, as_bytes, none, length-kept}
 use Rattle.list_writer.specs.ListWriter.{item_or, later, if_any, if_positive}
 use Rattle.list_writer.specs.Around.{around, head_size, list_size, places, head_of, Room}
+use Rattle.list_writer.proofs.JoinLaws.{words_length}
 use Rattle.list_writer.proofs.SpanLaws.{flatten_append, offsets-append, unwords-append}
-
--- ---- two words, three stretches
-
-module _ (out : List ℕ) (at x y : ℕ) {o₁ : List ℕ} {n₁ n₂ : ℕ} (h : at + 8 ≤ length out) (e₁ : o₁ ≡ put_at out at (to_le 4 x)) (f₁ : n₁ ≡ put_end out at (to_le 4 x)) (f₂ : n₂ ≡ put_end o₁ n₁ (to_le 4 y)) where
-  pub two-words : {o₂ : List ℕ} → o₂ ≡ put_at o₁ n₁ (to_le 4 y) → Put out at (to_le 4 x ++ to_le 4 y) o₂ n₂
-  two-words e₂ =
-      let a = length-to_le 4 x in
-      let b = length-to_le 4 y in
-      and_put (to_le 4 y) (did (to_le 4 x) e₁ f₁ (omega arith)) e₂ f₂ (omega arith)
-
-  pub two-end : n₂ ≡ at + 8
-  two-end = (two-words refl).end ∙ ap (λ (n : ℕ). at + n) (simp (length-append, length-to_le))
-
-module _ (out : List ℕ) (at : ℕ) (a b c : List ℕ) {o₁ o₂ : List ℕ} {n₁ n₂ n₃ : ℕ} (h : at + length a + length b + length c ≤ length out) (e₁ : o₁ ≡ put_at out at a) (f₁ : n₁ ≡ put_end out at a) (e₂ : o₂ ≡ put_at o₁ n₁ b) (f₂ : n₂ ≡ put_end o₁ n₁ b) (f₃ : n₃ ≡ put_end o₂ n₂ c) where
-  pub three-parts : {o₃ : List ℕ} → o₃ ≡ put_at o₂ n₂ c → Put out at (a ++ b ++ c) o₃ n₃
-  three-parts e₃ =
-      let p = and_put b (did a e₁ f₁ (omega arith)) e₂ f₂ (omega arith) in
-      and_put c p e₃ f₃ (simp length-append (omega arith))
-
-  pub parts-end : n₃ ≡ at + length a + length b + length c
-  parts-end = (three-parts refl).end ∙ simp length-append (omega arith)
 
 -- ---- the place of a last item, if there is one
 
@@ -49,13 +29,17 @@ module _ (out : List ℕ) (at n p : ℕ) (h : (at + min (4 * n) 4 ≤ length out
   no_place e = let k : at ≤ length out = omega arith in rw e (none out at k)
 
   module _ {r : ℕ} (pos : n ≡ 0 → ⊥) (f : r ≡ put_end out at (to_le 4 p)) where
-    pub put_place : {after : List ℕ} → after ≡ put_at out at (to_le 4 p) → Put out at (if_positive n (to_le 4 p)) after r
-    put_place e = let l = length-to_le 4 p in as_bytes (sym (positive n (to_le 4 p) pos)) (did (to_le 4 p) e f (omega arith))
+    pub place_put : {after : List ℕ} → after ≡ put_at out at (to_le 4 p) → Put out at (if_positive n (to_le 4 p)) after r
+    place_put e = let l = length-to_le 4 p in as_bytes (sym (positive n (to_le 4 p) pos)) (did (to_le 4 p) e f (omega arith))
 
     pub place_end : r ≡ at + min (4 * n) 4
     place_end = let l = length-to_le 4 p in let e = (did (to_le 4 p) refl f (omega arith)).end in omega arith
 
 -- ---- a header
+
+two_words : (x y : ℕ) → unwords (x ∷ y ∷ []) ≡ to_le 4 x ++ to_le 4 y
+unfolding unwords
+two_words x y = ap (λ (l : List ℕ). to_le 4 x ++ l) (append-nil (to_le 4 y))
 
 module _ (first : ℕ) (s : List ℕ) (k last : ℕ) {size w : ℕ} (ew : w ≡ min (4 * last) 4) (es : size ≡ min (length (flatten (later s k))) 133117) where
   head_runs : length (flatten (later s k)) ≡ size
@@ -65,11 +49,15 @@ module _ (first : ℕ) (s : List ℕ) (k last : ℕ) {size w : ℕ} (ew : w ≡ 
   head_runs e = rw (ew, e)
 
   pub put_head_lem : {out o₁ o₂ o₃ : List ℕ} {at n₁ n₂ n₃ : ℕ} → Room out at (list_size first s k last)
-      → Put out at (to_le 4 (8 + 4 * k + w + first + size + last) ++ to_le 4 (8 + 4 * k + w)) o₁ n₁
+      → o₁ ≡ put_at out at (unwords ((8 + 4 * k + w + first + size + last) ∷ (8 + 4 * k + w) ∷ []))
+      → n₁ ≡ put_end out at (unwords ((8 + 4 * k + w + first + size + last) ∷ (8 + 4 * k + w) ∷ []))
       → Put o₁ n₁ (places (8 + 4 * k + w + first) (later s k)) o₂ n₂
       → Put o₂ n₂ (if_positive last (to_le 4 (8 + 4 * k + w + first + size))) o₃ n₃
       → Put out at (head_of first s k last) o₃ n₃
-  put_head_lem h p q r = as_bytes (head_runs (omega (arith, h.1))) (then (then p q) r)
+  put_head_lem {at = at} h d f q r =
+      let room = h.0 in
+      let p = as_bytes (two_words _ _) (did (unwords ((8 + 4 * k + w + first + size + last) ∷ (8 + 4 * k + w) ∷ [])) d f (omega (arith, words_length ((8 + 4 * k + w + first + size + last) ∷ (8 + 4 * k + w) ∷ [])))) in
+      as_bytes (head_runs (omega (arith, h.1))) (then (then p q) r)
 
 -- ---- a list is its header and its items
 
@@ -134,26 +122,21 @@ module _ (first s : List ℕ) (k : ℕ) (last : List ℕ) where
       length-join (first ∷ later s k ++ if_any last)
       ∙ omega (arith, rest-count, length-append first (flatten (later s k ++ if_any last)), ap length rest-bytes, length-append (flatten (later s k)) last)
 
-pub three-length : (a b c : List ℕ) → length (a ++ b ++ c) ≡ length a + length b + length c
-three-length a b c = simp length-append
-
-pub put_around : (a b c s : List ℕ) (k : ℕ) (x y z : List ℕ) {out o₁ o₂ o₃ o₄ : List ℕ} {at n₁ n₂ n₃ n₄ : ℕ}
-    → Put out at (head_of (length a + length b + length c) s k (length x + length y + length z)) o₁ n₁
-    → Put o₁ n₁ (a ++ b ++ c) o₂ n₂ → Put o₂ n₂ (flatten (later s k)) o₃ n₃ → Put o₃ n₃ (x ++ y ++ z) o₄ n₄
-    → Put out at (around (a ++ b ++ c) s k (x ++ y ++ z)) o₄ n₄
-put_around a b c s k x y z p q r t =
-    as_bytes (around_runs (a ++ b ++ c) s k (x ++ y ++ z))
-    (then (rw (← three-length a b c, ← three-length x y z) at p) (then (then q r) t))
-
--- ---- sizes that stop at a cap
-
-pub cap_next : (m n x b : ℕ) → n ≡ min x 133117 → m ≡ min (n + b) 133117 → m ≡ min (x + b) 133117
-cap_next m n x b e f = omega arith
-
-cap_both : (m n l x y : ℕ) → n ≡ min x 133117 → l ≡ min y 133117 → m ≡ min (n + l) 133117 → m ≡ min (x + y) 133117
-cap_both m n l x y e f g = omega arith
-
-pub list_cap : (first : ℕ) (s : List ℕ) (k last : ℕ) {w n₁ z n₂ n₃ : ℕ} → w ≡ min (4 * last) 4 → n₁ ≡ min (8 + 4 * k + w + first) 133117
-    → z ≡ min (length (flatten (later s k))) 133117 → n₂ ≡ min (n₁ + z) 133117 → n₃ ≡ min (n₂ + last) 133117 → n₃ ≡ min (list_size first s k last) 133117
-list_cap first s k last a b c d e =
-    cap_next _ _ _ last (cap_both _ _ _ (head_size k last + first) (length (flatten (later s k))) (rw a at b) c d) e
+pub put_around : (first s : List ℕ) (k : ℕ) (last : List ℕ) {out o₁ o₂ o₃ o₄ : List ℕ} {at n₁ n₂ n₃ n₄ f l : ℕ}
+    → Room out at (list_size (length first) s k (length last)) → f ≡ min (length first) 133117 → l ≡ min (length last) 133117
+    → Put out at (head_of f s k l) o₁ n₁ → n₁ ≡ at + head_size k l → o₂ ≡ put_at o₁ n₁ first → n₂ ≡ put_end o₁ n₁ first
+    → Put o₂ n₂ (flatten (later s k)) o₃ n₃ → o₄ ≡ put_at o₃ n₃ last → n₄ ≡ put_end o₃ n₃ last
+    → Put out at (around first s k last) o₄ n₄
+put_around first s k last {f = f} {l = l} h ef el p v d₁ e₁ q d₂ e₂ =
+    let room = h.0 in
+    let low = h.1 in
+    let fe : f ≡ length first = omega arith in
+    let le : l ≡ length last = omega arith in
+    let a = length-kept p in
+    let p₁ = did first d₁ e₁ (omega arith) in
+    let b = length-kept p₁ in
+    let c = length-kept q in
+    let x = p₁.end in
+    let y = q.end in
+    let p₂ = did last d₂ e₂ (omega arith) in
+    as_bytes (around_runs first s k last) (then (rw (fe, le) at p) (then (then p₁ q) p₂))

@@ -1,49 +1,15 @@
 -- The loops over the later items of a list, whose items start at 1: one law for each need that the general ones do not close as they are.
-use mathlib.Core.Path.{◌≡◌, sym, ap, ◌∙◌}
+use mathlib.Core.Path.{◌≡◌, ap}
 use Prim.Native.Nat.{ℕ, ◌+◌, ◌*◌, ◌^◌, ◌≤◌, ◌<◌, min}
-use mathlib.Core.List.{List, flatten, append-nil}
-use native.Mathlib.Omega.{arith}
-use borrow.Author.Tests.{lt-ltb, le-ltb}
+use mathlib.Core.List.{List, flatten}
 use lib.ListN.{length}
+use mir.Syntax.{w64}
+use mir.Val.{Fits}
 use Rattle.arithmetic.specs.LittleEndian.{to_le}
-use Rattle.arithmetic.proofs.LittleEndianLaws.{length-to_le}
-use Rattle.molecule.specs.Layout.{item_of, item_count}
 use Rattle.molecule.specs.Write.{put_at, put_end, Put}
-use Rattle.list_writer.specs.ListWriter.{bytes_item, item_or, later}
+use Rattle.list_writer.specs.ListWriter.{item_or, later}
 use Rattle.list_writer.specs.Around.{places}
-use Rattle.list_writer.proofs.LoopLaws.{Sizing, size-end, Writing, write-none, write-end, Placing, place_none, place_end}
-
--- ---- an item, or empty bytes
-
-module _ (s : List ℕ) (i : ℕ) {n : ℕ} (e : n ≡ item_count s) where
-  none_is_lem : n ≤ i → to_le 4 0 ≡ item_or s i
-  unfolding item_or bytes_item
-  none_is_lem h = rw (le-ltb i (item_count s) (omega arith)) (sym (append-nil (to_le 4 0)))
-
-  some_is : i < n → item_of s i ≡ item_or s i
-  unfolding item_or
-  some_is h = rw (lt-ltb i (item_count s) (omega arith))
-
-  pub none-length : n ≤ i → 4 ≡ length (item_or s i)
-  none-length h = sym (length-to_le 4 0) ∙ ap length (none_is_lem h)
-
-  pub some-length : {x : List ℕ} → i < n → x ≡ item_of s i → length x ≡ length (item_or s i)
-  some-length h d = ap length (d ∙ some_is h)
-
-  module _ (out : List ℕ) (at : ℕ) where
-    pub put_none : {after : List ℕ} → n ≤ i → after ≡ put_at out at (to_le 4 0) → after ≡ put_at out at (item_or s i)
-    put_none h p = p ∙ ap (put_at out at) (none_is_lem h)
-
-    pub end_none : {r : ℕ} → n ≤ i → r ≡ put_end out at (to_le 4 0) → r ≡ put_end out at (item_or s i)
-    end_none h p = p ∙ ap (put_end out at) (none_is_lem h)
-
-    pub put_some : {x after : List ℕ} → i < n → x ≡ item_of s i → after ≡ put_at out at x → after ≡ put_at out at (item_or s i)
-    put_some h d p = p ∙ ap (put_at out at) (d ∙ some_is h)
-
-    pub end-some : {x : List ℕ} {r : ℕ} → i < n → x ≡ item_of s i → r ≡ put_end out at x → r ≡ put_end out at (item_or s i)
-    end-some h d p = p ∙ ap (put_end out at) (d ∙ some_is h)
-
--- ---- k of them, from the second on
+use Rattle.list_writer.proofs.LoopLaws.{Sizing, size-more, size-end, Writing, write-none, write-more, write-end, Placing, place_none, place-fits, place-more, place_end}
 
 module _ (s : List ℕ) (k : ℕ) where
   pub later-size : {i n : ℕ} → Sizing (item_or s) 1 k i n → k ≤ i → n ≡ min (length (flatten (later s k))) 133117
@@ -67,3 +33,20 @@ module _ (s : List ℕ) (k : ℕ) where
       → Put out at (places o (later s k)) after next
   unfolding later
   places-end g h = place_end g h
+
+  -- a turn, at the item x
+  module _ {x : List ℕ} {i : ℕ} (h : i < k) (e : x ≡ item_or s (i + 1)) where
+    pub later-sized : {n m : ℕ} → Sizing (item_or s) 1 k i n → m ≡ min (n + length x) 133117 → Sizing (item_or s) 1 k (i + 1) m
+    later-sized g f = size-more g h (ap length e) f
+
+    pub later-put : {out o₁ o₂ : List ℕ} {at n₁ n₂ : ℕ} → Writing (item_or s) 1 out at k i o₁ n₁ → o₂ ≡ put_at o₁ n₁ x → n₂ ≡ put_end o₁ n₁ x
+        → Writing (item_or s) 1 out at k (i + 1) o₂ n₂
+    later-put g d f = write-more g h (rw e at d) (rw e at f)
+
+    module _ {o : ℕ} {out o₁ : List ℕ} {at n₁ place : ℕ} (g : Placing (item_or s) 1 o out at k i o₁ n₁ place) where
+      pub later-fits : Fits w64 (place + length x)
+      later-fits = place-fits g h (ap length e)
+
+      pub later-placed : {o₂ : List ℕ} {n₂ : ℕ} → o₂ ≡ put_at o₁ n₁ (to_le 4 place) → n₂ ≡ put_end o₁ n₁ (to_le 4 place)
+          → Placing (item_or s) 1 o out at k (i + 1) o₂ n₂ (place + length x)
+      later-placed d f = place-more g h (ap length e) d f

@@ -1,6 +1,7 @@
 pub mod AgainLaws
 pub mod AnswerLaws
 pub mod HeadLaws
+pub mod JoinLaws
 pub mod LaterLaws
 pub mod LoopLaws
 pub mod SpanLaws

@@ -120,6 +120,3 @@ module _ {f : ℕ → List ℕ} {b o : ℕ} {out o₁ : List ℕ} {at m i n₁ p
 module _ {f : ℕ → List ℕ} {b o : ℕ} {out after : List ℕ} {at m i next place : ℕ} (g : Placing f b o out at m i after next place) (h : m ≤ i) where
   pub place_end : Put out at (places o (span f b m)) after next
   place_end = let e : i ≡ m = omega arith in rw e at g.put
-
-  pub place-next : next ≡ at + 4 * m
-  place-next = omega arith

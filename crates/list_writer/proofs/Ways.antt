@@ -1,9 +1,9 @@
 -- What closes the needs of this crate's functions: `search ways`.
 use borrow.Author.Rules.{rules}
-use Rattle.list_writer.proofs.AnswerLaws.{fit-long, fit_far, fit_short, fit_yes}
-use Rattle.list_writer.proofs.HeadLaws.{two-words, two-end, three-parts, parts-end, no_place, put_place, place_end, put_head_lem, put_around, list_cap}
-use Rattle.list_writer.proofs.LoopLaws.{size_none, size-more, write-more, place-fits, place-more, place-next}
-use Rattle.list_writer.proofs.LaterLaws.{none-length, some-length, put_none, end_none, put_some, end-some, later-size, later-start, later-end, places-start, places-end}
-use Rattle.list_writer.proofs.WholeLaws.{three_cap, whole_out, whole-out-end, whole_room, whole_in, whole_in_end}
+use Rattle.list_writer.proofs.JoinLaws.{each_more, stretches_start, stretches_put, stretches_end, words_start, words_put, words_end}
+use Rattle.list_writer.proofs.LoopLaws.{size_none}
+use Rattle.list_writer.proofs.LaterLaws.{later-size, later-start, later-end, places-start, places-end, later-sized, later-put, later-fits, later-placed}
+use Rattle.list_writer.proofs.HeadLaws.{no_place, place_put, place_end, put_head_lem, put_around}
+use Rattle.list_writer.proofs.WholeLaws.{whole_out, whole-out-end, whole_room, whole_in, whole_in_end}
 
-pub ruleset ways = (rules, fit-long, fit_far, fit_short, fit_yes, two-words, two-end, three-parts, parts-end, no_place, put_place, place_end, put_head_lem, put_around, list_cap, size_none, size-more, write-more, place-fits, place-more, place-next, none-length, some-length, put_none, end_none, put_some, end-some, later-size, later-start, later-end, places-start, places-end, three_cap, whole_out, whole-out-end, whole_room, whole_in, whole_in_end)
+pub ruleset ways = (rules, each_more, stretches_start, stretches_put, stretches_end, words_start, words_put, words_end, size_none, later-size, later-start, later-end, places-start, places-end, later-sized, later-put, later-fits, later-placed, no_place, place_put, place_end, put_head_lem, put_around, whole_out, whole-out-end, whole_room, whole_in, whole_in_end)

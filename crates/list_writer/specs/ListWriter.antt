@@ -1,9 +1,14 @@
 -- What a writer of lists puts (RFC 0008): items of another list, empty bytes for each that it lacks, and a last one where there is one.
-use Rattle.std.specs.Prelude.{ℕ, zero, suc, cond, length, leb, ltb}
+use Rattle.std.specs.Prelude.{ℕ, zero, suc, cond, length, leb, ltb, flat_map}
+use Rattle.std.specs.Borrow.{Bor}
 use mathlib.Core.List.{List, [], ◌∷◌, ◌++◌, flatten}
 use Rattle.arithmetic.specs.LittleEndian.{to_le}
 use Rattle.molecule.specs.Layout.{span, item_of, item_count}
 use Rattle.molecule.specs.Write.{put_at, put_end}
+
+-- the bytes of stretches, one after the other
+abbrev pub joined : List (Bor (List ℕ)) → List ℕ
+joined parts = flat_map (λ p. p.now) parts
 
 -- a fixvec of bytes
 unfoldable pub bytes_item : List ℕ → List ℕ

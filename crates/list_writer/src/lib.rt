@@ -2,11 +2,12 @@
 // transaction, so that no sum overflows and every offset that is written fits 32 bits.
 #![tactic(auto)]
 
-ghost use Rattle.std.specs.Prelude.{◌≡◌, ◌+◌, ◌*◌, ◌≤◌, ◌<◌, ◌^◌, min, length};
-ghost use mathlib.Core.List.{◌++◌, flatten};
+ghost use Rattle.std.specs.Prelude.{◌≡◌, ◌+◌, ◌*◌, ◌≤◌, ◌<◌, ◌^◌, min, length, nat_le};
+ghost use mathlib.Core.List.{flatten};
 ghost use Rattle.arithmetic.specs.LittleEndian.{to_le};
+ghost use Rattle.molecule.specs.Items.{unwords};
 ghost use Rattle.molecule.specs.Write.{put_at, put_end, Put};
-ghost use Rattle.list_writer.specs.ListWriter.{item_or, later, if_positive, put_list, put_list_end};
+ghost use Rattle.list_writer.specs.ListWriter.{joined, item_or, later, if_positive, put_list, put_list_end};
 ghost use Rattle.list_writer.specs.Around.{around, head_size, list_size, places, head_of, fits_at, Room};
 
 use molecule::write;
@@ -18,105 +19,135 @@ pub const MAX_BYTES: usize = 133_116;
 pub fn capped(m: usize, n: usize) -> usize
     ensures { result ≡ min (m + n) 133117 }
 {
-    if m > MAX_BYTES {
-        return MAX_BYTES + 1;
-    }
-    if n > MAX_BYTES - m {
-        return MAX_BYTES + 1;
-    }
-    m + n
+    m.saturating_add(n).min(MAX_BYTES + 1)
 }
 
 // Whether n bytes fit a transaction, and a buffer of `len` bytes from `at` on.
+#[tactic(auto, using(std::proofs::lemmas::Bool::Decides::nat_tests), unfolding(crate::specs::Around::fits_at))]
 pub fn fits(n: usize, at: usize, len: usize) -> bool
     ensures { result ≡ fits_at n at len }
 {
-    if n > MAX_BYTES {
-        return false;
-    }
-    if len < at {
-        return false;
-    }
-    if len - at < n {
-        return false;
+    n <= MAX_BYTES && at <= len && n <= len - at
+}
+
+// How long stretches of bytes are together, and 133,117 for all that is more.
+fn joined_len(parts: &[&[u8]]) -> usize
+    ensures { result ≡ min (length (joined parts.now)) 133117 }
+{
+    parts.iter().fold(0, |n, part| capped(n, part.len()))
+}
+
+// Whether they fit `room` bytes.
+#[tactic(auto, using(std::proofs::lemmas::Bool::Decides::nat_tests, crate::proofs::JoinLaws::part_in))]
+fn has_room(parts: &[&[u8]], room: usize) -> bool
+    ensures { result ≡ nat_le (length (joined parts.now)) room }
+{
+    let mut left = room;
+    for part in parts {
+        let Some(rest) = left.checked_sub(part.len()) else {
+            return false;
+        };
+        left = rest;
     }
     true
 }
 
-// How many bytes item i of s has; a missing one is written as empty bytes, which are their length alone.
-fn item_len(s: &[u8], i: usize) -> usize
-    ensures { result ≡ length (item_or s.now i) }
+// Puts them at `at`, one after the other, and answers the place after them. Where there is no room for all of them nothing is written, and the place
+// that is answered is the one that was given.
+#[tactic(auto, using(std::proofs::lemmas::Bool::Decides::nat_tests), unfolding(molecule::specs::Write::put_at, molecule::specs::Write::put_end))]
+pub fn put_all(out: &mut [u8], at: usize, parts: &[&[u8]]) -> usize
+    ensures out_after { out.new ≡ put_at out.old at (joined parts.now) }
+    ensures value { result ≡ put_end out.old at (joined parts.now) }
 {
-    if molecule::item_count(s) as usize <= i {
-        return 4;
+    if out.len() < at || !has_room(parts, out.len() - at) {
+        return at;
     }
-    molecule::item(s, i).len()
-}
-
-// Puts item i of s.
-fn put_item(out: &mut [u8], at: usize, s: &[u8], i: usize) -> usize
-    ensures out_after { out.new ≡ put_at out.old at (item_or s.now i) }
-    ensures value { result ≡ put_end out.old at (item_or s.now i) }
-{
-    if molecule::item_count(s) as usize <= i {
-        return write::put_u32(out, at, 0);
-    }
-    let x = molecule::item(s, i);
-    write::put(out, at, x)
-}
-
-// How many bytes the k items of s after its first have.
-fn later_size(s: &[u8], k: usize) -> usize
-    ensures { result ≡ min (length (flatten (later s.now k))) 133117 }
-{
-    let mut n: usize = 0;
-    let mut i: usize = 0;
-    while i < k {
-        i += 1;
-        n = capped(n, item_len(s, i));
-    }
-    n
-}
-
-// Puts them.
-fn put_later(out: &mut [u8], at: usize, s: &[u8], k: usize) -> usize
-    requires { at + length (flatten (later s.now k)) ≤ length out.old }
-    ensures { Put out.old at (flatten (later s.now k)) out.new result }
-{
     let mut next = at;
-    let mut i: usize = 0;
-    while i < k {
-        i += 1;
-        next = put_item(out, next, s, i);
+    for part in parts {
+        next = write::put(out, next, part);
     }
     next
 }
 
-// Puts where each of them begins, the first at o.
-fn put_places(out: &mut [u8], at: usize, s: &[u8], k: usize, o: usize) -> usize
-    requires { (at + 4 * k ≤ length out.old) × (o + length (flatten (later s.now k)) < 2 ^ 32) }
-    ensures put { Put out.old at (places o (later s.now k)) out.new result }
-    ensures value { result ≡ at + 4 * k }
+// Puts numbers of four bytes likewise.
+#[tactic(auto, using(std::proofs::lemmas::Bool::Decides::nat_tests, crate::proofs::JoinLaws::words_length), unfolding(molecule::specs::Write::put_at, molecule::specs::Write::put_end))]
+pub fn put_words(out: &mut [u8], at: usize, words: &[u32]) -> usize
+    ensures out_after { out.new ≡ put_at out.old at (unwords words.now) }
+    ensures value { result ≡ put_end out.old at (unwords words.now) }
 {
+    if out.len() < at || (out.len() - at) / 4 < words.len() {
+        return at;
+    }
     let mut next = at;
-    let mut place = o;
-    let mut i: usize = 0;
-    while i < k {
-        i += 1;
-        next = write::put_u32(out, next, place as u32);
-        place += item_len(s, i);
+    for x in words {
+        next = write::put_u32(out, next, *x);
     }
     next
+}
+
+// Item i of s; empty bytes, which are their length alone, where s has fewer.
+#[tactic(auto, unfolding(crate::specs::ListWriter::item_or, crate::specs::ListWriter::bytes_item, arithmetic::specs::LittleEndian::to_le))]
+fn item_or(s: &[u8], i: usize) -> &[u8]
+    ensures { result.now ≡ item_or s.now i }
+{
+    if molecule::item_count(s) as usize <= i {
+        return &[0, 0, 0, 0];
+    }
+    molecule::item(s, i)
+}
+
+// The items of a list after its first: `count` of them, each that is missing as empty bytes.
+#[derive(Clone, Copy)]
+pub struct Later<'a> {
+    pub list: &'a [u8],
+    pub count: usize,
+}
+
+impl Later<'_> {
+    // How many bytes they have.
+    fn len(self) -> usize
+        ensures { result ≡ min (length (flatten (later self.entry.list.now self.entry.count))) 133117 }
+    {
+        let mut n = 0;
+        for i in 0..self.count {
+            n = capped(n, item_or(self.list, i + 1).len());
+        }
+        n
+    }
+
+    // Puts them.
+    fn put(self, out: &mut [u8], at: usize) -> usize
+        requires { at + length (flatten (later self.list.now self.count)) ≤ length out.old }
+        ensures { Put out.old at (flatten (later self.entry.list.now self.entry.count)) out.new result }
+    {
+        let mut next = at;
+        for i in 0..self.count {
+            next = write::put(out, next, item_or(self.list, i + 1));
+        }
+        next
+    }
+
+    // Puts where each of them begins, the first at o.
+    fn put_places(self, out: &mut [u8], at: usize, o: usize) -> usize
+        requires { (at + 4 * self.count ≤ length out.old) × (o + length (flatten (later self.list.now self.count)) < 2 ^ 32) }
+        ensures put { Put out.old at (places o (later self.entry.list.now self.entry.count)) out.new result }
+        ensures value { result ≡ at + 4 * self.entry.count }
+    {
+        let mut next = at;
+        let mut place = o;
+        for i in 0..self.count {
+            next = write::put_u32(out, next, place as u32);
+            place += item_or(self.list, i + 1).len();
+        }
+        next
+    }
 }
 
 // How many bytes the place of a last item of n bytes takes: an empty one is none.
 fn place_len(n: usize) -> usize
     ensures { result ≡ min (4 * n) 4 }
 {
-    if n == 0 {
-        return 0;
-    }
-    4
+    if n == 0 { 0 } else { 4 }
 }
 
 // Puts that place.
@@ -131,108 +162,55 @@ fn put_place(out: &mut [u8], at: usize, n: usize, place: usize) -> usize
     write::put_u32(out, at, place as u32)
 }
 
-// Puts two numbers of four bytes.
-fn put_two_words(out: &mut [u8], at: usize, x: u32, y: u32) -> usize
-    requires { at + 8 ≤ length out.old }
-    ensures put { Put out.old at (to_le 4 x ++ to_le 4 y) out.new result }
-    ensures value { result ≡ at + 8 }
-{
-    let at = write::put_u32(out, at, x);
-    write::put_u32(out, at, y)
-}
-
 // Puts the header of the list whose first item has `first` bytes and whose last has `last`.
-fn put_head(out: &mut [u8], at: usize, first: usize, s: &[u8], k: usize, last: usize) -> usize
-    requires { Room out.old at (list_size first s.now k last) }
-    ensures put { Put out.old at (head_of first s.now k last) out.new result }
-    ensures value { result ≡ at + head_size k last }
+#[tactic(auto, using(molecule::proofs::WriteLaws::end_yes, crate::proofs::JoinLaws::words_length))]
+fn put_head(out: &mut [u8], at: usize, first: usize, items: Later, last: usize) -> usize
+    requires { Room out.old at (list_size first items.list.now items.count last) }
+    ensures put { Put out.old at (head_of first items.entry.list.now items.entry.count last) out.new result }
+    ensures value { result ≡ at + head_size items.entry.count last }
 {
-    let h = 8 + 4 * k + place_len(last);
+    let h = 8 + 4 * items.count + place_len(last);
     let o = h + first;
-    let end = o + later_size(s, k);
-    let at = put_two_words(out, at, (end + last) as u32, h as u32);
-    let at = put_places(out, at, s, k, o);
+    let end = o + items.len();
+    let at = put_words(out, at, &[(end + last) as u32, h as u32]);
+    let at = items.put_places(out, at, o);
     put_place(out, at, last, end)
 }
 
-// Puts three stretches of bytes.
-fn put_three(out: &mut [u8], at: usize, a: &[u8], b: &[u8], c: &[u8]) -> usize
-    requires { at + length a.now + length b.now + length c.now ≤ length out.old }
-    ensures put { Put out.old at (a.now ++ b.now ++ c.now) out.new result }
-    ensures value { result ≡ at + length a.now + length b.now + length c.now }
-{
-    let at = write::put(out, at, a);
-    let at = write::put(out, at, b);
-    write::put(out, at, c)
-}
-
 // Puts the list where it fits.
-fn put_whole(
-    out: &mut [u8],
-    at: usize,
-    a: &[u8],
-    b: &[u8],
-    c: &[u8],
-    s: &[u8],
-    k: usize,
-    x: &[u8],
-    y: &[u8],
-    z: &[u8],
-) -> usize
-    requires { Room out.old at (list_size (length a.now + length b.now + length c.now) s.now k (length x.now + length y.now + length z.now)) }
-    ensures { Put out.old at (around (a.now ++ b.now ++ c.now) s.now k (x.now ++ y.now ++ z.now)) out.new result }
+#[tactic(auto, using(molecule::proofs::WriteLaws::end_yes))]
+fn put_whole(out: &mut [u8], at: usize, first: &[&[u8]], items: Later, last: &[&[u8]]) -> usize
+    requires { Room out.old at (list_size (length (joined first.now)) items.list.now items.count (length (joined last.now))) }
+    ensures { Put out.old at (around (joined first.now) items.entry.list.now items.entry.count (joined last.now)) out.new result }
 {
-    let first = a.len() + b.len() + c.len();
-    let last = x.len() + y.len() + z.len();
-    let at = put_head(out, at, first, s, k, last);
-    let at = put_three(out, at, a, b, c);
-    let at = put_later(out, at, s, k);
-    put_three(out, at, x, y, z)
+    let at = put_head(out, at, joined_len(first), items, joined_len(last));
+    let at = put_all(out, at, first);
+    let at = items.put(out, at);
+    put_all(out, at, last)
 }
 
-// How long a list is whose first item has `first` bytes and whose last has `last`, with the k items of s after its first between them. More items than a
-// transaction has places for are not looked at.
-pub fn list_size(first: usize, s: &[u8], k: usize, last: usize) -> usize
-    ensures { result ≡ min (list_size first s.now k last) 133117 }
+// How long a list is whose first item has `first` bytes and whose last has `last`, with `items` between them. More items than a transaction has places
+// for are not looked at.
+pub fn list_size(first: usize, items: Later, last: usize) -> usize
+    ensures { result ≡ min (list_size first items.entry.list.now items.entry.count last) 133117 }
 {
-    if k > MAX_BYTES / 4 {
+    if items.count > MAX_BYTES / 4 {
         return MAX_BYTES + 1;
     }
-    let n = capped(8 + 4 * k + place_len(last), first);
-    let n = capped(n, later_size(s, k));
+    let n = capped(8 + 4 * items.count + place_len(last), first);
+    let n = capped(n, items.len());
     capped(n, last)
 }
 
-// How long three stretches are together.
-fn three_size(a: &[u8], b: &[u8], c: &[u8]) -> usize
-    ensures { result ≡ min (length a.now + length b.now + length c.now) 133117 }
+// Puts the list of the item `first`, of `items`, and of the item `last`, unless that is empty. Where the list does not fit a transaction and the buffer
+// nothing is written, and the place that is answered is the one that was given.
+pub fn put_list(out: &mut [u8], at: usize, first: &[&[u8]], items: Later, last: &[&[u8]]) -> usize
+    ensures out_after { out.new ≡ put_list out.old at (around (joined first.now) items.entry.list.now items.entry.count (joined last.now)) }
+    ensures value { result ≡ put_list_end out.old at (around (joined first.now) items.entry.list.now items.entry.count (joined last.now)) }
 {
-    let n = capped(a.len(), b.len());
-    capped(n, c.len())
-}
-
-// Puts the list of the item a ++ b ++ c, the k items of s after its first, and the item x ++ y ++ z, unless that is empty. Where the list does not fit
-// a transaction and the buffer nothing is written, and the place that is answered is the one that was given.
-pub fn put_list(
-    out: &mut [u8],
-    at: usize,
-    a: &[u8],
-    b: &[u8],
-    c: &[u8],
-    s: &[u8],
-    k: usize,
-    x: &[u8],
-    y: &[u8],
-    z: &[u8],
-) -> usize
-    ensures out_after { out.new ≡ put_list out.old at (around (a.now ++ b.now ++ c.now) s.now k (x.now ++ y.now ++ z.now)) }
-    ensures value { result ≡ put_list_end out.old at (around (a.now ++ b.now ++ c.now) s.now k (x.now ++ y.now ++ z.now)) }
-{
-    let first = three_size(a, b, c);
-    let last = three_size(x, y, z);
-    let n = list_size(first, s, k, last);
+    let n = list_size(joined_len(first), items, joined_len(last));
     if !fits(n, at, out.len()) {
         return at;
     }
-    put_whole(out, at, a, b, c, s, k, x, y, z)
+    put_whole(out, at, first, items, last)
 }

@@ -2,52 +2,26 @@
 use mathlib.Core.Path.{◌≡◌, refl, sym, ap, ap₂, ◌∙◌}
 use Prim.Native.Nat.{ℕ, ◌+◌, ◌-◌, ◌≤◌, ◌<◌}
 use mathlib.Core.List.{List, ◌++◌}
-use mathlib.Core.Bool.{Bool, true, false, not, false≢true}
+use mathlib.Core.Bool.{Bool, true, false, not, ◌&&◌, and-true, false≢true}
 use native.Mathlib.Omega.{arith}
 use borrow.Author.Tests.{not-true, not-false}
+use lib.Dec.{eqb}
 use lib.ListN.{length, take, drop, get_or, take-append-drop, length-drop}
-use lib.Seq.{length-take-le, take_all, take-take, take-add, get_or-take, get_or-drop}
+use lib.Seq.{drop-cons, take_all, take-take, take-add, get_or-drop}
 use Rattle.lists.specs.Lists.{eq_bytes}
-use Rattle.lists.proofs.EqualLaws.{Flagged, eq_true, eq_refl, not_so, flag_start, flag_more, flag_differ, flag_end}
+use Rattle.lists.proofs.EqualLaws.{eq_true, eq_refl, not_so, eq_split}
 
 abbrev pub block : ℕ → ℕ → List ℕ → List ℕ
 block k at s = take k (drop at s)
 
-block_length : (k at : ℕ) (s : List ℕ) → at + k ≤ length s → length (block k at s) ≡ k
-block_length k at s h = length-take-le k (drop at s) (omega (arith, length-drop at s))
-
-block_byte : (k at i : ℕ) (s : List ℕ) → i < k → get_or (block k at s) i 0 ≡ get_or s (at + i) 0
-block_byte k at i s h = get_or-take k (drop at s) i 0 h ∙ get_or-drop at s i 0
-
--- ---- within a block
-
-pub record InBlock (k at : ℕ) (a b : List ℕ) (ok : Bool) (i : ℕ) : Type 0 where
-  pub aroom : at + k ≤ length a
-  pub broom : at + k ≤ length b
-  pub flagged : Flagged (block k at a) (block k at b) ok i
-
-pub block_start : (k at : ℕ) (a b : List ℕ) → at + k ≤ length a → at + k ≤ length b → InBlock k at a b true 0
-block_start k at a b g h = record { aroom = g; broom = h; flagged = flag_start _ _ (block_length k at a g ∙ sym (block_length k at b h)) }
-
-module _ {k at : ℕ} {a b : List ℕ} {ok : Bool} {i : ℕ} (r : InBlock k at a b ok i) where
-  pub block_more : i < k → get_or a (at + i) 0 ≡ get_or b (at + i) 0 → InBlock k at a b ok (i + 1)
-  block_more h e =
-      record {
-        aroom = r.aroom;
-        broom = r.broom;
-        flagged = flag_more r.flagged (omega (arith, block_length k at a r.aroom)) (block_byte k at i a h ∙ e ∙ sym (block_byte k at i b h));
-      }
-
-  pub block_differ : i < k → (get_or a (at + i) 0 ≡ get_or b (at + i) 0 → ⊥) → InBlock k at a b false (i + 1)
-  block_differ h e =
-      record {
-        aroom = r.aroom;
-        broom = r.broom;
-        flagged = flag_differ r.flagged (omega (arith, block_length k at a r.aroom)) (λ f. e (sym (block_byte k at i a h) ∙ f ∙ block_byte k at i b h));
-      }
-
-  pub block_end : k ≤ i → ok ≡ eq_bytes (block k at a) (block k at b)
-  block_end h = flag_end r.flagged (omega (arith, block_length k at a r.aroom))
+-- a byte more of a block
+pub block_more : (i at : ℕ) (a b : List ℕ) → at + i < length a → at + i < length b
+    → eq_bytes (block (i + 1) at a) (block (i + 1) at b) ≡ (eq_bytes (block i at a) (block i at b) && eqb (get_or a (at + i) 0) (get_or b (at + i) 0))
+unfolding eq_bytes
+block_more i at a b g h =
+    let p : i < length (drop at a) = omega (arith, length-drop at a) in
+    let q : i < length (drop at b) = omega (arith, length-drop at b) in
+    eq_split i 1 (drop at a) (drop at b) ∙ rw (drop-cons (drop at a) i 0 p, drop-cons (drop at b) i 0 q, get_or-drop at a i 0, get_or-drop at b i 0, and-true)
 
 -- ---- block by block: the first i bytes agree
 
@@ -88,8 +62,12 @@ module _ {a b : List ℕ} {i : ℕ} (g : Agreed a b i) where
       sym (rw whole (eq_refl b))
 
 -- a first block and a last are all, where no byte stands between them
-pub two_blocks : (a b : List ℕ) {q r : Bool} → length a ≡ length b → 64 ≤ length a → length a ≤ 128 → q ≡ eq_bytes (block 64 0 a) (block 64 0 b) → not q ≡ false
-    → r ≡ eq_bytes (block 64 (length a - 64) a) (block 64 (length a - 64) b) → r ≡ eq_bytes a b
-two_blocks a b {r = r} n l m e h f =
-    let g : Agreed a b 64 = record { along = n; awithin = l; alike = eq_true _ _ (sym e ∙ not-false _ h) } in
-    agreed_end g 64 r (omega arith) f
+pub two_blocks : (a b : List ℕ) → length a ≡ length b → 64 ≤ length a → length a ≤ 128
+    → eq_bytes a b ≡ (eq_bytes (block 64 0 a) (block 64 0 b) && eq_bytes (block 64 (length a - 64) a) (block 64 (length a - 64) b))
+two_blocks a b n l m = by (eq_bytes (block 64 0 a) (block 64 0 b)) refl
+  where
+    by : (q : Bool) → eq_bytes (block 64 0 a) (block 64 0 b) ≡ q → eq_bytes a b ≡ (q && eq_bytes (block 64 (length a - 64) a) (block 64 (length a - 64) b))
+    by true e =
+        let g : Agreed a b 64 = record { along = n; awithin = l; alike = eq_true _ _ e } in
+        sym (agreed_end g 64 _ (omega arith) refl)
+    by false e = differs 64 0 a b e

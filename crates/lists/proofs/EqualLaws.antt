@@ -1,14 +1,16 @@
 -- Laws of `eq_bytes`: it is equality, and one law for each way out of the function that computes it.
 use mathlib.Core.Path.{◌≡◌, refl, sym, ap, ap₂, ◌∙◌}
-use Prim.Native.Nat.{ℕ, ◌+◌, ◌-◌, ◌≤◌, ◌<◌}
+use Prim.Native.Nat.{ℕ, zero, suc, ◌+◌, ◌-◌}
 use mathlib.Core.List.{List, [], ◌∷◌}
-use mathlib.Core.Bool.{Bool, true, false, ◌&&◌, false≢true, and-true, and-false, and-eq-true_iff}
-use native.Mathlib.Numerals.{add-one}
+use mathlib.Core.Bool.{Bool, true, false, ◌&&◌, false≢true, and_assoc, and-eq-true_iff}
+use native.Mathlib.Nat.{zero-add}
 use native.Mathlib.Omega.{arith}
-use borrow.Author.Tests.{eq-eqb, ne_eqb, eqb-true}
+use borrow.Author.Tests.{eq-eqb, eqb-true}
 use lib.Dec.{eqb}
-use lib.ListN.{length, take, drop, get_or, drop_of_length-le}
-use lib.Seq.{drop-cons, take_all}
+use lib.ListN.{length, take, drop}
+use lib.Seq.{take_all}
+use Rattle.std.specs.Cmp.Lexicographic.{pointwise}
+use Rattle.std.specs.Prelude.{nat_eq}
 use Rattle.lists.specs.Lists.{eq_bytes}
 
 pub not_so : (b : Bool) → (b ≡ true → ⊥) → b ≡ false
@@ -30,50 +32,24 @@ eq_true (x ∷ xs) [] h = absurd (false≢true h)
 eq_true (x ∷ xs) (y ∷ ys) h =
     ap₂ {C = List ℕ} (λ (a : ℕ) (l : List ℕ). a ∷ l) (eqb-true x y ((and-eq-true_iff (eqb x y) (eq_bytes xs ys)).0 h).0) (eq_true xs ys ((and-eq-true_iff (eqb x y) (eq_bytes xs ys)).0 h).1)
 
--- lists of different lengths differ
-pub eq_length : (a b : List ℕ) → (length a ≡ length b → ⊥) → false ≡ eq_bytes a b
-eq_length a b h = sym (not_so _ (λ e. h (ap length (eq_true a b e))))
+-- the first k bytes, then j more
+pub eq_split : (k j : ℕ) (a b : List ℕ) → eq_bytes (take (k + j) a) (take (k + j) b) ≡ eq_bytes (take k a) (take k b) && eq_bytes (take j (drop k a)) (take j (drop k b))
+unfolding eq_bytes
+eq_split zero j a b = rw (zero-add j)
+eq_split (suc k) j [] [] = eq_refl (take (suc k + j) []) ∙ sym (eq_refl (take j []))
+eq_split (suc k) j [] (y ∷ ys) = let e : suc k + j ≡ suc (k + j) = omega arith in rw e
+eq_split (suc k) j (x ∷ xs) [] = let e : suc k + j ≡ suc (k + j) = omega arith in rw e
+eq_split (suc k) j (x ∷ xs) (y ∷ ys) =
+    let e : suc k + j ≡ suc (k + j) = omega arith in
+    rw e (ap (λ (r : Bool). eqb x y && r) (eq_split k j xs ys) ∙ sym (and_assoc (eqb x y) (eq_bytes (take k xs) (take k ys)) (eq_bytes (take j (drop k xs)) (take j (drop k ys)))))
 
--- what a loop that has looked at i bytes knows: its flag, and the bytes that follow, decide
-pub record Flagged (a b : List ℕ) (ok : Bool) (i : ℕ) : Type 0 where
-  pub fwithin : i ≤ length a
-  pub flong : length a ≡ length b
-  pub flag : eq_bytes a b ≡ ok && eq_bytes (drop i a) (drop i b)
-
-pub flag_start : (a b : List ℕ) → length a ≡ length b → Flagged a b true 0
-flag_start a b h = record { fwithin = omega arith; flong = h; flag = refl }
-
-module _ {a b : List ℕ} {ok : Bool} {i : ℕ} (r : Flagged a b ok i) where
-  pub flag_more : i < length a → get_or a i 0 ≡ get_or b i 0 → Flagged a b ok (i + 1)
-  unfolding eq_bytes
-  flag_more h e =
-      let l : length a ≡ length b = r.flong in
-      let k : i < length b = omega arith in
-      record {
-        fwithin = omega arith;
-        flong = l;
-        flag = r.flag ∙ ap (λ (x : Bool). ok && x) (rw (add-one, drop-cons a i 0 h, drop-cons b i 0 k, eq-eqb _ _ e));
-      }
-
-  pub flag_differ : i < length a → (get_or a i 0 ≡ get_or b i 0 → ⊥) → Flagged a b false (i + 1)
-  unfolding eq_bytes
-  flag_differ h e =
-      let l : length a ≡ length b = r.flong in
-      let k : i < length b = omega arith in
-      let n : eq_bytes (drop i a) (drop i b) ≡ false = rw (drop-cons a i 0 h, drop-cons b i 0 k, ne_eqb _ _ e) in
-      record {
-        fwithin = omega arith;
-        flong = l;
-        flag = r.flag ∙ ap (λ (x : Bool). ok && x) n ∙ and-false ok;
-      }
-
-  pub flag_end : length a ≤ i → ok ≡ eq_bytes a b
-  unfolding eq_bytes
-  flag_end h =
-      let l : length a ≡ length b = r.flong in
-      let k : length b ≤ i = omega arith in
-      let n : eq_bytes (drop i a) (drop i b) ≡ true = rw (drop_of_length-le a h, drop_of_length-le b k) in
-      sym (r.flag ∙ ap (λ (x : Bool). ok && x) n ∙ and-true ok)
+-- what `==` says
+pub eq-pointwise : (a b : List ℕ) → pointwise nat_eq a b ≡ eq_bytes a b
+unfolding eq_bytes
+eq-pointwise [] [] = refl
+eq-pointwise [] (y ∷ ys) = refl
+eq-pointwise (x ∷ xs) [] = refl
+eq-pointwise (x ∷ xs) (y ∷ ys) = ap (λ (r : Bool). eqb x y && r) (eq-pointwise xs ys)
 
 -- two items, each what a call gave
 pub eq_items : (a b : List ℕ) {x y : List ℕ} {r : Bool} → x ≡ a → y ≡ b → r ≡ eq_bytes x y → r ≡ eq_bytes a b

@@ -6,7 +6,7 @@ use mathlib.Core.Bool.{Bool, true, false, not, cond}
 use native.Mathlib.Omega.{arith}
 use borrow.Author.Tests.{not-true, not-false}
 use lib.ListN.{drop}
-use native.Mathlib.Nat.{le_of_suc-le-suc, not-suc-le-zero, add-zero}
+use native.Mathlib.Nat.{le_of_suc-le-suc, not-suc-le-zero, add-zero, zero-add}
 use Rattle.molecule.specs.Layout.{span}
 use Rattle.lists.specs.Lists.{eq_bytes, extends, contains, contains_all}
 use Rattle.lists.proofs.SpanLaws.{span-on, span-end, span-drop, span-whole}
@@ -15,11 +15,9 @@ use Rattle.lists.proofs.SpanLaws.{span-on, span-end, span-drop, span-whole}
 pub record Left (f g : ℕ → List ℕ) (m n i : ℕ) (R : Bool) : Type 0 where
   pub rest : R ≡ extends (span f i (m - i)) (span g i (n - i))
 
-pub left-whole : (f g : ℕ → List ℕ) {m n k l : ℕ} → m ≡ k → n ≡ l → Left f g m n 0 (extends (span f 0 k) (span g 0 l))
-left-whole f g {m} {n} p q = record { rest = rw (← p, ← q) (ap₂ extends (span-whole f m) (span-whole g n)) }
-
-pub left_tail : (f g : ℕ → List ℕ) {m n k l : ℕ} → m ≡ k → n ≡ l → Left f g m n 1 (extends (drop 1 (span f 0 k)) (drop 1 (span g 0 l)))
-left_tail f g {m} {n} p q = record { rest = rw (← p, ← q) (ap₂ extends (span-drop f 1 0 m) (span-drop g 1 0 n)) }
+-- from j on
+pub left_from : (f g : ℕ → List ℕ) (j : ℕ) {m n k l : ℕ} → m ≡ k → n ≡ l → Left f g m n j (extends (drop j (span f 0 k)) (drop j (span g 0 l)))
+left_from f g j {m} {n} p q = record { rest = rw (← p, ← q) (ap₂ extends (span-drop f j 0 m ∙ ap (λ (i : ℕ). span f i (m - j)) (zero-add j)) (span-drop g j 0 n ∙ ap (λ (i : ℕ). span g i (n - j)) (zero-add j))) }
 
 module _ {f g : ℕ → List ℕ} {m n i : ℕ} {R : Bool} (h : Left f g m n i R) where
   pub left_end : m ≤ i → true ≡ R

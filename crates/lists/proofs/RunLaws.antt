@@ -1,29 +1,17 @@
 -- Items of one size that lie next to each other, compared as one run of bytes.
 use mathlib.Core.Path.{◌≡◌, refl, sym, ap, ap₂, ◌∙◌}
 use Prim.Native.Nat.{ℕ, zero, suc, ◌+◌, ◌-◌, ◌*◌, ◌≤◌, ◌<◌}
-use mathlib.Core.List.{List, [], ◌∷◌}
-use mathlib.Core.Bool.{Bool, false, ◌&&◌, and-false, and_assoc}
-use native.Mathlib.Nat.{mul-suc, mul-zero, zero-add}
+use mathlib.Core.List.{List}
+use mathlib.Core.Bool.{Bool, false, ◌&&◌, and-false}
+use native.Mathlib.Nat.{mul-suc, mul-zero}
 use native.Mathlib.Omega.{arith}
 use borrow.Author.Tests.{lt-ltb}
-use lib.Dec.{eqb}
 use lib.ListN.{take, drop}
 use lib.Seq.{drop-drop}
 use Rattle.molecule.specs.Layout.{part, span, word, fix_count, fix_item, fix_items}
 use Rattle.molecule.proofs.LayoutLaws.{fix_count_said}
 use Rattle.lists.specs.Lists.{eq_bytes, extends}
-use Rattle.lists.proofs.EqualLaws.{eq_refl}
-
--- the first k bytes, then j more
-pub eq_split : (k j : ℕ) (a b : List ℕ) → eq_bytes (take (k + j) a) (take (k + j) b) ≡ eq_bytes (take k a) (take k b) && eq_bytes (take j (drop k a)) (take j (drop k b))
-unfolding eq_bytes
-eq_split zero j a b = rw (zero-add j)
-eq_split (suc k) j [] [] = eq_refl (take (suc k + j) []) ∙ sym (eq_refl (take j []))
-eq_split (suc k) j [] (y ∷ ys) = let e : suc k + j ≡ suc (k + j) = omega arith in rw e
-eq_split (suc k) j (x ∷ xs) [] = let e : suc k + j ≡ suc (k + j) = omega arith in rw e
-eq_split (suc k) j (x ∷ xs) (y ∷ ys) =
-    let e : suc k + j ≡ suc (k + j) = omega arith in
-    rw e (ap (λ (r : Bool). eqb x y && r) (eq_split k j xs ys) ∙ sym (and_assoc (eqb x y) (eq_bytes (take k xs) (take k ys)) (eq_bytes (take j (drop k xs)) (take j (drop k ys)))))
+use Rattle.lists.proofs.EqualLaws.{eq_split}
 
 -- a list that has more items than the other
 pub short : (f g : ℕ → List ℕ) (i r s : ℕ) → s < r → extends (span f i r) (span g i s) ≡ false

@@ -12,7 +12,7 @@ use mir.Val.{Fits}
 use lib.Dec.{ltb}
 use lib.ListN.{length, take, drop, length-drop, drop_of_length-le}
 use lib.Seq.{take_all, take-nil}
-use Rattle.arithmetic.specs.LittleEndian.{u32_at, AllBytes}
+use Rattle.arithmetic.specs.LittleEndian.{AllBytes}
 use Rattle.molecule.proofs.Offsets.{start-out}
 use Rattle.molecule.proofs.ItemsLaws.{bytes_take, bytes_drop}
 use Rattle.molecule.specs.Layout.{part, part_start, inside, word, start, field_of, field_start, item_count, item_of, item_start, fix_count, fix_item, fix_start, content, content_start, entry_of, entry_start}
@@ -74,12 +74,6 @@ inside-twice p a b e f =
     let w : p.1 + a + b ≡ p.1 + (a + b) = omega arith in
     f ∙ ap (λ (q : ℕ × ℕ). inside q b) e ∙ ap {B = ℕ × ℕ} (λ (n : ℕ). (p.0, n)) w
 
--- ---- words
-
-pub word-is : (s : List ℕ) (i : ℕ) {r : ℕ} → r ≡ u32_at s (4 * i) → r ≡ word s i
-unfolding word
-word-is s i h = h
-
 -- ---- items
 
 -- a and b are what `start` gave, f a part between them and q its place
@@ -92,13 +86,6 @@ module _ (s : List ℕ) (n i : ℕ) {a b : ℕ} (ea : a ≡ start s n i) (eb : b
   unfolding field_start
   field_place p h = rw (← ea, ← eb) h
 
-module _ (s : List ℕ) (n i : ℕ) (h : n ≤ i) where
-  pub field_out : {f : List ℕ} → f ≡ part s (length s) (length s) → f ≡ field_of s n i
-  field_out e = field_is s n i (start-out s n i h) (start-out s n (i + 1) (omega arith)) e
-
-  pub field_out-place : (p : ℕ × ℕ) {q : ℕ × ℕ} → q ≡ inside p (part_start s (length s) (length s)) → q ≡ inside p (field_start s n i)
-  field_out-place p e = field_place s n i (start-out s n i h) (start-out s n (i + 1) (omega arith)) p e
-
 pub bytes_field : (s : List ℕ) (n i : ℕ) → AllBytes s → AllBytes (field_of s n i)
 unfolding field_of
 bytes_field s n i b = bytes-part s (start s n i) (start s n (i + 1)) b
@@ -108,33 +95,16 @@ pub no_field : (n i : ℕ) → field_of [] n i ≡ []
 unfolding field_of
 no_field n i = part_none [] (start [] n i) (start [] n (i + 1)) (omega arith)
 
-pub field_length : (s : List ℕ) (n i : ℕ) {f : List ℕ} → f ≡ field_of s n i → length f ≡ length (field_of s n i)
-field_length s n i e = ap length e
-
 -- no more than the bytes have numbers
 pub item-count-within : (s : List ℕ) → item_count s ≤ length s / 4
 unfolding item_count
 item-count-within s = omega arith
-
--- w is the second word
-module _ (s : List ℕ) {w : ℕ} (e : w ≡ word s 1) where
-  pub count_small : w < 8 → 0 ≡ item_count s
-  unfolding item_count
-  count_small h = omega arith
-
-  pub count-is : {n : ℕ} → n ≡ min (w / 4 - 1) (length s / 4) → n ≡ item_count s
-  unfolding item_count
-  count-is h = rw (← e) h
 
 -- n is what `item_count` gave
 module _ (s : List ℕ) (i : ℕ) {n : ℕ} (e : n ≡ item_count s) where
   pub item-is : {f : List ℕ} → f ≡ field_of s n i → f ≡ item_of s i
   unfolding item_of
   item-is h = rw (← e) h
-
-  pub item-place : (p : ℕ × ℕ) {q : ℕ × ℕ} → q ≡ inside p (field_start s n i) → q ≡ inside p (item_start s i)
-  unfolding item_start
-  item-place p h = rw (← e) h
 
 -- past the count there is no item
 pub item_past : (s : List ℕ) (i : ℕ) → item_count s ≤ i → item_of s i ≡ []
@@ -165,12 +135,6 @@ module _ (a b : ℕ) (ha : Fits w32 a) where
 
   pub end_below : (n : ℕ) → Fits w32 n → b < n → Fits w64 (4 + a * b + a)
   end_below n hn h = omega (arith, mul32 a b (omega arith) (omega arith))
-
--- n is what `word` gave
-module _ (s : List ℕ) {n : ℕ} (e : n ≡ word s 0) where
-  pub fix_count-is : {r : ℕ} → r ≡ min n (length s) → r ≡ fix_count s
-  unfolding fix_count
-  fix_count-is h = rw (← e) h
 
 -- no more than the bytes, and than the first word
 module _ (s : List ℕ) where
@@ -205,10 +169,6 @@ module _ (s : List ℕ) (k i : ℕ) {n : ℕ} (e : n ≡ word s 0) where
   unfolding fix_start part_start
   fix_out-place p h g = let z : min 0 (min 0 (length s)) ≡ 0 = omega arith in g ∙ rw (← e) (simp (le-ltb _ _ h, z))
 
-  pub fix_in_place : (p : ℕ × ℕ) {q : ℕ × ℕ} → i < n → q ≡ inside p (part_start s (4 + k * i) (4 + k * i + k)) → q ≡ inside p (fix_start s k i)
-  unfolding fix_start
-  fix_in_place p h g = g ∙ rw (← e) (simp (lt-ltb _ _ h))
-
 -- past the count there is no item
 pub fix_past : (s : List ℕ) (k i : ℕ) → fix_count s ≤ i → fix_item s k i ≡ []
 unfolding fix_item fix_count
@@ -224,20 +184,8 @@ fix_past s k i h = by (le_or_lt (word s 0) i)
 
 -- ---- bytes
 
-pub content-is : (s : List ℕ) {f : List ℕ} → f ≡ part s 4 (length s) → f ≡ content s
-unfolding content
-content-is s h = h
-
-pub content-place : (s : List ℕ) (p : ℕ × ℕ) {q : ℕ × ℕ} → q ≡ inside p (part_start s 4 (length s)) → q ≡ inside p (content_start s)
-unfolding content_start
-content-place s p h = h
-
 -- x is item i
 module _ (s : List ℕ) (i : ℕ) {x : List ℕ} (e : x ≡ item_of s i) where
-  pub entry-is : {f : List ℕ} → f ≡ content x → f ≡ entry_of s i
-  unfolding entry_of
-  entry-is h = rw (← e) h
-
   pub entry_place : (p : ℕ × ℕ) {q r : ℕ × ℕ} → q ≡ inside p (item_start s i) → r ≡ inside q (content_start x) → r ≡ inside p (entry_start s i)
   unfolding entry_start
   entry_place p g h = inside-twice p (item_start s i) (content_start (item_of s i)) g (rw e at h)

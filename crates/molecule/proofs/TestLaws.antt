@@ -1,36 +1,24 @@
 -- One law for each way out of the functions that test a header, a fixvec or the items of a dynvec.
 use mathlib.Core.Path.{◌≡◌, refl, sym, ◌∙◌}
-use Prim.Native.Nat.{ℕ, ◌+◌, ◌*◌, ◌/◌, ◌^◌, ◌≤◌, ◌<◌}
+use Prim.Native.Nat.{ℕ, zero, suc, ◌+◌, ◌-◌, ◌*◌, ◌/◌, ◌^◌, ◌≤◌, ◌<◌}
 use mathlib.Core.List.{List}
 use mathlib.Core.Bool.{Bool, true, false, not, ◌&&◌, and-false}
 use native.Mathlib.Numerals.{add-one}
 use native.Mathlib.Omega.{arith}
-use borrow.Author.Tests.{le-leb, lt-leb, lt-ltb, le-ltb, eq-eqb, ne_eqb, not-true, not-false}
-use lib.Dec.{T}
+use borrow.Author.Tests.{le-leb, leb-true, lt-leb, lt-ltb, eq-eqb, not-true, not-false}
+use lib.Dec.{T, leb, ltb, eqb}
 use lib.ListN.{length}
+use Rattle.std.proofs.lemmas.Bool.Decides.{nat_tests}
 use Rattle.molecule.specs.Molecule.{Ty, byte, array, fixvec, dynvec, size, readable}
 use Rattle.molecule.proofs.Valid.{fixed}
-use Rattle.molecule.specs.Layout.{part, word, start, has_header, has_items, field_of, item_count, item_of}
-use Rattle.molecule.proofs.Offsets.{up_to, in_order, offsets_ok, up_stop}
+use Rattle.molecule.specs.Layout.{part, word, start, has_header, has_items, item_count, item_of}
+use Rattle.molecule.proofs.Offsets.{up_to, in_order, offsets_ok, up_stop, up_all, offsets-parts, start-out}
 use Rattle.molecule.proofs.LayoutLaws.{field_is, item-is}
 use Rattle.molecule.proofs.HeaderLaws.{offsets-has, dynvec-readable, fixvec-says, fixvec-readable}
 
 -- ---- a header of n items
 
 module _ (s : List ℕ) (n : ℕ) where
-  pub header-room : length s / 4 ≤ n → false ≡ has_header s n
-  unfolding has_header
-  header-room h = sym (simp (le-ltb n (length s / 4) h))
-
-  -- w is the first word, and a the first start
-  pub header-size : {w : ℕ} → w ≡ word s 0 → (w ≡ length s → ⊥) → false ≡ has_header s n
-  unfolding has_header
-  header-size e h = sym (simp (← e, ne_eqb _ _ h, and-false))
-
-  pub header-first : {a : ℕ} → a ≡ start s n 0 → (a ≡ 4 + 4 * n → ⊥) → false ≡ has_header s n
-  unfolding has_header
-  header-first e h = sym (simp (← e, ne_eqb _ _ h, and-false))
-
   pub header_is : {w a : ℕ} → n < length s / 4 → w ≡ word s 0 → w ≡ length s → a ≡ start s n 0 → a ≡ 4 + 4 * n → true ≡ has_header s n
   unfolding has_header
   header_is l ew hw ea ha = sym (simp (lt-ltb n (length s / 4) l, ← ew, eq-eqb _ _ hw, ← ea, eq-eqb _ _ ha))
@@ -86,20 +74,14 @@ module _ (s : List ℕ) (k : ℕ) where
   unfolding size
   bytes-size = omega arith
 
+  pub fix_says : readable (fixvec (array byte k)) s ≡ (leb (length s) 4294967295 && leb 4 (length s) && eqb (length s) (4 + k * word s 0))
+  fix_says = fixvec-says (array byte k) bytes_fixed s ∙ rw (bytes-size, short) refl
+    where
+      short : ltb (length s) (2 ^ 32) ≡ leb (length s) 4294967295
+      short = grind (arith, nat_tests)
+
   pub fix_short : length s < 4 → false ≡ readable (fixvec (array byte k)) s
-  fix_short h = sym (fixvec-readable (array byte k) bytes_fixed s ∙ simp (lt-leb 4 (length s) h, and-false))
-
-  pub fix_long : 4294967295 < length s → false ≡ readable (fixvec (array byte k)) s
-  fix_long h = let l : 2 ^ 32 ≤ length s = omega arith in sym (fixvec-readable (array byte k) bytes_fixed s ∙ simp (le-ltb (length s) (2 ^ 32) l))
-
-  -- n is what `word` gave
-  pub fix_other : {n : ℕ} → n ≡ word s 0 → (length s ≡ 4 + k * n → ⊥) → false ≡ readable (fixvec (array byte k)) s
-  fix_other e h = sym (fixvec-says (array byte k) bytes_fixed s ∙ rw (bytes-size, ← e) (simp (ne_eqb _ _ h, and-false)))
-
-  pub fix_is : {n : ℕ} → 4 ≤ length s → length s ≤ 4294967295 → n ≡ word s 0 → length s ≡ 4 + k * n → true ≡ readable (fixvec (array byte k)) s
-  fix_is f l e h =
-      let b : length s < 2 ^ 32 = omega arith in
-      sym (fixvec-says (array byte k) bytes_fixed s ∙ rw (bytes-size, ← e) (simp (lt-ltb (length s) (2 ^ 32) b, le-leb 4 (length s) f, eq-eqb _ _ h)))
+  fix_short h = sym (fix_says ∙ simp (lt-leb 4 (length s) h, and-false))
 
 -- any items of k bytes are as good as an array of k bytes
 pub fix_as : (t : Ty) → T (fixed t) → (k : ℕ) → size t ≡ k → (s : List ℕ) {r : Bool} → r ≡ readable (fixvec (array byte k)) s → r ≡ readable (fixvec t) s
@@ -146,14 +128,6 @@ module _ {t : Ty} {s : List ℕ} {n i : ℕ} (g : Reading t s n i) where
       let q : i ≡ n = omega arith in
       sym (dynvec-readable t s ∙ rw (← g.count) (simp (g.head, rw q at g.all)))
 
--- the item as a field of n
-module _ {t : Ty} {s : List ℕ} {n i : ℕ} (g : Reading t s n i) {f : List ℕ} {r : Bool} (l : i < n) (e : f ≡ field_of s n i) (h : r ≡ readable t f) where
-  pub field_more : not r ≡ false → Reading t s n (i + 1)
-  field_more q = reading_more g l (item-is s i g.count e) h q
-
-  pub field_stop : not r ≡ true → false ≡ readable (dynvec t) s
-  field_stop q = reading_stop g l (item-is s i g.count e) h q
-
 -- ---- both at once: the first i of n are in order and are read as t, and the next one starts at `from`
 
 pub record Walked (t : Ty) (s : List ℕ) (n i from : ℕ) : Type 0 where
@@ -173,9 +147,29 @@ module _ (t : Ty) (s : List ℕ) {n : ℕ} {r : Bool} (e : n ≡ item_count s) (
   unfolding up_to
   walked_none q ea = record { count = e; order = ordered_none s n h q ea; all = refl }
 
+-- nothing starts past the end
+starts_within : (s : List ℕ) (n : ℕ) → has_items s n ≡ true → (d i : ℕ) → i + d ≡ n → start s n i ≤ length s
+unfolding in_order
+starts_within s n h zero i e = let z : length s ≡ start s n i = start-out s n i (omega arith) in omega arith
+starts_within s n h (suc d) i e =
+    let o = offsets-parts s n (offsets-has s n ∙ h) in
+    let a : start s n i ≤ start s n (i + 1) = leb-true _ _ (up_all (in_order s n) n o.order i (omega arith)) in
+    let b : start s n (i + 1) ≤ length s = starts_within s n h d (i + 1) (omega arith) in
+    omega arith
+
+no_items : (s : List ℕ) (n i : ℕ) → i ≤ n → length s < start s n i → false ≡ has_items s n
+no_items s n i l h = by (has_items s n) refl
+  where
+    by : (b : Bool) → has_items s n ≡ b → false ≡ b
+    by true q = let w : start s n i ≤ length s = starts_within s n q (n - i) i (omega arith) in absurd (omega arith)
+    by false q = refl
+
 module _ {t : Ty} {s : List ℕ} {n i from : ℕ} (g : Walked t s n i from) where
   pub walked_falls : {to : ℕ} → i < n → to ≡ start s n (i + 1) → to < from → false ≡ readable (dynvec t) s
   walked_falls l e h = disordered t s g.count (ordered_stop g.order l e h)
+
+  pub walked_past : {to : ℕ} → i < n → to ≡ start s n (i + 1) → length s < to → false ≡ readable (dynvec t) s
+  walked_past l e h = disordered t s g.count (no_items s n (i + 1) (omega arith) (rw e at h))
 
   module _ {to : ℕ} {f : List ℕ} {r : Bool} (l : i < n) (e : to ≡ start s n (i + 1)) (k : f ≡ part s from to) (h : r ≡ readable t f) where
     this : f ≡ item_of s i

@@ -5,31 +5,17 @@ ghost use Rattle.molecule.specs.Write.{splice, put_at, put_end};
 
 use arithmetic::little_endian;
 
-// Copies src to `at`, where there is room.
-fn copy(out: &mut [u8], at: usize, src: &[u8])
-    requires { at + length src.now ≤ length out.old }
-    ensures { out.new ≡ splice out.old at src.now }
-{
-    let mut i = 0;
-    while i < src.len() {
-        out[at + i] = src[i];
-        i += 1;
-    }
-}
-
 // Puts src at `at`, and answers the place after it.
 pub fn put(out: &mut [u8], at: usize, src: &[u8]) -> usize
     ensures out_after { out.new ≡ put_at out.old at src.now }
     ensures value { result ≡ put_end out.old at src.now }
 {
-    if out.len() < at {
+    if out.len() < at || out.len() - at < src.len() {
         return at;
     }
-    if out.len() - at < src.len() {
-        return at;
-    }
-    copy(out, at, src);
-    at + src.len()
+    let next = at + src.len();
+    out[at..next].copy_from_slice(src);
+    next
 }
 
 // Puts the four bytes of x at `at`.
@@ -37,8 +23,7 @@ pub fn put_u32(out: &mut [u8], at: usize, x: u32) -> usize
     ensures out_after { out.new ≡ put_at out.old at (to_le 4 x) }
     ensures value { result ≡ put_end out.old at (to_le 4 x) }
 {
-    let bytes = little_endian::u32_bytes(x);
-    put(out, at, &bytes)
+    put(out, at, &little_endian::u32_bytes(x))
 }
 
 // Puts the eight bytes of x at `at`.
@@ -46,6 +31,5 @@ pub fn put_u64(out: &mut [u8], at: usize, x: u64) -> usize
     ensures out_after { out.new ≡ put_at out.old at (to_le 8 x) }
     ensures value { result ≡ put_end out.old at (to_le 8 x) }
 {
-    let bytes = little_endian::u64_bytes(x);
-    put(out, at, &bytes)
+    put(out, at, &little_endian::u64_bytes(x))
 }

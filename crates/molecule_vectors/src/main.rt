@@ -8,19 +8,19 @@ mod rewrite;
 mod types;
 
 use arithmetic::little_endian;
-use molecule::write;
-use transaction_writer::Written;
+use recorded_calls::{FILL, Items};
+use std::alloc::{AllocError, Global};
+use std::io::{Read, Write};
+use std::{fmt, io};
+use types::Kind;
 
-const STDIN_FILENO: i32 = 0;
-
-const STDOUT_FILENO: i32 = 1;
+// How much of standard input is read.
+const LONGEST: u64 = 65_536;
 
 // Room for the longest vector and more.
 const ROOM: usize = 2048;
 
-const MARK: u8 = 0xa5;
-
-#[derive(Clone, Copy)]
+#[derive(Clone, Copy, Debug, Default, PartialEq, Eq)]
 struct Count {
     good: u64,
     damaged: u64,
@@ -28,277 +28,155 @@ struct Count {
     wrong: u64,
 }
 
-fn sum(a: Count, b: Count) -> Count {
-    Count {
-        good: std::num::wrapping_add_u64(a.good, b.good),
-        damaged: std::num::wrapping_add_u64(a.damaged, b.damaged),
-        readable: std::num::wrapping_add_u64(a.readable, b.readable),
-        wrong: std::num::wrapping_add_u64(a.wrong, b.wrong),
+impl Count {
+    fn add(&mut self, other: Count) {
+        self.good = self.good.saturating_add(other.good);
+        self.damaged = self.damaged.saturating_add(other.damaged);
+        self.readable = self.readable.saturating_add(other.readable);
+        self.wrong = self.wrong.saturating_add(other.wrong);
     }
 }
 
-fn print_count(label: &[u8], n: u64) {
-    io::write_all(STDOUT_FILENO, label);
-    io::print_decimal(STDOUT_FILENO, n);
+impl fmt::Display for Count {
+    fn fmt<W: fmt::Write>(&self, f: &mut fmt::Formatter<W>) -> fmt::Result {
+        write!(
+            f,
+            "{} good, {} damaged, of which {} are readable, {} wrong",
+            self.good, self.damaged, self.readable, self.wrong
+        )
+    }
 }
 
-fn print(name: &[u8], c: Count) {
-    io::write_all(STDOUT_FILENO, name);
-    print_count(b": ", c.good);
-    print_count(b" good, ", c.damaged);
-    print_count(b" damaged, of which ", c.readable);
-    print_count(b" are readable, ", c.wrong);
-    io::write_all(STDOUT_FILENO, b" wrong\n");
+fn print(rt: &impl Print, name: &[u8], count: Count) -> io::Result<()> {
+    io::writer(rt).write_all(name)?;
+    println!(rt; ": {count}")
 }
 
 // ---- one string
 
-fn is_unwritten(s: &[u8]) -> bool {
-    let mut i = 0;
-    while i < s.len() {
-        if s[i] != MARK {
-            return false;
-        }
-        i += 1;
-    }
-    true
-}
-
 // Whether s is written again byte for byte, and the bytes behind it keep their value.
-fn is_rewritten(kind: u8, s: &[u8]) -> bool {
-    let mut out = [MARK; ROOM];
+fn is_rewritten(kind: Kind, s: &[u8]) -> bool {
+    let mut out = [FILL; ROOM];
     let n = rewrite::put_value(&mut out, 0, s, kind);
-    if !check::same(molecule::part(&out, 0, n), s) {
-        return false;
-    }
-    is_unwritten(molecule::part(&out, n, ROOM))
-}
-
-// Whether s is written again where there is room for more, and where there is room for it and no more.
-fn is_written(kind: u8, s: &[u8]) -> bool {
-    if !is_fitted(kind, s) {
-        return false;
-    }
-    is_rewritten(kind, s)
+    n == s.len() && recorded_calls::is_written(&out, s)
 }
 
 // Whether s is written again into a buffer of its length.
-fn is_fitted(kind: u8, s: &[u8]) -> bool {
-    let mut out = [MARK; ROOM];
-    let n = s.len();
-    if n > ROOM {
+fn is_fitted(kind: Kind, s: &[u8]) -> bool {
+    let mut out = [FILL; ROOM];
+    let Some(room) = out.get_mut(..s.len()) else {
         return false;
-    }
-    let room = &mut out[0..n];
+    };
     rewrite::put_value(room, 0, s, kind);
-    check::same(room, s)
-}
-
-// The number of a refusal, and 0 for none.
-fn number(answer: Written) -> u8 {
-    match answer {
-        Written::Wrote(_) => 0,
-        Written::Refused(refusal) => refusal.number(),
-    }
+    let room: &[u8] = room;
+    room == s
 }
 
 // Whether the library's writer of transactions refuses s with 1 and writes nothing.
 fn is_refused(s: &[u8]) -> bool {
-    let mut out = [MARK; ROOM];
-    let answer = transaction_writer::rewrite(s, &mut out);
-    if number(answer) != 1 {
-        return false;
+    let mut out = [FILL; ROOM];
+    match rewrite::put_transaction(&mut out, s) {
+        Ok(_) => false,
+        Err(refusal) => refusal.number() == 1 && recorded_calls::is_written(&out, &[]),
     }
-    is_unwritten(&out)
 }
 
-fn is_right(kind: u8, s: &[u8], answer: bool) -> bool {
-    if types::reads(kind, s) != answer {
+// Whether s is read where it is readable, and then written again where there is room for more, and where there is room for it and no more.
+fn is_right(kind: Kind, s: &[u8], readable: bool) -> bool {
+    if kind.reads(s) != readable {
         return false;
     }
-    if answer {
-        return is_written(kind, s);
+    if readable {
+        return is_fitted(kind, s) && is_rewritten(kind, s);
     }
-    if kind == types::TRANSACTION {
-        return is_refused(s);
-    }
-    true
+    kind != Kind::Transaction || is_refused(s)
 }
 
-fn good(kind: u8, s: &[u8]) -> Count {
-    let right = is_right(kind, s, true);
+fn good(kind: Kind, s: &[u8]) -> Count {
     Count {
         good: 1,
         damaged: 0,
         readable: 0,
-        wrong: !right as u64,
+        wrong: u64::from(!is_right(kind, s, true)),
     }
 }
 
-// A damaged copy, the first n bytes of `work`.
-fn damaged(kind: u8, work: &[u8], n: usize, answer: bool) -> Count {
-    let s = molecule::part(work, 0, n);
-    let right = is_right(kind, s, answer);
+fn damaged(kind: Kind, s: &[u8], readable: bool) -> Count {
     Count {
         good: 0,
         damaged: 1,
-        readable: answer as u64,
-        wrong: !right as u64,
+        readable: u64::from(readable),
+        wrong: u64::from(!is_right(kind, s, readable)),
     }
 }
 
 // ---- damage at each place of a vector
 
-fn changed(kind: u8, s: &[u8], i: usize, b: u8, answer: bool) -> Count {
-    let mut work = [0u8; ROOM];
-    let one = [b];
-    let n = write::put(&mut work, 0, s);
-    write::put(&mut work, i, &one);
-    damaged(kind, &work, n, answer)
+// Cut before the place, and with the byte there one up and one down: of each the answers have a bit, whether it is readable.
+fn at_place(kind: Kind, s: &mut [u8], i: usize, answers: u8) -> Count {
+    let mut count = damaged(kind, molecule::part(s, 0, i), answers & 1 != 0);
+    let byte = little_endian::byte(s, i);
+    set(s, i, byte.wrapping_add(1));
+    count.add(damaged(kind, s, answers & 2 != 0));
+    set(s, i, byte.wrapping_sub(1));
+    count.add(damaged(kind, s, answers & 4 != 0));
+    set(s, i, byte);
+    count
 }
 
-fn at_place(kind: u8, s: &[u8], i: usize, answers: u8) -> Count {
-    let b = little_endian::byte(s, i);
-    let cut = damaged(kind, s, i, answers % 2 == 1);
-    let up = changed(
-        kind,
-        s,
-        i,
-        std::num::wrapping_add_u8(b, 1),
-        answers / 2 % 2 == 1,
-    );
-    let down = changed(
-        kind,
-        s,
-        i,
-        std::num::wrapping_sub_u8(b, 1),
-        answers / 4 % 2 == 1,
-    );
-    sum(cut, sum(up, down))
-}
-
-fn at_places(kind: u8, s: &[u8], answers: &[u8]) -> Count {
-    let mut c = Count {
-        good: 0,
-        damaged: 0,
-        readable: 0,
-        wrong: 0,
-    };
-    let mut i = 0;
-    while i < s.len() {
-        c = sum(c, at_place(kind, s, i, little_endian::byte(answers, i)));
-        i += 1;
+fn set(s: &mut [u8], i: usize, byte: u8) {
+    if let Some(place) = s.get_mut(i) {
+        *place = byte;
     }
-    c
+}
+
+fn at_places(alloc: Global, kind: Kind, s: &[u8], answers: &[u8]) -> Result<Count, AllocError> {
+    let mut work = s.to_vec(alloc)?;
+    let mut count = Count::default();
+    for i in 0..s.len() {
+        count.add(at_place(kind, &mut work, i, little_endian::byte(answers, i)));
+    }
+    Ok(count)
 }
 
 // ---- damage to the form
 
-fn place(s: &[u8], i: usize) -> usize {
-    let low = little_endian::byte(s, i) as usize;
-    let high = little_endian::byte(s, rewrite::plus(i, 1)) as usize;
-    low + 256 * high
-}
-
-// How many bytes a change takes in the file.
-fn change_len(change: &[u8]) -> usize {
-    let n = little_endian::byte(change, 4) as usize;
-    5 + n
-}
-
-// Puts s from `from` up to the change, and then the bytes of the change.
-fn put_change(work: &mut [u8], end: usize, s: &[u8], from: usize, change: &[u8]) -> usize {
-    let next = write::put(work, end, molecule::part(s, from, place(change, 0)));
-    write::put(work, next, molecule::part(change, 5, change_len(change)))
-}
-
-// Puts s with the changes of a copy, and answers how long that is.
-fn put_changed(work: &mut [u8], s: &[u8], copy: &[u8]) -> usize {
-    let n = little_endian::byte(copy, 1) as usize;
-    let mut end = 0;
-    let mut from = 0;
-    let mut at = 2;
-    let mut i = 0;
-    while i < n {
-        let change = molecule::part(copy, at, copy.len());
-        end = put_change(work, end, s, from, change);
-        from = place(change, 2);
-        at = rewrite::plus(at, change_len(change));
-        i += 1;
-    }
-    write::put(work, end, molecule::part(s, from, s.len()))
-}
-
-fn copied(kind: u8, s: &[u8], copy: &[u8]) -> Count {
-    let mut work = [0u8; ROOM];
-    let n = put_changed(&mut work, s, copy);
-    damaged(kind, &work, n, little_endian::byte(copy, 0) == 1)
-}
-
-fn copies(kind: u8, s: &[u8], list: &[u8]) -> Count {
-    let n = molecule::item_count(list) as usize;
-    let mut c = Count {
-        good: 0,
-        damaged: 0,
-        readable: 0,
-        wrong: 0,
-    };
-    let mut i = 0;
-    while i < n {
-        c = sum(c, copied(kind, s, molecule::item(list, i)));
-        i += 1;
-    }
-    c
+fn copied(alloc: Global, kind: Kind, s: &[u8], copy: &[u8]) -> Result<Count, AllocError> {
+    let changes = molecule::part(copy, 2, copy.len());
+    let changed = recorded_calls::changed(alloc, s, little_endian::byte(copy, 1), changes)?;
+    Ok(damaged(kind, &changed, little_endian::byte(copy, 0) == 1))
 }
 
 // ---- the file
 
-fn vector(kind: u8, v: &[u8]) -> Count {
+fn vector(alloc: Global, kind: Kind, v: &[u8]) -> Result<Count, AllocError> {
     let s = molecule::field(v, 3, 0);
-    let a = good(kind, s);
-    let b = at_places(kind, s, molecule::field(v, 3, 1));
-    let c = copies(kind, s, molecule::field(v, 3, 2));
-    sum(a, sum(b, c))
-}
-
-fn group(g: &[u8]) -> Count {
-    let kind = little_endian::byte(molecule::field(g, 3, 0), 0);
-    let list = molecule::field(g, 3, 2);
-    let n = molecule::item_count(list) as usize;
-    let mut c = Count {
-        good: 0,
-        damaged: 0,
-        readable: 0,
-        wrong: 0,
-    };
-    let mut i = 0;
-    while i < n {
-        c = sum(c, vector(kind, molecule::item(list, i)));
-        i += 1;
+    let mut count = good(kind, s);
+    count.add(at_places(alloc, kind, s, molecule::field(v, 3, 1))?);
+    for copy in Items::of(molecule::field(v, 3, 2)) {
+        count.add(copied(alloc, kind, s, copy)?);
     }
-    print(molecule::field(g, 3, 1), c);
-    c
+    Ok(count)
 }
 
-fn run(file: &[u8]) {
-    let n = molecule::item_count(file) as usize;
-    let mut c = Count {
-        good: 0,
-        damaged: 0,
-        readable: 0,
-        wrong: 0,
-    };
-    let mut i = 0;
-    while i < n {
-        c = sum(c, group(molecule::item(file, i)));
-        i += 1;
+// The vectors of a type. Those of no known type are read as of one that may be empty.
+fn group(rt: &(impl Print + AllocGlobal), g: &[u8]) -> io::Result<Count> {
+    let number = little_endian::byte(molecule::field(g, 3, 0), 0);
+    let kind = Kind::try_from(number).unwrap_or(Kind::BytesVecOpt);
+    let mut count = Count::default();
+    for v in Items::of(molecule::field(g, 3, 2)) {
+        count.add(vector(rt.alloc(), kind, v)?);
     }
-    print(b"all", c);
+    print(rt, molecule::field(g, 3, 1), count)?;
+    Ok(count)
 }
 
-fn main() {
-    let mut input = io::large_buffer();
-    let n = io::read_full(STDIN_FILENO, &mut input);
-    let file = &input[..n];
-    run(file);
+fn main(rt: HostRuntime) -> io::Result<()> {
+    let mut file = Vec::new(rt.alloc());
+    rt.reader().take(LONGEST).read_to_end(&mut file)?;
+    let mut all = Count::default();
+    for g in Items::of(&file) {
+        all.add(group(&rt, g)?);
+    }
+    print(&rt, b"all", all)
 }

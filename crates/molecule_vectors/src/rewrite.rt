@@ -1,32 +1,12 @@
 // A value that was read, written again: what the library's readers answer goes through the library's writers. Each function puts at `at` and answers
-// the place after what it put. A string that `plus` or `narrow` would cap is longer than any buffer here, and would come out other than it went in.
-use crate::types;
+// the place after what it put. A length that is capped belongs to a string longer than any buffer here, which would come out other than it went in.
+use crate::types::Kind;
+use error::Refusal;
 use molecule::write;
 use transaction_writer::Written;
 
-pub fn plus(a: usize, b: usize) -> usize {
-    if usize::MAX - a < b {
-        return usize::MAX;
-    }
-    a + b
-}
-
-fn minus(a: usize, b: usize) -> usize {
-    if a < b {
-        return 0;
-    }
-    a - b
-}
-
-fn narrow(n: usize) -> u32 {
-    if n > 0xffff_ffff {
-        return 0xffff_ffff;
-    }
-    n as u32
-}
-
 fn put_size(out: &mut [u8], at: usize, n: usize) -> usize {
-    write::put_u32(out, at, narrow(n))
+    write::put_u32(out, at, u32::try_from(n).unwrap_or(u32::MAX))
 }
 
 fn put_bytes(out: &mut [u8], at: usize, x: &[u8]) -> usize {
@@ -36,88 +16,64 @@ fn put_bytes(out: &mut [u8], at: usize, x: &[u8]) -> usize {
 
 // Where the offset of item i stands, in a header at `at`; the first of i items follows the header there.
 fn offset_place(at: usize, i: u32) -> usize {
-    let wide = i as usize;
-    plus(at, 4 + 4 * wide)
+    at.saturating_add(4 + 4 * i as usize)
 }
 
 // A header and n items, as a table and a dynvec have: each item with its offset, and the size once it is known.
 fn put_items(out: &mut [u8], at: usize, s: &[u8], n: u32) -> usize {
     let mut end = offset_place(at, n);
-    let mut i = 0;
-    while i < n {
-        put_size(out, offset_place(at, i), minus(end, at));
+    for i in 0..n {
+        put_size(out, offset_place(at, i), end.saturating_sub(at));
         end = write::put(out, end, molecule::field(s, n as usize, i as usize));
-        i += 1;
     }
-    put_size(out, at, minus(end, at));
+    put_size(out, at, end.saturating_sub(at));
     end
 }
 
+// A list or a table, or nothing.
+fn put_optional(out: &mut [u8], at: usize, s: &[u8], n: u32) -> usize {
+    if s.is_empty() {
+        at
+    } else {
+        put_items(out, at, s, n)
+    }
+}
+
+// A list of items of so many bytes.
 fn put_fixvec(out: &mut [u8], at: usize, s: &[u8], size: u32) -> usize {
     let n = molecule::fix_count(s);
     let mut end = write::put_u32(out, at, n);
-    let mut i = 0;
-    while i < n {
+    for i in 0..n {
         end = write::put(out, end, molecule::fix_item(s, size, i as usize));
-        i += 1;
     }
     end
 }
 
-// By the library's own writer, to the start of out.
-fn put_transaction(out: &mut [u8], at: usize, s: &[u8]) -> usize {
-    let answer = transaction_writer::rewrite(s, out);
-    length(answer, at)
-}
-
-fn length(answer: Written, other: usize) -> usize {
+fn written(answer: Written) -> Result<usize, Refusal> {
     match answer {
-        Written::Wrote(n) => n,
-        Written::Refused(_) => other,
+        Written::Wrote(n) => Ok(n),
+        Written::Refused(refusal) => Err(refusal),
     }
 }
 
-// How many bytes each item of a list of sized items has, and 0 for other types.
-fn item_size(kind: u8) -> u32 {
-    match kind {
-        types::UINT32_VEC => 4,
-        types::OUT_POINTS => 36,
-        types::CELL_DEPS => 37,
-        _ => 0,
-    }
-}
-
-fn item_number(kind: u8, s: &[u8]) -> u32 {
-    match kind {
-        types::MIXED_TYPE => 5,
-        types::SCRIPT => 3,
-        types::CELL_OUTPUT => 3,
-        _ => molecule::item_count(s),
-    }
-}
-
-// Puts a list or a table, or nothing.
-fn put_list(out: &mut [u8], at: usize, s: &[u8], kind: u8) -> usize {
-    let size = item_size(kind);
-    if size != 0 {
-        return put_fixvec(out, at, s, size);
-    }
-    if s.len() == 0 {
-        return at;
-    }
-    put_items(out, at, s, item_number(kind, s))
+// By the library's own writer, to the start of out: how long it is.
+pub fn put_transaction(out: &mut [u8], s: &[u8]) -> Result<usize, Refusal> {
+    written(transaction_writer::rewrite(s, out))
 }
 
 // Puts the value that s is read as.
-pub fn put_value(out: &mut [u8], at: usize, s: &[u8], kind: u8) -> usize {
-    if kind == types::UINT32 {
-        return write::put_u32(out, at, molecule::word(s, 0));
+pub fn put_value(out: &mut [u8], at: usize, s: &[u8], kind: Kind) -> usize {
+    match kind {
+        Kind::Uint32 => write::put_u32(out, at, molecule::word(s, 0)),
+        Kind::Bytes => put_bytes(out, at, molecule::content(s)),
+        Kind::Uint32Vec => put_fixvec(out, at, s, 4),
+        Kind::OutPoints => put_fixvec(out, at, s, 36),
+        Kind::CellDeps => put_fixvec(out, at, s, 37),
+        Kind::MixedType => put_optional(out, at, s, 5),
+        Kind::Script | Kind::CellOutput => put_optional(out, at, s, 3),
+        Kind::BytesVec | Kind::BytesVecOpt | Kind::Records | Kind::TokenCells => {
+            put_optional(out, at, s, molecule::item_count(s))
+        }
+        Kind::Transaction => put_transaction(out, s).unwrap_or(at),
     }
-    if kind == types::BYTES {
-        return put_bytes(out, at, molecule::content(s));
-    }
-    if kind == types::TRANSACTION {
-        return put_transaction(out, at, s);
-    }
-    put_list(out, at, s, kind)
 }

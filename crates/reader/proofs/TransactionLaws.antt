@@ -2,12 +2,13 @@
 use mathlib.Core.Path.{◌≡◌, refl, sym, ap, ◌∙◌}
 use Prim.Native.Nat.{ℕ, ◌+◌, ◌*◌, ◌^◌, ◌≤◌, ◌<◌}
 use mathlib.Core.List.{List}
-use mathlib.Core.Bool.{Bool, true, false, not, ◌&&◌, and-eq-true_iff, false≢true}
+use mathlib.Core.Bool.{true, ◌&&◌, and-eq-true_iff}
 use native.Mathlib.Nat.{zero-add}
 use native.Mathlib.Omega.{arith}
-use borrow.Author.Tests.{leb-true, eqb-true, eqb-false}
+use borrow.Author.Tests.{leb-true, eqb-true}
 use lib.ListN.{length}
 use lib.Dec.{T, leb, ltb, eqb}
+use Rattle.std.proofs.lemmas.Bool.Decides.{nat_tests}
 use Rattle.arithmetic.specs.LittleEndian.{u32_at}
 use Rattle.molecule.specs.Molecule.{Ty, fixvec, dynvec, size, readable}
 use Rattle.molecule.specs.Layout.{word, has_items, field_of, field_start, item_count, item_of, fix_count}
@@ -16,7 +17,7 @@ use Rattle.molecule.proofs.Offsets.{offsets-parts, up_to}
 use Rattle.molecule.proofs.HeaderLaws.{offsets-has, dynvec-readable, fixvec-says, fixvec-count}
 use Rattle.transaction.specs.Ckb.{Byte32, Bytes, CellDep, CellInput, CellOutput, RawTransaction, Transaction}
 use Rattle.transaction.specs.Tx.{raw_field, raw_start, witnesses_of}
-use Rattle.transaction.proofs.TableLaws.{raw_head, raw_0, raw_1, raw_2, raw_3, raw_4, raw_all, transaction_head, transaction_0, transaction_all}
+use Rattle.transaction.proofs.TableLaws.{raw_is, transaction_is}
 use Rattle.reader.specs.Places.{table_at, table_start, fixvec_at, fixvec_start, field_at, raw_at, witnesses_at}
 use Rattle.reader.proofs.StandsLaws.{Stands, stands-whole, stands-number, stands-table, stands-table-start, stands-fixvec, stands-fixvec-start, field_at_lem, field_stands}
 
@@ -75,55 +76,32 @@ module _ (f s : List ℕ) (at a : ℕ) (h : Stands f s a) (e : at ≡ a) where
 
 -- ---- the parts of a transaction
 
--- what is refused where b fails
-held : (b : Bool) {c : Bool} → (not b ≡ true → false ≡ c) → c ≡ true → b ≡ true
-held true f h = refl
-held false f h = absurd (false≢true (f refl ∙ h))
-
 module _ (tx : List ℕ) (h : readable Transaction tx ≡ true) where
   abbrev raw_tx : List ℕ
   raw_tx = field_of tx 2 0
 
-  tx_items : has_items tx 2 ≡ true
-  tx_items = held _ (transaction_head tx refl) h
+  tx_parts : (has_items tx 2 ≡ true) × (readable RawTransaction raw_tx ≡ true) × (readable (dynvec Bytes) (field_of tx 2 1) ≡ true)
+  tx_parts =
+      let k : (has_items tx 2 && readable RawTransaction raw_tx && readable (dynvec Bytes) (field_of tx 2 1)) ≡ true = sym (transaction_is tx) ∙ h in
+      grind arith
 
-  raw_reads : readable RawTransaction raw_tx ≡ true
-  raw_reads = held _ (transaction_0 tx refl refl) h
-
-  witnesses_read : readable (dynvec Bytes) (field_of tx 2 1) ≡ true
-  witnesses_read = transaction_all tx refl (ap not tx_items) refl refl (ap not raw_reads) refl refl ∙ h
-
-  raw_items : has_items raw_tx 6 ≡ true
-  raw_items = held _ (raw_head raw_tx refl) raw_reads
-
-  version-long : length (field_of raw_tx 6 0) ≡ 4
-  version-long = by (eqb (length (field_of raw_tx 6 0)) 4) refl
-    where
-      by : (b : Bool) → eqb (length (field_of raw_tx 6 0)) 4 ≡ b → length (field_of raw_tx 6 0) ≡ 4
-      by true e = eqb-true _ 4 e
-      by false e = absurd (false≢true (raw_0 raw_tx refl (eqb-false _ 4 e) ∙ raw_reads))
-
-  cell-deps_read : readable (fixvec CellDep) (field_of raw_tx 6 1) ≡ true
-  cell-deps_read = held _ (raw_1 raw_tx refl refl) raw_reads
-
-  header-deps_read : readable (fixvec Byte32) (field_of raw_tx 6 2) ≡ true
-  header-deps_read = held _ (raw_2 raw_tx refl refl) raw_reads
-
-  inputs_read : readable (fixvec CellInput) (field_of raw_tx 6 3) ≡ true
-  inputs_read = held _ (raw_3 raw_tx refl refl) raw_reads
-
-  outputs_read : readable (dynvec CellOutput) (field_of raw_tx 6 4) ≡ true
-  outputs_read = held _ (raw_4 raw_tx refl refl) raw_reads
-
-  outputs_data_read : readable (dynvec Bytes) (field_of raw_tx 6 5) ≡ true
-  outputs_data_read =
-      raw_all raw_tx refl (ap not raw_items) refl version-long refl refl (ap not cell-deps_read) refl refl (ap not header-deps_read) refl refl (ap not inputs_read) refl refl (ap not outputs_read) refl refl ∙ raw_reads
+  raw_parts : (has_items raw_tx 6 ≡ true) × (length (field_of raw_tx 6 0) ≡ 4) × (readable (fixvec CellDep) (field_of raw_tx 6 1) ≡ true)
+      × (readable (fixvec Byte32) (field_of raw_tx 6 2) ≡ true)
+      × (readable (fixvec CellInput) (field_of raw_tx 6 3) ≡ true)
+      × (readable (dynvec CellOutput) (field_of raw_tx 6 4) ≡ true)
+      × (readable (dynvec Bytes) (field_of raw_tx 6 5) ≡ true)
+  raw_parts =
+      let k : (has_items raw_tx 6 && eqb (length (field_of raw_tx 6 0)) 4 && readable (fixvec CellDep) (field_of raw_tx 6 1) && readable (fixvec Byte32) (field_of raw_tx 6 2)
+      && readable (fixvec CellInput) (field_of raw_tx 6 3)
+      && readable (dynvec CellOutput) (field_of raw_tx 6 4)
+      && readable (dynvec Bytes) (field_of raw_tx 6 5)) ≡ true = sym (raw_is raw_tx) ∙ tx_parts.1 in
+      grind (arith, nat_tests)
 
   -- ---- where they stand
 
   module _ (i : ℕ) (l : i < 2) (four : 4 ≤ length (field_of tx 2 i)) where
     z : IsTable tx
-    z = has-table tx 2 tx_items
+    z = has-table tx 2 tx_parts.0
 
     top_at : field_at tx 0 i ≡ field_start tx 2 i
     top_at = field_at_lem tx tx 0 (stands-whole tx) z.four z.says 2 i l four ∙ zero-add _
@@ -133,7 +111,7 @@ module _ (tx : List ℕ) (h : readable Transaction tx ≡ true) where
 
   module _ (i : ℕ) (l : i < 6) (four : 4 ≤ length (field_of raw_tx 6 i)) where
     y : IsTable raw_tx
-    y = has-table raw_tx 6 raw_items
+    y = has-table raw_tx 6 raw_parts.0
 
     raw_at_lem : raw_at tx i ≡ raw_start tx i
     unfolding raw_start
@@ -147,7 +125,7 @@ module _ (tx : List ℕ) (h : readable Transaction tx ≡ true) where
 
   pub reads_version : u32_at tx (raw_at tx 0) ≡ u32_at (raw_field tx 0) 0
   unfolding raw_field word
-  reads_version = let four : 4 ≤ length (field_of raw_tx 6 0) = omega (arith, version-long) in reads_number _ tx _ _ (raw_stands 0 (omega arith) four) (raw_at_lem 0 (omega arith) four) four
+  reads_version = let four : 4 ≤ length (field_of raw_tx 6 0) = omega (arith, raw_parts.1) in reads_number _ tx _ _ (raw_stands 0 (omega arith) four) (raw_at_lem 0 (omega arith) four) four
 
   fixvec-there : (i : ℕ) → i < 6 → (k : ℕ) → IsFixvec (field_of raw_tx 6 i) k → ReadsFixvec tx (raw_at tx i) k (raw_field tx i) (raw_start tx i)
   unfolding raw_field
@@ -159,22 +137,22 @@ module _ (tx : List ℕ) (h : readable Transaction tx ≡ true) where
 
   pub reads_cell-deps : ReadsFixvec tx (raw_at tx 1) 37 (raw_field tx 1) (raw_start tx 1)
   unfolding fixed size
-  reads_cell-deps = fixvec-there 1 (omega arith) 37 (fixvec-is CellDep tt 37 refl (omega arith) _ cell-deps_read)
+  reads_cell-deps = fixvec-there 1 (omega arith) 37 (fixvec-is CellDep tt 37 refl (omega arith) _ raw_parts.2)
 
   pub reads_header-deps : ReadsFixvec tx (raw_at tx 2) 32 (raw_field tx 2) (raw_start tx 2)
   unfolding fixed size
-  reads_header-deps = fixvec-there 2 (omega arith) 32 (fixvec-is Byte32 tt 32 refl (omega arith) _ header-deps_read)
+  reads_header-deps = fixvec-there 2 (omega arith) 32 (fixvec-is Byte32 tt 32 refl (omega arith) _ raw_parts.3)
 
   pub reads_inputs : ReadsFixvec tx (raw_at tx 3) 44 (raw_field tx 3) (raw_start tx 3)
   unfolding fixed size
-  reads_inputs = fixvec-there 3 (omega arith) 44 (fixvec-is CellInput tt 44 refl (omega arith) _ inputs_read)
+  reads_inputs = fixvec-there 3 (omega arith) 44 (fixvec-is CellInput tt 44 refl (omega arith) _ raw_parts.4)
 
   pub reads_outputs : ReadsDynvec tx (raw_at tx 4) (raw_field tx 4) (raw_start tx 4)
-  reads_outputs = dynvec-there 4 (omega arith) (dynvec-table CellOutput _ outputs_read)
+  reads_outputs = dynvec-there 4 (omega arith) (dynvec-table CellOutput _ raw_parts.5)
 
   pub reads_outputs_data : ReadsDynvec tx (raw_at tx 5) (raw_field tx 5) (raw_start tx 5)
-  reads_outputs_data = dynvec-there 5 (omega arith) (dynvec-table Bytes _ outputs_data_read)
+  reads_outputs_data = dynvec-there 5 (omega arith) (dynvec-table Bytes _ raw_parts.6)
 
   pub reads_witnesses : ReadsDynvec tx (witnesses_at tx) (witnesses_of tx) (field_start tx 2 1)
   unfolding witnesses_of
-  reads_witnesses = let c = dynvec-table Bytes _ witnesses_read in reads_dynvec _ tx _ _ (top_stands 1 (omega arith) c.four) (top_at 1 (omega arith) c.four) c
+  reads_witnesses = let c = dynvec-table Bytes _ tx_parts.2 in reads_dynvec _ tx _ _ (top_stands 1 (omega arith) c.four) (top_at 1 (omega arith) c.four) c

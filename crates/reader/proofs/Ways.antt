@@ -1,7 +1,5 @@
--- What closes the needs of this crate's functions: `search ways`.
-use borrow.Author.Rules.{rules}
-use Rattle.molecule.proofs.LayoutLaws.{mul_fits, past_fits}
-use Rattle.transaction.proofs.FieldLaws.{count_of, fix_item-of, item-of, entry-of, fix_item-place, item-of-place, entry-of-place}
-use Rattle.reader.proofs.PlaceLaws.{stretch_is, stretch_place, table_is, table-place, fixvec-is, fixvec-place, field_is}
+-- What closes the needs of this crate's functions: tried at each goal that the check leaves.
+use Rattle.molecule.proofs.LayoutLaws.{inside-twice}
+use Rattle.reader.proofs.PlaceLaws.{stretch_is, stretch_place}
 
-pub ruleset ways = (rules, mul_fits, past_fits, count_of, fix_item-of, item-of, entry-of, fix_item-place, item-of-place, entry-of-place, stretch_is, stretch_place, table_is, table-place, fixvec-is, fixvec-place, field_is)
+pub ruleset ways = (inside-twice, stretch_is, stretch_place)

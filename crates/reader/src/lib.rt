@@ -1,5 +1,5 @@
 // A reader holds a transaction's bytes and a field's start. It is moved from a table to one of its fields, and what it hands back is a stretch of the bytes lent.
-#![tactic(auto)]
+#![tactic(auto, using(crate::proofs::Ways::ways), unfolding(crate::specs::Places::table_at, crate::specs::Places::table_start, crate::specs::Places::fixvec_at, crate::specs::Places::fixvec_start, crate::specs::Places::field_at))]
 
 pub mod lists;
 pub mod places;

@@ -6,209 +6,165 @@
 use arithmetic::little_endian;
 use error::Answer;
 use exclusion_entries::MAP_BYTES;
-use molecule::write;
-use recorded_calls::{COUNTS, FILL};
+use recorded_calls::{Call, FILL, Table};
+use std::alloc::{AllocError, Global};
+use std::{fmt, io};
 use units::BlockNumber;
 
-// Room for the longest part behind the first one, and for the longest lent buffer.
-const ROOM: usize = 600_000;
-
+// How long a lent list is at most.
 const LIST_ROOM: usize = 20_000;
+
+// ---- the calls
+
+// By their numbers.
+#[derive(Clone, Copy, Debug, PartialEq, Eq)]
+enum Kind {
+    Start,
+    Add,
+    Commit,
+    Remove,
+    MigrateFundingTx,
+    Truncate,
+    Apply,
+}
+
+impl Kind {
+    const ALL: [Kind; 7] = [
+        Kind::Start,
+        Kind::Add,
+        Kind::Commit,
+        Kind::Remove,
+        Kind::MigrateFundingTx,
+        Kind::Truncate,
+        Kind::Apply,
+    ];
+}
+
+// A number that no call has.
+#[derive(Clone, Copy, Debug, PartialEq, Eq)]
+struct UnknownKind(u8);
+
+impl TryFrom<u8> for Kind {
+    type Error = UnknownKind;
+
+    fn try_from(number: u8) -> Result<Kind, UnknownKind> {
+        Kind::ALL
+            .get(usize::from(number))
+            .copied()
+            .ok_or(UnknownKind(number))
+    }
+}
+
+impl fmt::Display for Kind {
+    fn fmt<W: fmt::Write>(&self, f: &mut fmt::Formatter<W>) -> fmt::Result {
+        f.write_str(match self {
+            Kind::Start => "start",
+            Kind::Add => "add",
+            Kind::Commit => "commit",
+            Kind::Remove => "remove",
+            Kind::MigrateFundingTx => "migrate_funding_tx",
+            Kind::Truncate => "truncate",
+            Kind::Apply => "apply",
+        })
+    }
+}
 
 // ---- one call
 
-// The block of a commitment, or the tip.
-fn block(call: &[u8]) -> BlockNumber {
-    BlockNumber(little_endian::u64_at(recorded_calls::field(call, 0), 4))
-}
-
-// Zeros are the empty map.
+// Zeros are the empty map, with which a call of no known kind starts too.
 fn start(map: &mut [u8]) -> Answer {
-    let zeros = [0u8; MAP_BYTES];
-    write::put(map, 0, &zeros);
+    map.fill(0);
     Answer::Done
 }
 
-fn apply(map: &[u8], call: &[u8], a: &mut [u8]) -> Answer {
-    let n = recorded_calls::first_room(call);
-    if a.len() < n {
-        return Answer::Done;
+fn answer(map: &mut [u8], call: &Call<'_>, list: &mut [u8]) -> Answer {
+    let [hash, new_hash] = call.lent;
+    let [block, _] = call.numbers;
+    match Kind::try_from(call.kind) {
+        Ok(Kind::Add) => exclusions::add(map, hash, call.tx),
+        Ok(Kind::Commit) => exclusion_marks::commit(map, hash, BlockNumber(block)),
+        Ok(Kind::Remove) => exclusions::remove(map, hash),
+        Ok(Kind::MigrateFundingTx) => exclusions::migrate_funding_tx(map, hash, new_hash, call.tx),
+        Ok(Kind::Truncate) => exclusions::truncate(map, BlockNumber(block)),
+        Ok(Kind::Apply) => exclusion_marks::apply(map, list),
+        Ok(Kind::Start) | Err(UnknownKind(_)) => start(map),
     }
-    let out = &mut a[0..n];
-    exclusion_marks::apply(map, out)
 }
 
-// The calls with a transaction.
-fn run_entering(map: &mut [u8], call: &[u8]) -> Answer {
-    let hash = recorded_calls::field(call, 1);
-    let tx = recorded_calls::field(call, 3);
-    if recorded_calls::kind(call) == 1 {
-        return exclusions::add(map, hash, tx);
-    }
-    exclusions::migrate_funding_tx(map, hash, recorded_calls::field(call, 2), tx)
-}
-
-// The other calls that write no list.
-fn run_plain(map: &mut [u8], call: &[u8]) -> Answer {
-    let k = recorded_calls::kind(call);
-    if k == 2 {
-        let at = block(call);
-        return exclusion_marks::commit(map, recorded_calls::field(call, 1), at);
-    }
-    if k == 3 {
-        return exclusions::remove(map, recorded_calls::field(call, 1));
-    }
-    if k == 5 {
-        let tip = block(call);
-        return exclusions::truncate(map, tip);
-    }
-    start(map)
-}
-
-fn run(map: &mut [u8], call: &[u8], a: &mut [u8]) -> Answer {
-    let k = recorded_calls::kind(call);
-    if k == 1 {
-        return run_entering(map, call);
-    }
-    if k == 4 {
-        return run_entering(map, call);
-    }
-    if k == 6 {
-        return apply(map, call, a);
-    }
-    run_plain(map, call)
+// Runs the call, and answers its number.
+fn run(map: &mut [u8], call: &Call<'_>, list: &mut [u8]) -> u8 {
+    answer(map, call, list).number()
 }
 
 // ---- what it comes to
 
 // Whether the row is that of the entry at the start of x: 0 or 1 for its kind, its hash and its block.
 fn is_entry(row: &[u8], x: &[u8]) -> bool {
-    if little_endian::byte(row, 0) as u32 != little_endian::u32_at(x, 32) {
-        return false;
-    }
-    if little_endian::u64_at(row, 33) != little_endian::u64_at(x, 36) {
-        return false;
-    }
-    check::same(molecule::part(row, 1, 33), molecule::part(x, 0, 32))
+    u32::from(little_endian::byte(row, 0)) == little_endian::u32_at(x, 32)
+        && little_endian::u64_at(row, 33) == little_endian::u64_at(x, 36)
+        && molecule::part(row, 1, 33) == molecule::part(x, 0, 32)
 }
 
-// Whether the rows from k on are those of a list of out points: 2 and the out point.
-fn are_points(rows: &[u8], k: usize, list: &[u8]) -> bool {
-    let n = molecule::fix_count(list) as usize;
-    let mut i = 0;
-    while i < n {
-        let row = molecule::fix_item(rows, 41, recorded_calls::plus(k, i));
-        if little_endian::byte(row, 0) != 2 {
-            return false;
-        }
-        if !check::same(molecule::part(row, 1, 37), molecule::fix_item(list, 36, i)) {
-            return false;
-        }
-        i += 1;
-    }
-    true
+// Whether the row is that of an out point: 2 and the out point.
+fn is_point(row: &[u8], point: &[u8]) -> bool {
+    little_endian::byte(row, 0) == 2 && molecule::part(row, 1, 37) == point
+}
+
+// Whether the rows from k on are those of a list of n out points.
+fn are_points(rows: &[u8], k: usize, list: &[u8], n: usize) -> bool {
+    (0..n).all(|i| {
+        let row = molecule::fix_item(rows, 41, k.saturating_add(i));
+        is_point(row, molecule::fix_item(list, 36, i))
+    })
 }
 
 // Whether the entries of the map have these rows, in this order, and no others.
 fn is_map(map: &[u8], rows: &[u8]) -> bool {
-    let n = molecule::fix_count(map);
-    let mut at: usize = 4;
-    let mut k: usize = 0;
-    let mut i = 0;
-    while i < n {
-        let x = molecule::part(map, at, map.len());
-        let list = molecule::part(x, 44, x.len());
-        if !is_entry(molecule::fix_item(rows, 41, k), x) {
+    let mut rest = molecule::content(map);
+    let mut k = 0usize;
+    for _ in 0..molecule::fix_count(map) {
+        let list = molecule::part(rest, 44, rest.len());
+        let n = molecule::fix_count(list) as usize;
+        if !is_entry(molecule::fix_item(rows, 41, k), rest) {
             return false;
         }
-        k = recorded_calls::plus(k, 1);
-        if !are_points(rows, k, list) {
+        if !are_points(rows, k.saturating_add(1), list, n) {
             return false;
         }
-        let c = molecule::fix_count(list) as usize;
-        k = recorded_calls::plus(k, c);
-        at = recorded_calls::plus(at, 48 + 36 * c);
-        i += 1;
+        k = k.saturating_add(1 + n);
+        rest = molecule::part(rest, 48 + 36 * n, rest.len());
     }
     k == molecule::fix_count(rows) as usize
 }
 
-fn is_right(number: u8, before: &[u8], map: &[u8], call: &[u8], a: &[u8]) -> bool {
-    if number != recorded_calls::answer_number(call) {
-        return false;
+#[derive(Drop)]
+struct Map {
+    bytes: Vec<u8>,
+}
+
+impl Table for Map {
+    fn empty(alloc: Global) -> Result<Map, AllocError> {
+        Ok(Map {
+            bytes: vec![in alloc; 0u8; MAP_BYTES]?,
+        })
     }
-    if number != 0 {
-        if !check::same(map, before) {
-            return false;
-        }
-    }
-    if !recorded_calls::is_written(
-        a,
-        recorded_calls::first_room(call),
-        recorded_calls::field(call, 4),
-    ) {
-        return false;
-    }
-    is_map(map, recorded_calls::field(call, 6))
-}
 
-// ---- counts
-
-fn print_kinds(counts: &[u64]) {
-    recorded_calls::print_kind(b"add", counts, 1);
-    recorded_calls::print_kind(b"commit", counts, 2);
-    recorded_calls::print_kind(b"remove", counts, 3);
-    recorded_calls::print_kind(b"migrate_funding_tx", counts, 4);
-    recorded_calls::print_kind(b"truncate", counts, 5);
-    recorded_calls::print_kind(b"apply", counts, 6);
-}
-
-fn print(counts: &[u64]) {
-    print_kinds(counts);
-    recorded_calls::print_all(counts);
-}
-
-// ---- the calls of a part
-
-// A call, which is counted.
-fn step(counts: &mut [u64], map: &mut [u8], call: &[u8]) {
-    let mut before = [0u8; MAP_BYTES];
-    write::put(&mut before, 0, map);
-    let mut a = [FILL; LIST_ROOM];
-    let answer = run(map, call, &mut a);
-    let right = is_right(answer.number(), &before, map, call, &a);
-    recorded_calls::count_call(counts, call, right);
-}
-
-fn judge_part(counts: &mut [u64], part: &[u8]) {
-    let n = molecule::item_count(part) as usize;
-    let mut map = [0u8; MAP_BYTES];
-    let mut i = 0;
-    while i < n {
-        step(counts, &mut map, molecule::item(part, i));
-        i += 1;
+    fn is_right(&mut self, call: &Call<'_>, alloc: Global) -> Result<bool, AllocError> {
+        let before = self.bytes.clone()?;
+        let [room, _] = call.rooms;
+        let [written, _] = call.written;
+        let [entries, _] = call.table;
+        let mut list = vec![in alloc; FILL; room.min(LIST_ROOM)]?;
+        let number = run(&mut self.bytes, call, &mut list);
+        Ok(
+            number == call.answer
+                && (number == 0 || self.bytes == before)
+                && recorded_calls::is_written(&list, written)
+                && is_map(&self.bytes, entries),
+        )
     }
 }
 
-// Reads a part behind the first one, which it copies from, and judges its calls.
-fn next_part(counts: &mut [u64], buf: &mut [u8], first: usize) {
-    let end = recorded_calls::read_part(buf, first);
-    judge_part(counts, molecule::part(buf, first, end));
-}
-
-fn judge_parts(counts: &mut [u64], buf: &mut [u8], n: u32) {
-    let first = recorded_calls::read_part(buf, 0);
-    let mut i = 1;
-    while i < n {
-        next_part(counts, buf, first);
-        i += 1;
-    }
-}
-
-fn main() {
-    let n = recorded_calls::read_number();
-    let mut buf = recorded_calls::zeros::<ROOM>();
-    let mut counts = [0u64; COUNTS];
-    judge_parts(&mut counts, &mut buf, n);
-    print(&counts);
+fn main(rt: HostRuntime) -> io::Result<()> {
+    recorded_calls::replay_calls::<Map, _>(&rt, &Kind::ALL)
 }

@@ -6,26 +6,70 @@
 use arithmetic::little_endian;
 use error::Answer;
 use hold_records::{Held, HeldAnswer, Hold, Owner, Taker};
-use recorded_calls::{COUNTS, FILL};
+use recorded_calls::{Call, FILL, Table};
+use std::alloc::{AllocError, Global};
+use std::{fmt, io};
 use units::Millis;
 
-// Room for the longest part behind the first one, and for the longest lent buffer.
-const ROOM: usize = 600_000;
-
+// How long a lent list is at most.
 const LIST_ROOM: usize = 20_000;
 
-// ---- a call's fields
+// ---- the calls
 
-fn holder(call: &[u8]) -> u64 {
-    little_endian::u64_at(recorded_calls::field(call, 0), 4)
+// By their numbers.
+#[derive(Clone, Copy, Debug, PartialEq, Eq)]
+enum Kind {
+    Start,
+    HoldFunding,
+    HoldForWatchtower,
+    TakeForHolder,
+    TakeForWatchtower,
+    ReleaseForWatchtower,
+    Unavailable,
+    LockHeld,
 }
 
-fn time(call: &[u8]) -> Millis {
-    Millis(little_endian::u64_at(recorded_calls::field(call, 0), 12))
+impl Kind {
+    const ALL: [Kind; 8] = [
+        Kind::Start,
+        Kind::HoldFunding,
+        Kind::HoldForWatchtower,
+        Kind::TakeForHolder,
+        Kind::TakeForWatchtower,
+        Kind::ReleaseForWatchtower,
+        Kind::Unavailable,
+        Kind::LockHeld,
+    ];
 }
 
-fn second_room(call: &[u8]) -> usize {
-    little_endian::u32_at(recorded_calls::field(call, 0), 24) as usize
+// A number that no call has.
+#[derive(Clone, Copy, Debug, PartialEq, Eq)]
+struct UnknownKind(u8);
+
+impl TryFrom<u8> for Kind {
+    type Error = UnknownKind;
+
+    fn try_from(number: u8) -> Result<Kind, UnknownKind> {
+        Kind::ALL
+            .get(usize::from(number))
+            .copied()
+            .ok_or(UnknownKind(number))
+    }
+}
+
+impl fmt::Display for Kind {
+    fn fmt<W: fmt::Write>(&self, f: &mut fmt::Formatter<W>) -> fmt::Result {
+        f.write_str(match self {
+            Kind::Start => "start",
+            Kind::HoldFunding => "hold_funding",
+            Kind::HoldForWatchtower => "hold_for_watchtower",
+            Kind::TakeForHolder => "take for a holder",
+            Kind::TakeForWatchtower => "take for the watchtower",
+            Kind::ReleaseForWatchtower => "release_for_watchtower",
+            Kind::Unavailable => "unavailable",
+            Kind::LockHeld => "lock_held",
+        })
+    }
 }
 
 // ---- one call
@@ -34,239 +78,105 @@ fn answered(held: Held, answer: Answer) -> HeldAnswer {
     HeldAnswer { held, answer }
 }
 
-fn take(held: Held, call: &[u8], taker: Taker, a: &mut [u8], b: &mut [u8]) -> HeldAnswer {
-    let n = recorded_calls::first_room(call);
-    let m = second_room(call);
-    if a.len() < n {
-        return answered(held, Answer::Done);
+// A call of no known kind is run as the last one.
+fn answer(held: Held, call: &Call<'_>, first: &mut [u8], second: &mut [u8]) -> HeldAnswer {
+    let [holder, now] = call.numbers;
+    let now = Millis(now);
+    let [cells, spent] = call.lent;
+    match Kind::try_from(call.kind) {
+        Ok(Kind::Start) => answered(hold_records::empty(), Answer::Done),
+        Ok(Kind::HoldFunding) => held_cells::hold_funding(held, holder, cells),
+        Ok(Kind::HoldForWatchtower) => watchtower_holds::hold_for_watchtower(held, cells, now),
+        Ok(Kind::TakeForHolder) => {
+            held_cells::take(
+                held,
+                cells,
+                spent,
+                Taker::Funding(holder),
+                now,
+                first,
+                second,
+            )
+        }
+        Ok(Kind::TakeForWatchtower) => {
+            held_cells::take(held, cells, spent, Taker::Watchtower, now, first, second)
+        }
+        Ok(Kind::ReleaseForWatchtower) => watchtower_holds::release_for_watchtower(held, cells),
+        Ok(Kind::Unavailable) => {
+            answered(
+                held,
+                held_cells::unavailable(held, cells, spent, now, first),
+            )
+        }
+        Ok(Kind::LockHeld) | Err(UnknownKind(_)) => held_cells::lock_held(held, now, first),
     }
-    if b.len() < m {
-        return answered(held, Answer::Done);
-    }
-    let taken = &mut a[0..n];
-    let refused = &mut b[0..m];
-    let at = time(call);
-    held_cells::take(
-        held,
-        recorded_calls::field(call, 1),
-        recorded_calls::field(call, 2),
-        taker,
-        at,
-        taken,
-        refused,
-    )
 }
 
-fn unavailable(held: Held, call: &[u8], a: &mut [u8]) -> HeldAnswer {
-    let n = recorded_calls::first_room(call);
-    if a.len() < n {
-        return answered(held, Answer::Done);
-    }
-    let out = &mut a[0..n];
-    let at = time(call);
-    let answer = held_cells::unavailable(
-        held,
-        recorded_calls::field(call, 1),
-        recorded_calls::field(call, 2),
-        at,
-        out,
-    );
-    answered(held, answer)
-}
-
-fn lock_held(held: Held, call: &[u8], a: &mut [u8]) -> HeldAnswer {
-    let n = recorded_calls::first_room(call);
-    if a.len() < n {
-        return answered(held, Answer::Done);
-    }
-    let out = &mut a[0..n];
-    let at = time(call);
-    held_cells::lock_held(held, at, out)
-}
-
-// The calls that write nothing.
-fn run_plain(held: Held, call: &[u8]) -> HeldAnswer {
-    let k = recorded_calls::kind(call);
-    if k == 1 {
-        return held_cells::hold_funding(held, holder(call), recorded_calls::field(call, 1));
-    }
-    if k == 2 {
-        let at = time(call);
-        return watchtower_holds::hold_for_watchtower(held, recorded_calls::field(call, 1), at);
-    }
-    if k == 5 {
-        return watchtower_holds::release_for_watchtower(held, recorded_calls::field(call, 1));
-    }
-    answered(hold_records::empty(), Answer::Done)
-}
-
-// The calls that write lists.
-fn run_writing(held: Held, call: &[u8], a: &mut [u8], b: &mut [u8]) -> HeldAnswer {
-    let k = recorded_calls::kind(call);
-    if k == 3 {
-        let taker = Taker::Funding(holder(call));
-        return take(held, call, taker, a, b);
-    }
-    if k == 4 {
-        let taker = Taker::Watchtower;
-        return take(held, call, taker, a, b);
-    }
-    if k == 6 {
-        return unavailable(held, call, a);
-    }
-    lock_held(held, call, a)
-}
-
-fn writes(k: u8) -> bool {
-    if k == 3 {
-        return true;
-    }
-    if k == 4 {
-        return true;
-    }
-    k >= 6
-}
-
-fn run(held: Held, call: &[u8], a: &mut [u8], b: &mut [u8]) -> HeldAnswer {
-    if writes(recorded_calls::kind(call)) {
-        return run_writing(held, call, a, b);
-    }
-    run_plain(held, call)
+// Runs the call, and answers its number.
+fn run(held: &mut Held, call: &Call<'_>, first: &mut [u8], second: &mut [u8]) -> u8 {
+    let after = answer(*held, call, first, second);
+    *held = after.held;
+    after.answer.number()
 }
 
 // ---- what it comes to
 
-// Whether an owner is recorded as this kind and number.
-fn is_owner(owner: Owner, k: u8, n: u64) -> bool {
+// The kind and the number under which an owner is recorded.
+fn recorded(owner: Owner) -> (u8, u64) {
     match owner {
-        Owner::Funding(holder) => {
-            if k != 0 {
-                return false;
-            }
-            n == holder
-        }
-        Owner::Watchtower(end) => {
-            if k != 1 {
-                return false;
-            }
-            n == end.0
-        }
+        Owner::Funding(holder) => (0, holder),
+        Owner::Watchtower(end) => (1, end.0),
     }
 }
 
-fn is_record(r: Hold, item: &[u8], points: &[u8], i: usize) -> bool {
-    let k = little_endian::byte(item, 0);
-    let n = little_endian::u64_at(item, 1);
-    let owner = r.owner;
-    if !is_owner(owner, k, n) {
-        return false;
-    }
-    let p = r.point;
-    let q = out_points::point_of(points, i);
-    out_points::same_point(p, q)
+fn is_record(hold: &Hold, item: &[u8], points: &[u8], i: usize) -> bool {
+    let (kind, number) = recorded(hold.owner);
+    kind == little_endian::byte(item, 0)
+        && number == little_endian::u64_at(item, 1)
+        && out_points::same_point(hold.point, out_points::point_of(points, i))
 }
 
 // Whether the table has these records, in this order, and no others.
-fn is_table(held: Held, owners: &[u8], points: &[u8]) -> bool {
+fn is_table(held: &Held, owners: &[u8], points: &[u8]) -> bool {
     let n = molecule::fix_count(owners) as usize;
-    if held.count != n {
-        return false;
-    }
-    if 256 < n {
-        return false;
-    }
-    let mut i = 0;
-    while i < n {
-        let r = held.records[i];
-        if !is_record(r, molecule::fix_item(owners, 9, i), points, i) {
-            return false;
-        }
-        i += 1;
-    }
-    true
+    held.count == n
+        && n <= held.records.len()
+        && held.records.iter().take(n).enumerate().all(|(i, hold)| is_record(
+            hold,
+            molecule::fix_item(owners, 9, i),
+            points,
+            i,
+        ))
 }
 
-fn is_right(after: HeldAnswer, call: &[u8], a: &[u8], b: &[u8]) -> bool {
-    let answer = after.answer;
-    if answer.number() != recorded_calls::answer_number(call) {
-        return false;
+#[derive(Drop)]
+struct Holds {
+    held: Held,
+}
+
+impl Table for Holds {
+    fn empty(_alloc: Global) -> Result<Holds, AllocError> {
+        Ok(Holds {
+            held: hold_records::empty(),
+        })
     }
-    if !recorded_calls::is_written(
-        a,
-        recorded_calls::first_room(call),
-        recorded_calls::field(call, 4),
-    ) {
-        return false;
-    }
-    if !recorded_calls::is_written(b, second_room(call), recorded_calls::field(call, 5)) {
-        return false;
-    }
-    let held = after.held;
-    is_table(
-        held,
-        recorded_calls::field(call, 6),
-        recorded_calls::field(call, 7),
-    )
-}
 
-// ---- counts
-
-fn print_kinds(counts: &[u64]) {
-    recorded_calls::print_kind(b"hold_funding", counts, 1);
-    recorded_calls::print_kind(b"hold_for_watchtower", counts, 2);
-    recorded_calls::print_kind(b"take for a holder", counts, 3);
-    recorded_calls::print_kind(b"take for the watchtower", counts, 4);
-    recorded_calls::print_kind(b"release_for_watchtower", counts, 5);
-    recorded_calls::print_kind(b"unavailable", counts, 6);
-    recorded_calls::print_kind(b"lock_held", counts, 7);
-}
-
-fn print(counts: &[u64]) {
-    print_kinds(counts);
-    recorded_calls::print_all(counts);
-}
-
-// ---- the calls of a part
-
-// The table after a call, which is counted.
-fn step(counts: &mut [u64], held: Held, call: &[u8]) -> Held {
-    let mut a = [FILL; LIST_ROOM];
-    let mut b = [FILL; LIST_ROOM];
-    let after = run(held, call, &mut a, &mut b);
-    let right = is_right(after, call, &a, &b);
-    recorded_calls::count_call(counts, call, right);
-    after.held
-}
-
-fn judge_part(counts: &mut [u64], part: &[u8]) {
-    let n = molecule::item_count(part) as usize;
-    let mut held = hold_records::empty();
-    let mut i = 0;
-    while i < n {
-        held = step(counts, held, molecule::item(part, i));
-        i += 1;
+    fn is_right(&mut self, call: &Call<'_>, alloc: Global) -> Result<bool, AllocError> {
+        let [room, second_room] = call.rooms;
+        let mut first = vec![in alloc; FILL; room.min(LIST_ROOM)]?;
+        let mut second = vec![in alloc; FILL; second_room.min(LIST_ROOM)]?;
+        let number = run(&mut self.held, call, &mut first, &mut second);
+        let [first_list, second_list] = call.written;
+        let [owners, points] = call.table;
+        Ok(
+            number == call.answer
+                && recorded_calls::is_written(&first, first_list)
+                && recorded_calls::is_written(&second, second_list)
+                && is_table(&self.held, owners, points),
+        )
     }
 }
 
-// Reads a part behind the first one, which it copies from, and judges its calls.
-fn next_part(counts: &mut [u64], buf: &mut [u8], first: usize) {
-    let end = recorded_calls::read_part(buf, first);
-    judge_part(counts, molecule::part(buf, first, end));
-}
-
-fn judge_parts(counts: &mut [u64], buf: &mut [u8], n: u32) {
-    let first = recorded_calls::read_part(buf, 0);
-    let mut i = 1;
-    while i < n {
-        next_part(counts, buf, first);
-        i += 1;
-    }
-}
-
-fn main() {
-    let n = recorded_calls::read_number();
-    let mut buf = recorded_calls::zeros::<ROOM>();
-    let mut counts = [0u64; COUNTS];
-    judge_parts(&mut counts, &mut buf, n);
-    print(&counts);
+fn main(rt: HostRuntime) -> io::Result<()> {
+    recorded_calls::replay_calls::<Holds, _>(&rt, &Kind::ALL)
 }

@@ -3,326 +3,227 @@
 // surpluses; a negotiation is wrong if its surpluses do not sum to the recorded sums, or other bytes are in force at its end.
 #![tactic(auto)]
 
-use arithmetic::{Amount, CheckedAmount, little_endian};
+use arithmetic::{Amount, little_endian};
 use error::Refusal;
+use recorded_calls::{Items, Replay};
 use rules::Update;
+use std::alloc::{AllocError, Global};
+use std::io::BufReader;
+use std::{fmt, io};
 
-const STDIN_FILENO: i32 = 0;
+// How long a part is at most: in the longest one transaction is over the limit of size.
+const LONGEST: usize = 140_000;
 
-const STDOUT_FILENO: i32 = 1;
-
-// Room for the longest part, in which one transaction is over the limit of size.
-const ROOM: usize = 140_000;
-
-// What a negotiation came to so far: how many updates, accepted ones, those at which the Rust panics, wrong ones, which bytes are in force (0
-// the start, k the kth update's), and the sums of the surpluses.
-#[derive(Clone, Copy)]
-struct Run {
-    updates: u64,
-    accepted: u64,
-    panics: u64,
-    wrong: u64,
-    at: u64,
-    capacity: Amount,
-    token: Amount,
+fn u128_at(s: &[u8], at: usize) -> u128 {
+    let high = u128::from(little_endian::u64_at(s, at.saturating_add(8)));
+    high << 64 | u128::from(little_endian::u64_at(s, at))
 }
 
-#[derive(Clone, Copy)]
-struct Totals {
-    negotiations: u64,
-    updates: u64,
-    accepted: u64,
-    panics: u64,
-    wrong: u64,
+// ---- what is recorded
+
+#[derive(Clone, Copy, Debug)]
+struct Negotiation<'a> {
+    start: &'a [u8],
+    lock: &'a [u8],
+    udt: &'a [u8],
+    updates: &'a [u8],
+    surplus: Surplus,
+    // The number of the update whose transaction is in force at the end, from 1, and 0 for the start.
+    in_force: u32,
 }
 
-fn plus(a: usize, b: usize) -> usize {
-    if usize::MAX - a < b {
-        return usize::MAX;
-    }
-    a + b
-}
-
-fn minus(a: usize, b: usize) -> usize {
-    if a < b {
-        return 0;
-    }
-    a - b
-}
-
-// The sum, and the greatest amount where it is wider, which no recorded sum is.
-fn sum(a: Amount, b: Amount) -> Amount {
-    match a.checked_add(b) {
-        CheckedAmount::Fits(total) => total,
-        CheckedAmount::Overflow => Amount::MAX,
-    }
-}
-
-// ---- one update
-
-fn is_amount(a: Amount, s: &[u8], at: usize) -> bool {
-    if a.low != little_endian::u64_at(s, at) {
-        return false;
-    }
-    a.high == little_endian::u64_at(s, plus(at, 8))
-}
-
-// Whether this acceptance is the recorded answer.
-fn is_accepted(capacity: Amount, token: Amount, answer: &[u8]) -> bool {
-    if answer.len() != 33 {
-        return false;
-    }
-    if little_endian::byte(answer, 0) != 0 {
-        return false;
-    }
-    if !is_amount(capacity, answer, 1) {
-        return false;
-    }
-    is_amount(token, answer, 17)
-}
-
-fn has_value(refusal: Refusal, i: usize, answer: &[u8], at: usize) -> bool {
-    refusal.value(i) == little_endian::u64_at(answer, at)
-}
-
-// Whether a refusal's values are the recorded ones: four at most, and 0 past the last on both sides.
-fn has_values(refusal: Refusal, answer: &[u8]) -> bool {
-    if !has_value(refusal, 0, answer, 1) {
-        return false;
-    }
-    if !has_value(refusal, 1, answer, 9) {
-        return false;
-    }
-    if !has_value(refusal, 2, answer, 17) {
-        return false;
-    }
-    has_value(refusal, 3, answer, 25)
-}
-
-// How long a refusal's answer is with so many values.
-fn answer_len(values: usize) -> usize {
-    if values == 0 {
-        return 1;
-    }
-    if values == 1 {
-        return 9;
-    }
-    33
-}
-
-// Whether this refusal is the recorded answer.
-fn is_refused(refusal: Refusal, answer: &[u8]) -> bool {
-    if refusal.number() != little_endian::byte(answer, 0) % 128 {
-        return false;
-    }
-    if answer.len() != answer_len(refusal.value_count()) {
-        return false;
-    }
-    has_values(refusal, answer)
-}
-
-fn is_right(update: Update, answer: &[u8]) -> bool {
-    match update {
-        Update::Accepted { capacity, token } => is_accepted(capacity.0, token.0, answer),
-        Update::Refused(refusal) => is_refused(refusal, answer),
-    }
-}
-
-fn is_marked(answer: &[u8]) -> bool {
-    little_endian::byte(answer, 0) >= 128
-}
-
-fn accept(run: Run, capacity: Amount, token: Amount, i: usize) -> Run {
-    let capacities = sum(run.capacity, capacity);
-    let tokens = sum(run.token, token);
-    Run {
-        updates: run.updates,
-        accepted: std::num::wrapping_add_u64(run.accepted, 1),
-        panics: run.panics,
-        wrong: run.wrong,
-        at: std::num::wrapping_add_u64(i as u64, 1),
-        capacity: capacities,
-        token: tokens,
-    }
-}
-
-// With the ith update (from 0) and its answer.
-fn count(run: Run, update: Update, answer: &[u8], i: usize) -> Run {
-    let right = is_right(update, answer);
-    let capacity = run.capacity;
-    let token = run.token;
-    let next = Run {
-        updates: std::num::wrapping_add_u64(run.updates, 1),
-        accepted: run.accepted,
-        panics: std::num::wrapping_add_u64(run.panics, is_marked(answer) as u64),
-        wrong: std::num::wrapping_add_u64(run.wrong, !right as u64),
-        at: run.at,
-        capacity,
-        token,
-    };
-    match update {
-        Update::Accepted { capacity, token } => accept(next, capacity.0, token.0, i),
-        Update::Refused(_) => next,
-    }
-}
-
-// ---- one negotiation
-
-fn updates(part: &[u8]) -> &[u8] {
-    molecule::field(part, 6, 3)
-}
-
-// The start for 0, and the kth update's transaction for k.
-fn bytes_at(part: &[u8], k: u64) -> &[u8] {
-    if k == 0 {
-        return molecule::field(part, 6, 0);
-    }
-    let i = (k - 1) as usize;
-    molecule::field(molecule::item(updates(part), i), 5, 0)
-}
-
-// Whether the sums and what is in force are the recorded ones.
-fn is_settled(part: &[u8], run: Run) -> bool {
-    let sums = molecule::field(part, 6, 4);
-    if !is_amount(run.capacity, sums, 0) {
-        return false;
-    }
-    if !is_amount(run.token, sums, 16) {
-        return false;
-    }
-    let at = little_endian::u32_at(molecule::field(part, 6, 5), 0);
-    run.at == at as u64
-}
-
-fn judged(run: Run, right: bool) -> Run {
-    let capacity = run.capacity;
-    let token = run.token;
-    Run {
-        updates: run.updates,
-        accepted: run.accepted,
-        panics: run.panics,
-        wrong: std::num::wrapping_add_u64(run.wrong, !right as u64),
-        at: run.at,
-        capacity,
-        token,
-    }
-}
-
-// The ith update (from 0) against what is in force; the bytes that are then handed back must be those of the start or of the update last accepted.
-fn step(part: &[u8], run: Run, i: usize) -> Run {
-    let ours = bytes_at(part, run.at);
-    let update = molecule::item(updates(part), i);
-    let peer = molecule::field(update, 5, 0);
-    let rate = little_endian::u64_at(molecule::field(update, 5, 2), 0);
-    let answer = funding_tx::update_for_peer(
-        ours,
-        peer,
-        molecule::field(part, 6, 1),
-        molecule::field(part, 6, 2),
-        molecule::field(update, 5, 1),
-        rate,
-        molecule::field(update, 5, 3),
-    );
-    let handed = funding_tx::in_force(answer, ours, peer);
-    let next = count(run, answer, molecule::field(update, 5, 4), i);
-    let right = check::same(handed, bytes_at(part, next.at));
-    judged(next, right)
-}
-
-fn negotiate(part: &[u8], n: usize, none: Run) -> Run {
-    let mut run = none;
-    let mut i = 0;
-    while i < n {
-        run = step(part, run, i);
-        i += 1;
-    }
-    run
-}
-
-fn judge_part(part: &[u8]) -> Run {
-    let n = molecule::item_count(updates(part)) as usize;
-    let none = Run {
-        updates: 0,
-        accepted: 0,
-        panics: 0,
-        wrong: 0,
-        at: 0,
-        capacity: Amount::ZERO,
-        token: Amount::ZERO,
-    };
-    let run = negotiate(part, n, none);
-    let right = is_settled(part, run);
-    judged(run, right)
-}
-
-// ---- parts
-
-// Reads n bytes of standard input into buf at `at`.
-fn read_at(buf: &mut [u8], at: usize, n: usize) {
-    let end = plus(at, n);
-    if at <= end {
-        if end <= buf.len() {
-            let room = &mut buf[at..end];
-            io::read_full(STDIN_FILENO, room);
+impl<'a> From<&'a [u8]> for Negotiation<'a> {
+    fn from(part: &'a [u8]) -> Negotiation<'a> {
+        let sums = molecule::field(part, 6, 4);
+        Negotiation {
+            start: molecule::field(part, 6, 0),
+            lock: molecule::field(part, 6, 1),
+            udt: molecule::field(part, 6, 2),
+            updates: molecule::field(part, 6, 3),
+            surplus: Surplus {
+                capacity: u128_at(sums, 0),
+                token: u128_at(sums, 16),
+            },
+            in_force: little_endian::u32_at(molecule::field(part, 6, 5), 0),
         }
     }
 }
 
-// Reads a part and judges it. It is stored without a run of zeros.
-fn next_part() -> Run {
-    let mut head = [0u8; 12];
-    io::read_full(STDIN_FILENO, &mut head);
-    let size = little_endian::u32_at(&head, 0) as usize;
-    let place = little_endian::u32_at(&head, 4) as usize;
-    let zeros = little_endian::u32_at(&head, 8) as usize;
-    let mut buf = [0u8; ROOM];
-    read_at(&mut buf, 0, place);
-    read_at(&mut buf, plus(place, zeros), minus(size, place));
-    judge_part(molecule::part(&buf, 0, plus(size, zeros)))
+#[derive(Clone, Copy, Debug)]
+struct Proposal<'a> {
+    peer: &'a [u8],
+    source: &'a [u8],
+    rate: u64,
+    records: &'a [u8],
+    answer: &'a [u8],
 }
 
-fn with_run(c: Totals, run: Run) -> Totals {
-    Totals {
-        negotiations: std::num::wrapping_add_u64(c.negotiations, 1),
-        updates: std::num::wrapping_add_u64(c.updates, run.updates),
-        accepted: std::num::wrapping_add_u64(c.accepted, run.accepted),
-        panics: std::num::wrapping_add_u64(c.panics, run.panics),
-        wrong: std::num::wrapping_add_u64(c.wrong, run.wrong),
+impl<'a> From<&'a [u8]> for Proposal<'a> {
+    fn from(update: &'a [u8]) -> Proposal<'a> {
+        Proposal {
+            peer: molecule::field(update, 5, 0),
+            source: molecule::field(update, 5, 1),
+            rate: little_endian::u64_at(molecule::field(update, 5, 2), 0),
+            records: molecule::field(update, 5, 3),
+            answer: molecule::field(update, 5, 4),
+        }
     }
 }
 
-fn judge_parts(n: u32) -> Totals {
-    let mut c = Totals {
-        negotiations: 0,
-        updates: 0,
-        accepted: 0,
-        panics: 0,
-        wrong: 0,
-    };
-    let mut i = 0;
-    while i < n {
-        c = with_run(c, next_part());
-        i += 1;
+impl Proposal<'_> {
+    // Whether the Rust panics at it.
+    fn is_marked(&self) -> bool {
+        little_endian::byte(self.answer, 0) >= 128
     }
-    c
+
+    // Whether this is the recorded answer, but for that mark.
+    fn has_answer(&self, answer: &[u8]) -> bool {
+        little_endian::byte(self.answer, 0) % 128 == little_endian::byte(answer, 0)
+            && molecule::part(self.answer, 1, self.answer.len())
+                == molecule::part(answer, 1, answer.len())
+    }
 }
 
-fn print_count(label: &[u8], n: u64) {
-    io::write_all(STDOUT_FILENO, label);
-    io::print_decimal(STDOUT_FILENO, n);
+// ---- what the library answers
+
+// The surpluses of what is accepted, capped where they sum to more than any recorded sum.
+#[derive(Clone, Copy, Debug, Default, PartialEq, Eq)]
+struct Surplus {
+    capacity: u128,
+    token: u128,
 }
 
-fn print(c: Totals) {
-    io::print_decimal(STDOUT_FILENO, c.negotiations);
-    print_count(b" negotiations, ", c.updates);
-    print_count(b" updates, of which ", c.accepted);
-    print_count(b" are accepted and the Rust panics at ", c.panics);
-    print_count(b", ", c.wrong);
-    io::write_all(STDOUT_FILENO, b" wrong\n");
+impl Surplus {
+    fn add(&mut self, other: Surplus) {
+        self.capacity = self.capacity.saturating_add(other.capacity);
+        self.token = self.token.saturating_add(other.token);
+    }
 }
 
-fn main() {
-    let mut head = [0u8; 4];
-    io::read_full(STDIN_FILENO, &mut head);
-    print(judge_parts(little_endian::u32_at(&head, 0)));
+fn wide(amount: Amount) -> u128 {
+    u128::from(amount.high) << 64 | u128::from(amount.low)
+}
+
+fn told(update: Update) -> Result<Surplus, Refusal> {
+    match update {
+        Update::Accepted { capacity, token } => Ok(Surplus {
+            capacity: wide(capacity.0),
+            token: wide(token.0),
+        }),
+        Update::Refused(refusal) => Err(refusal),
+    }
+}
+
+// An answer as it is recorded: its number and each of its values, or 0 and the surpluses.
+fn recorded(alloc: Global, answer: Result<Surplus, Refusal>) -> Result<Vec<u8>, AllocError> {
+    let mut bytes = Vec::new(alloc);
+    match answer {
+        Ok(surplus) => {
+            bytes.push(0)?;
+            bytes.extend_from_slice(&surplus.capacity.to_le_bytes())?;
+            bytes.extend_from_slice(&surplus.token.to_le_bytes())?;
+        }
+        Err(refusal) => {
+            bytes.push(refusal.number())?;
+            for i in 0..refusal.value_count() {
+                bytes.extend_from_slice(&refusal.value(i).to_le_bytes())?;
+            }
+        }
+    }
+    Ok(bytes)
+}
+
+// ---- the negotiations
+
+#[derive(Drop)]
+struct Negotiations {
+    alloc: Global,
+    all: u64,
+    updates: u64,
+    accepted: u64,
+    panics: u64,
+    wrong: u64,
+}
+
+impl Negotiations {
+    fn new(alloc: Global) -> Negotiations {
+        Negotiations {
+            alloc,
+            all: 0,
+            updates: 0,
+            accepted: 0,
+            panics: 0,
+            wrong: 0,
+        }
+    }
+
+    fn judge(&mut self, right: bool) {
+        self.wrong = self.wrong.saturating_add(u64::from(!right));
+    }
+
+    // Judges a proposal against what is in force, and hands back the surplus of one that is accepted.
+    fn propose(
+        &mut self,
+        negotiation: &Negotiation<'_>,
+        ours: &[u8],
+        proposal: &Proposal<'_>,
+    ) -> Result<Option<Surplus>, AllocError> {
+        let update = funding_tx::update_for_peer(
+            ours,
+            proposal.peer,
+            negotiation.lock,
+            negotiation.udt,
+            proposal.source,
+            proposal.rate,
+            proposal.records,
+        );
+        let answer = told(update);
+        self.updates = self.updates.saturating_add(1);
+        self.panics = self.panics.saturating_add(u64::from(proposal.is_marked()));
+        self.judge(proposal.has_answer(&recorded(self.alloc, answer)?));
+        self.accepted = self.accepted.saturating_add(u64::from(answer.is_ok()));
+        let in_force = if answer.is_ok() { proposal.peer } else { ours };
+        self.judge(funding_tx::in_force(update, ours, proposal.peer) == in_force);
+        Ok(answer.ok())
+    }
+}
+
+impl Replay for Negotiations {
+    fn part(&mut self, part: &[u8]) -> io::Result<()> {
+        let negotiation = Negotiation::from(part);
+        let mut ours = negotiation.start;
+        let mut sum = Surplus::default();
+        let mut in_force = 0u32;
+        let mut number = 0u32;
+        for item in Items::of(negotiation.updates) {
+            let proposal = Proposal::from(item);
+            number = number.saturating_add(1);
+            if let Some(surplus) = self.propose(&negotiation, ours, &proposal)? {
+                sum.add(surplus);
+                ours = proposal.peer;
+                in_force = number;
+            }
+        }
+        self.judge(sum == negotiation.surplus && in_force == negotiation.in_force);
+        self.all = self.all.saturating_add(1);
+        Ok(())
+    }
+}
+
+impl fmt::Display for Negotiations {
+    fn fmt<W: fmt::Write>(&self, f: &mut fmt::Formatter<W>) -> fmt::Result {
+        write!(
+            f,
+            "{} negotiations, {} updates, of which {} are accepted and the Rust panics at {}, {} wrong",
+            self.all, self.updates, self.accepted, self.panics, self.wrong
+        )
+    }
+}
+
+fn main(rt: HostRuntime) -> io::Result<()> {
+    let alloc = rt.alloc();
+    let mut negotiations = Negotiations::new(alloc);
+    let input = BufReader::new(alloc, rt.reader())?;
+    recorded_calls::each_sparse_part(alloc, input, LONGEST, &mut negotiations)?;
+    println!(rt; "{negotiations}")
 }

@@ -5,258 +5,208 @@
 
 use arithmetic::{Amount, little_endian};
 use funding_cell::{FundingCell, FundingRequest};
-use recorded_calls::FILL;
+use recorded_calls::{FILL, Items, Replay, Tallies, Tally};
+use std::alloc::{AllocError, Global};
+use std::io;
+use std::io::BufReader;
 use transaction_writer::Written;
 use udt_cells::UdtInputsOutputs;
 use units::{Shannons, Tokens};
 
-const STDOUT_FILENO: i32 = 1;
+// How long a part is at most together with the first one.
+const LONGEST: usize = 600_000;
 
-// Room for the longest part behind the first one, and for the longest lent buffer.
-const ROOM: usize = 600_000;
-
+// How long a lent buffer is at most.
 const BUFFER_ROOM: usize = 133_200;
 
-// The counts: requests by number and all of them, then wrong ones likewise.
-const ALL: usize = 14;
+// As many as there are numbers of answers.
+const NUMBERS: usize = 14;
 
-const WRONG: usize = 15;
+// ---- a request
 
-const COUNTS: usize = 30;
+// What an answer tells, or its number.
+type Told<T> = Result<T, u8>;
 
-// ---- a request's fields
-
-fn field(call: &[u8], i: usize) -> &[u8] {
-    molecule::field(call, 11, i)
+// A request, how long the lent buffer is, and what is lent; and what is recorded: of the base transaction how long it is and its bytes, of the funding cell
+// capacity and tokens, and of the pick how many cells are taken, the change, and the capacity and the bytes of its output.
+#[derive(Clone, Copy)]
+struct Request<'a> {
+    figures: FundingRequest,
+    room: usize,
+    ours: &'a [u8],
+    lock: &'a [u8],
+    udt: &'a [u8],
+    source: &'a [u8],
+    cells: &'a [u8],
+    udt_deps: &'a [u8],
+    lock_dep: &'a [u8],
+    extra_deps: &'a [u8],
+    number: u8,
+    base: Told<usize>,
+    transaction: &'a [u8],
+    cell: Told<(u128, u128)>,
+    pick: Told<(usize, u128, u128)>,
+    output: &'a [u8],
 }
 
-// The numbers of the recorded answers: of the base transaction (0), the funding cell (1) and the pick (2).
-fn head_byte(call: &[u8], i: usize) -> u8 {
-    little_endian::byte(field(call, 0), i)
+fn u128_at(s: &[u8], at: usize) -> u128 {
+    let high = u128::from(little_endian::u64_at(s, at.saturating_add(8)));
+    high << 64 | u128::from(little_endian::u64_at(s, at))
 }
 
-fn head_u64(call: &[u8], at: usize) -> u64 {
-    little_endian::u64_at(field(call, 0), at)
-}
-
-fn head_u32(call: &[u8], at: usize) -> usize {
-    little_endian::u32_at(field(call, 0), at) as usize
-}
-
-fn head_amount(call: &[u8], at: usize) -> Amount {
+fn amount_at(head: &[u8], at: usize) -> Amount {
     Amount {
-        low: head_u64(call, at),
-        high: head_u64(call, recorded_calls::plus(at, 8)),
+        low: little_endian::u64_at(head, at),
+        high: little_endian::u64_at(head, at.saturating_add(8)),
     }
 }
 
-fn request(call: &[u8]) -> FundingRequest {
-    FundingRequest {
-        local_amount: head_amount(call, 4),
-        local_reserved_ckb_amount: Shannons::from_u64(head_u64(call, 36)),
-        remote_amount: head_amount(call, 20),
-        remote_reserved_ckb_amount: Shannons::from_u64(head_u64(call, 44)),
+fn wide(amount: Amount) -> u128 {
+    u128::from(amount.high) << 64 | u128::from(amount.low)
+}
+
+fn shannons_at(head: &[u8], at: usize) -> Shannons {
+    Shannons::from_u64(little_endian::u64_at(head, at))
+}
+
+fn told<T: Copy>(number: u8, figures: T) -> Told<T> {
+    if number == 0 {
+        Ok(figures)
+    } else {
+        Err(number)
     }
 }
 
-// How long the lent buffer is.
-fn room(call: &[u8]) -> usize {
-    head_u32(call, 52)
-}
-
-// ---- the base transaction
-
-fn build(call: &[u8], a: &mut [u8]) -> Written {
-    let n = room(call);
-    if a.len() < n {
-        return Written::Wrote(0);
-    }
-    let out = &mut a[0..n];
-    funding_builder::build_base(
-        field(call, 1),
-        field(call, 2),
-        field(call, 3),
-        field(call, 4),
-        field(call, 5),
-        field(call, 6),
-        field(call, 7),
-        field(call, 8),
-        request(call),
-        out,
-    )
-}
-
-// Whether the answer has the recorded number, and tells the length of what is recorded.
-fn is_told(answer: Written, call: &[u8]) -> bool {
-    let number = head_byte(call, 0);
-    match answer {
-        Written::Wrote(n) => {
-            if number != 0 {
-                return false;
-            }
-            n == field(call, 9).len()
+impl<'a> From<&'a [u8]> for Request<'a> {
+    fn from(call: &'a [u8]) -> Request<'a> {
+        let head = molecule::field(call, 11, 0);
+        let number = little_endian::byte(head, 0);
+        let transaction = molecule::field(call, 11, 9);
+        let cell = (
+            u128::from(little_endian::u64_at(head, 56)),
+            u128_at(head, 64),
+        );
+        let taken = little_endian::u32_at(head, 80) as usize;
+        let change = u128_at(head, 84);
+        let capacity = u128::from(little_endian::u64_at(head, 100));
+        Request {
+            figures: FundingRequest {
+                local_amount: amount_at(head, 4),
+                local_reserved_ckb_amount: shannons_at(head, 36),
+                remote_amount: amount_at(head, 20),
+                remote_reserved_ckb_amount: shannons_at(head, 44),
+            },
+            room: little_endian::u32_at(head, 52) as usize,
+            ours: molecule::field(call, 11, 1),
+            lock: molecule::field(call, 11, 2),
+            udt: molecule::field(call, 11, 3),
+            source: molecule::field(call, 11, 4),
+            cells: molecule::field(call, 11, 5),
+            udt_deps: molecule::field(call, 11, 6),
+            lock_dep: molecule::field(call, 11, 7),
+            extra_deps: molecule::field(call, 11, 8),
+            number,
+            base: told(number, transaction.len()),
+            transaction,
+            cell: told(little_endian::byte(head, 1), cell),
+            pick: told(little_endian::byte(head, 2), (taken, change, capacity)),
+            output: molecule::field(call, 11, 10),
         }
-        Written::Refused(e) => e.number() == number,
     }
 }
 
-fn is_base_right(call: &[u8]) -> bool {
-    let mut a = [FILL; BUFFER_ROOM];
-    let answer = build(call, &mut a);
-    if !is_told(answer, call) {
-        return false;
-    }
-    recorded_calls::is_written(&a, room(call), field(call, 9))
-}
+// ---- what the library answers
 
-// ---- the funding cell
-
-fn is_cell(call: &[u8], capacity: Shannons, token: Tokens) -> bool {
-    if head_byte(call, 1) != 0 {
-        return false;
-    }
-    if !capacity.same(Shannons::from_u64(head_u64(call, 56))) {
-        return false;
-    }
-    token.same(Tokens(head_amount(call, 64)))
-}
-
-fn is_cell_right(call: &[u8]) -> bool {
-    match funding_cell::build_funding_cell(field(call, 1), field(call, 3), request(call)) {
-        FundingCell::Cell { capacity, token } => is_cell(call, capacity, token),
-        FundingCell::Refused(e) => e.number() == head_byte(call, 1),
+fn build_base(r: &Request<'_>, out: &mut [u8]) -> Told<usize> {
+    let written = funding_builder::build_base(
+        r.ours,
+        r.lock,
+        r.udt,
+        r.source,
+        r.cells,
+        r.udt_deps,
+        r.lock_dep,
+        r.extra_deps,
+        r.figures,
+        out,
+    );
+    match written {
+        Written::Wrote(n) => Ok(n),
+        Written::Refused(e) => Err(e.number()),
     }
 }
 
-// ---- the pick
-
-fn pick(call: &[u8], a: &mut [u8]) -> UdtInputsOutputs {
-    let n = room(call);
-    let wanted = Tokens(head_amount(call, 4));
-    if a.len() < n {
-        return UdtInputsOutputs::Built {
-            taken: 0,
-            change: Tokens::ZERO,
-            capacity: Shannons::ZERO,
-        };
+fn build_cell(r: &Request<'_>) -> Told<(u128, u128)> {
+    match funding_cell::build_funding_cell(r.ours, r.udt, r.figures) {
+        FundingCell::Cell { capacity, token } => Ok((wide(capacity.0), wide(token.0))),
+        FundingCell::Refused(e) => Err(e.number()),
     }
-    let out = &mut a[0..n];
-    udt_cells::build_udt_inputs_outputs(field(call, 5), field(call, 3), field(call, 4), wanted, out)
 }
 
-fn is_pick(call: &[u8], taken: usize, change: Tokens, capacity: Shannons) -> bool {
-    if head_byte(call, 2) != 0 {
-        return false;
-    }
-    if taken != head_u32(call, 80) {
-        return false;
-    }
-    if !change.same(Tokens(head_amount(call, 84))) {
-        return false;
-    }
-    capacity.same(Shannons::from_u64(head_u64(call, 100)))
-}
-
-fn is_picked(answer: UdtInputsOutputs, call: &[u8]) -> bool {
-    match answer {
+fn build_pick(r: &Request<'_>, out: &mut [u8]) -> Told<(usize, u128, u128)> {
+    let wanted = Tokens(r.figures.local_amount);
+    match udt_cells::build_udt_inputs_outputs(r.cells, r.udt, r.source, wanted, out) {
         UdtInputsOutputs::Built {
             taken,
             change,
             capacity,
-        } => is_pick(call, taken, change, capacity),
-        UdtInputsOutputs::Refused(e) => e.number() == head_byte(call, 2),
+        } => Ok((taken, wide(change.0), wide(capacity.0))),
+        UdtInputsOutputs::Refused(e) => Err(e.number()),
     }
 }
 
-fn is_pick_right(call: &[u8]) -> bool {
-    let mut a = [FILL; BUFFER_ROOM];
-    let answer = pick(call, &mut a);
-    if !is_picked(answer, call) {
-        return false;
-    }
-    recorded_calls::is_written(&a, room(call), field(call, 10))
+// ---- what it comes to
+
+fn is_right(r: &Request<'_>, alloc: Global) -> Result<bool, AllocError> {
+    let mut base = vec![in alloc; FILL; r.room.min(BUFFER_ROOM)]?;
+    let mut pick = base.clone()?;
+    Ok(
+        build_base(r, &mut base) == r.base
+            && recorded_calls::is_written(&base, r.transaction)
+            && build_cell(r) == r.cell
+            && build_pick(r, &mut pick) == r.pick
+            && recorded_calls::is_written(&pick, r.output),
+    )
 }
 
-// ---- counts
-
-fn is_right(call: &[u8]) -> bool {
-    if !is_base_right(call) {
-        return false;
-    }
-    if !is_cell_right(call) {
-        return false;
-    }
-    is_pick_right(call)
+#[derive(Drop)]
+struct Requests {
+    alloc: Global,
+    by_number: Tallies<NUMBERS>,
+    all: Tally,
 }
 
-fn judge(counts: &mut [u64], call: &[u8]) {
-    let i = head_byte(call, 0) as usize;
-    let wrong = !is_right(call);
-    recorded_calls::raise_if(counts, i, true);
-    recorded_calls::raise_if(counts, ALL, true);
-    recorded_calls::raise_if(counts, recorded_calls::plus(WRONG, i), wrong);
-    recorded_calls::raise_if(counts, recorded_calls::plus(WRONG, ALL), wrong);
-}
-
-fn print_line(counts: &[u64], i: usize) {
-    io::write_all(STDOUT_FILENO, b": ");
-    io::print_decimal(STDOUT_FILENO, recorded_calls::count(counts, i));
-    io::write_all(STDOUT_FILENO, b" requests, ");
-    io::print_decimal(
-        STDOUT_FILENO,
-        recorded_calls::count(counts, recorded_calls::plus(WRONG, i)),
-    );
-    io::write_all(STDOUT_FILENO, b" wrong\n");
-}
-
-// A number that is recorded at all.
-fn print_number(counts: &[u64], i: usize) {
-    if recorded_calls::count(counts, i) != 0 {
-        io::print_decimal(STDOUT_FILENO, i as u64);
-        print_line(counts, i);
+impl Replay for Requests {
+    fn part(&mut self, part: &[u8]) -> io::Result<()> {
+        for item in Items::of(part) {
+            let request = Request::from(item);
+            let right = is_right(&request, self.alloc)?;
+            self.by_number.count(usize::from(request.number), right);
+            self.all.count(right);
+        }
+        Ok(())
     }
 }
 
-fn print(counts: &[u64]) {
-    let mut i = 0;
-    while i < ALL {
-        print_number(counts, i);
-        i += 1;
+// A line for each number that is recorded at all, and one for all.
+fn print(rt: &impl Print, requests: &Requests) -> io::Result<()> {
+    for (number, tally) in requests.by_number.of.iter().enumerate() {
+        if tally.all != 0 {
+            println!(rt; "{number}: {} requests, {} wrong", tally.all, tally.wrong)?;
+        }
     }
-    io::write_all(STDOUT_FILENO, b"all");
-    print_line(counts, ALL);
+    let all = requests.all;
+    println!(rt; "all: {} requests, {} wrong", all.all, all.wrong)
 }
 
-fn judge_part(counts: &mut [u64], part: &[u8]) {
-    let n = molecule::item_count(part) as usize;
-    let mut i = 0;
-    while i < n {
-        judge(counts, molecule::item(part, i));
-        i += 1;
-    }
-}
-
-// ---- parts
-
-// Reads a part behind the first one, which it copies from, and judges its calls.
-fn next_part(counts: &mut [u64], buf: &mut [u8], first: usize) {
-    let end = recorded_calls::read_part(buf, first);
-    judge_part(counts, molecule::part(buf, first, end));
-}
-
-fn judge_parts(counts: &mut [u64], buf: &mut [u8], n: u32) {
-    let first = recorded_calls::read_part(buf, 0);
-    let mut i = 1;
-    while i < n {
-        next_part(counts, buf, first);
-        i += 1;
-    }
-}
-
-fn main() {
-    let n = recorded_calls::read_number();
-    let mut buf = recorded_calls::zeros::<ROOM>();
-    let mut counts = [0u64; COUNTS];
-    judge_parts(&mut counts, &mut buf, n);
-    print(&counts);
+fn main(rt: HostRuntime) -> io::Result<()> {
+    let alloc = rt.alloc();
+    let mut requests = Requests {
+        alloc,
+        by_number: Tallies::new(),
+        all: Tally::default(),
+    };
+    let input = BufReader::new(alloc, rt.reader())?;
+    recorded_calls::each_part(alloc, input, LONGEST, &mut requests)?;
+    print(&rt, &requests)
 }

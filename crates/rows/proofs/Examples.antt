@@ -1,11 +1,10 @@
 -- Worked examples, by computation of the definitions: tables with room for three rows of two bytes.
-use Rattle.std.proofs.Common.{◌≡◌, ℕ, true, false, List, [], ◌∷◌, refl}
+use Rattle.std.proofs.Common.{Some, None, ◌≡◌, ℕ, true, false, List, [], ◌∷◌, refl}
 use mathlib.Core.List.{flatten}
 use Rattle.arithmetic.specs.LittleEndian.{le, to_le, num_at}
 use Rattle.molecule.specs.Layout.{part, span, word, fix_count, fix_item}
 use Rattle.molecule.specs.Write.{splice, put_at}
 use Rattle.lists.specs.Lists.{eq_bytes}
-use Rattle.rows.specs.declared.{Found.Found}
 use Rattle.rows.specs.Rows.{is_table, row_count, row_at, rows_of, rows_bytes, has_key, first_with, find, room_for, with_row, with_count, pushed, replaced, rows_behind, removed}
 
 -- no row, two rows with two bytes behind them, and as many as there is room for
@@ -73,28 +72,28 @@ written = refl
 -- ---- find
 
 -- by the first byte of a row, by the second (two rows have it: the first of them), by both
-pub by_first : find 2 0 (20 ∷ []) two ≡ Found.At 1
+pub by_first : find 2 0 (20 ∷ []) two ≡ Some 1
 unfolding find first_with has_key eq_bytes span fix_item fix_count part word num_at le
 by_first = refl
 
-pub by_second : find 2 1 (11 ∷ []) two ≡ Found.At 0
+pub by_second : find 2 1 (11 ∷ []) two ≡ Some 0
 unfolding find first_with has_key eq_bytes span fix_item fix_count part word num_at le
 by_second = refl
 
-pub by_both : find 2 0 (20 ∷ 11 ∷ []) two ≡ Found.At 1
+pub by_both : find 2 0 (20 ∷ 11 ∷ []) two ≡ Some 1
 unfolding find first_with has_key eq_bytes span fix_item fix_count part word num_at le
 by_both = refl
 
 -- what stands behind the last row is not found, and no row has three bytes
-pub behind_the_last : find 2 0 (90 ∷ 91 ∷ []) two ≡ Found.Nothing
+pub behind_the_last : find 2 0 (90 ∷ 91 ∷ []) two ≡ None
 unfolding find first_with has_key eq_bytes span fix_item fix_count part word num_at le
 behind_the_last = refl
 
-pub too_long_lem : find 2 0 (10 ∷ 11 ∷ 20 ∷ []) two ≡ Found.Nothing
+pub too_long_lem : find 2 0 (10 ∷ 11 ∷ 20 ∷ []) two ≡ None
 unfolding find first_with has_key eq_bytes span fix_item fix_count part word num_at le
 too_long_lem = refl
 
-pub in_none : find 2 0 (0 ∷ 0 ∷ []) none ≡ Found.Nothing
+pub in_none : find 2 0 (0 ∷ 0 ∷ []) none ≡ None
 unfolding find first_with has_key eq_bytes span fix_item fix_count part word num_at le
 in_none = refl
 

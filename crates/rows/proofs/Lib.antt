@@ -1,6 +1,5 @@
 pub mod ChangeLaws
 pub mod Examples
-pub mod MoveLaws
 pub mod RowLaws
 pub mod RowTheorems
 pub mod StretchLaws

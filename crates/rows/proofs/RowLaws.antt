@@ -1,6 +1,7 @@
 -- Laws of specs/Rows.antt: one for each way out of the functions that read, look for and change rows.
-use Rattle.std.proofs.Common.{◌≡◌, ℕ, ◌+◌, ◌-◌, ◌*◌, ◌%◌, ◌^◌, ◌<◌, ◌≤◌, Bool, true, false, List, length, take, drop, sym, ap, ◌∙◌, ap₂, le_refl, mul-le-mul, mul-suc, add-one, arith, length-drop, length-take-le, take_all, w32, w64, Fits, le-ltb, lt-ltb, eq-eqb, ne_eqb, le-leb}
+use Rattle.std.proofs.Common.{Option, Some, None, ◌≡◌, ℕ, ◌+◌, ◌-◌, ◌*◌, ◌%◌, ◌^◌, ◌<◌, ◌≤◌, Bool, true, false, List, ◌++◌, length, take, drop, sym, ap, ◌∙◌, ap₂, le_refl, mul-le-mul, mul-suc, add-one, arith, length-drop, length-take-le, take_all, w32, w64, Fits, le-ltb, lt-ltb, eq-eqb, ne_eqb, le-leb}
 use borrow.Author.Tests.{lt-leb}
+use Rattle.std.specs.List.{copy_within}
 use Rattle.arithmetic.specs.LittleEndian.{to_le}
 use Rattle.arithmetic.proofs.LittleEndianLaws.{wrapped}
 use Rattle.molecule.specs.Layout.{part, span, word, fix_count, fix_item}
@@ -8,7 +9,6 @@ use Rattle.molecule.specs.Write.{splice, put_at}
 use Rattle.molecule.proofs.WriteLaws.{put_yes}
 use Rattle.lists.specs.Lists.{eq_bytes}
 use Rattle.lists.proofs.SpanLaws.{span-on, span-end, span-whole}
-use Rattle.rows.specs.declared.{Found.Found}
 use Rattle.rows.specs.Rows.{is_table, has_key, first_with, find, room_for, with_row, with_count, pushed, replaced, rows_behind, removed}
 
 -- ---- places
@@ -62,20 +62,20 @@ key_is row at key {rest} {x} er ex e =
     e ∙ ap (λ (y : List ℕ). eq_bytes y key) (ex ∙ ap₂ take z d)
 
 -- R is the answer: the rows from i on decide
-pub record Seeking (k at : ℕ) (key s : List ℕ) (n i : ℕ) (R : Found) : Type 0 where
+pub record Seeking (k at : ℕ) (key s : List ℕ) (n i : ℕ) (R : Option ℕ) : Type 0 where
   pub rest : R ≡ first_with at key i (span (fix_item s k) i (n - i))
 
 pub seek_start : (k at : ℕ) (key s : List ℕ) {n : ℕ} → n ≡ fix_count s → Seeking k at key s n 0 (find k at key s)
 unfolding find
 seek_start k at key s {n} e = record { rest = rw (← e) (ap (first_with at key 0) (span-whole (fix_item s k) n)) }
 
-module _ {k at : ℕ} {key s : List ℕ} {n i : ℕ} {R : Found} (h : Seeking k at key s n i R) where
-  pub seek_end : n ≤ i → Found.Nothing ≡ R
+module _ {k at : ℕ} {key s : List ℕ} {n i : ℕ} {R : Option ℕ} (h : Seeking k at key s n i R) where
+  pub seek_end : n ≤ i → None ≡ R
   unfolding first_with
   seek_end l = sym (h.rest ∙ rw (span-end (fix_item s k) i n l))
 
   module _ {x : List ℕ} {r : Bool} (l : i < n) (ex : x ≡ fix_item s k i) (e : r ≡ has_key at key x) where
-    pub seek_found : r ≡ true → Found.At i ≡ R
+    pub seek_found : r ≡ true → Some i ≡ R
     unfolding first_with
     seek_found t = sym (h.rest ∙ rw (span-on (fix_item s k) i n l, ← ex, ← e, t))
 
@@ -121,6 +121,18 @@ module _ (k i : ℕ) (row s : List ℕ) {n : ℕ} (e : n ≡ fix_count s) where
     replace_is l eo = eo ∙ rw (← e, lt-ltb i n h, eq-eqb (length row) k l)
 
 -- ---- remove
+
+-- the rows behind moved down
+pub moved_down : (k i n : ℕ) (s : List ℕ) {o : List ℕ} → i < n → 4 + k * n ≤ length s → o ≡ copy_within s (4 + k * i + k) (4 + k * n) (4 + k * i)
+    → o ≡ splice s (4 + k * i) (take (4 + k * n - (4 + k * i + k)) (drop (4 + k * i + k) s))
+unfolding splice
+moved_down k i n s h r e =
+    let a = 4 + k * i in
+    let b = 4 + k * i + k in
+    let m = 4 + k * n - b in
+    let w : b ≤ 4 + k * n = ends-within k h in
+    let lx : length (take m (drop b s)) ≡ m = length-take-le m (drop b s) (omega (arith, length-drop b s)) in
+    e ∙ ap (λ (x : ℕ). take a s ++ take m (drop b s) ++ drop (a + x) s) (sym lx)
 
 module _ (k i : ℕ) (s : List ℕ) {n : ℕ} (e : n ≡ fix_count s) where
   pub remove_past : n ≤ i → s ≡ removed k i s

@@ -1,11 +1,10 @@
 -- What a table of rows means, for whoever keeps one. Each call says which bytes it leaves (specs/Rows.antt); here stands what these bytes then mean: a table
 -- is a list of rows, and push, replace and remove are what they are on lists. All of it holds of rows of any width k and of any most n of them.
-use Rattle.std.proofs.Common.{◌≡◌, ℕ, ◌+◌, ◌-◌, ◌*◌, ◌^◌, ◌<◌, ◌≤◌, true, false, List, [], ◌∷◌, ◌++◌, length, take, drop, set, replicate, sym, ap, ◌∙◌, arith}
+use Rattle.std.proofs.Common.{Some, None, ◌≡◌, ℕ, ◌+◌, ◌-◌, ◌*◌, ◌^◌, ◌<◌, ◌≤◌, true, false, List, [], ◌∷◌, ◌++◌, length, take, drop, set, replicate, sym, ap, ◌∙◌, arith}
 use mathlib.Core.Bool.{false≢true}
 use Rattle.arithmetic.specs.LittleEndian.{AllBytes}
 use Rattle.lists.specs.Lists.{eq_bytes}
 use Rattle.lists.proofs.EqualLaws.{eq_true, eq_refl}
-use Rattle.rows.specs.declared.{Found.Found}
 use Rattle.rows.specs.Rows.{is_table, row_count, row_at, rows_of, rows_bytes, has_key, find, pushed, replaced, removed}
 use Rattle.rows.proofs.TableLaws as laws
 
@@ -85,7 +84,7 @@ module _ {k n : ℕ} {s : List ℕ} (t : Table k n s) where
 -- ---- find, of any bytes: the row that is found is one of the rows and has the key, and none before it has; where nothing is found none has it
 
 module _ (k at : ℕ) (key s : List ℕ) where
-  module _ (i : ℕ) (e : find k at key s ≡ Found.At i) where
+  module _ (i : ℕ) (e : find k at key s ≡ Some i) where
     pub find-within : i < row_count s
     find-within = let w = (laws.found_first k at key s i e).within in omega arith
 
@@ -95,7 +94,7 @@ module _ (k at : ℕ) (key s : List ℕ) where
     pub find_first : (x : ℕ) → x < i → has_key at key (row_at k s x) ≡ false
     find_first x h = (laws.found_first k at key s i e).earlier x (omega arith) h
 
-  pub find-nothing : find k at key s ≡ Found.Nothing → (x : ℕ) → x < row_count s → has_key at key (row_at k s x) ≡ false
+  pub find-nothing : find k at key s ≡ None → (x : ℕ) → x < row_count s → has_key at key (row_at k s x) ≡ false
   unfolding find
   find-nothing e x h = laws.none_has at key (row_at k s) 0 (row_count s) e x (omega arith) (omega arith)
 

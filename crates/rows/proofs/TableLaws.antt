@@ -1,5 +1,5 @@
 -- What a table means after push, replace and remove, what `find` answers, and rows as bytes: the proofs of what RowTheorems.antt states.
-use Rattle.std.proofs.Common.{◌≡◌, ℕ, zero, suc, ◌+◌, ◌-◌, ◌*◌, ◌^◌, ◌<◌, ◌≤◌, Bool, true, false, cond, ◌&&◌, eqb, ltb, leb, List, [], ◌∷◌, ◌++◌, length, take, drop, set, replicate, sym, refl, ap, ◌∙◌, ap₂, append_assoc, append-nil, mul-zero, mul-suc, mul-add, add-one, arith, length-append, take-append-drop, drop_of_length-le, length-take-le, take_all, take_at, take-add, drop_at, ltb-false, ltb-true, eqb-true, leb-true}
+use Rattle.std.proofs.Common.{Option, Some, None, ◌≡◌, ℕ, zero, suc, ◌+◌, ◌-◌, ◌*◌, ◌^◌, ◌<◌, ◌≤◌, Bool, true, false, cond, ◌&&◌, eqb, ltb, leb, List, [], ◌∷◌, ◌++◌, length, take, drop, set, replicate, sym, refl, ap, ◌∙◌, ap₂, append_assoc, append-nil, mul-zero, mul-suc, mul-add, add-one, arith, length-append, take-append-drop, drop_of_length-le, length-take-le, take_all, take_at, take-add, drop_at, ltb-false, ltb-true, eqb-true, leb-true}
 use mathlib.Core.Bool.{and-eq-true_iff}
 use mathlib.Core.List.{flatten}
 use native.Mathlib.Nat.{le_of_mul-le-mul_left}
@@ -16,7 +16,6 @@ use Rattle.molecule.proofs.LayoutLaws.{fix_count-word, fix_count_said}
 use Rattle.molecule.proofs.WriteLaws.{put_yes}
 use Rattle.lists.proofs.RunLaws.{item_run, next_run}
 use Rattle.rows.proofs.StretchLaws.{drop-splice, length_part, span-split}
-use Rattle.rows.specs.declared.{Found.Found}
 use Rattle.rows.specs.Rows.{is_table, row_count, row_at, rows_of, rows_bytes, has_key, first_with, find, room_for, pushed, replaced, removed}
 use Rattle.rows.proofs.RowLaws.{next_place, place-order, ends-within, table_is, push_is, push_full, replace_is, replace_past, remove-is, remove_past}
 use Rattle.rows.proofs.ChangeLaws.{inside-write, part-within, span_same, span-take, span-behind, span-first, table-length, table-word, rows-below, count_word, put_long, put_word, put_before, counted-long, counted-word, counted_row}
@@ -307,9 +306,9 @@ module _ (k n : ℕ) (s : List ℕ) (p : 0 < k) (t : is_table k n s ≡ true) wh
 -- ---- a row that is looked for
 
 -- 0 for nothing, and the place and 1
-answer : Found → ℕ
-answer Found.Nothing = 0
-answer (Found.At i) = suc i
+answer : Option ℕ → ℕ
+answer None = 0
+answer (Some i) = suc i
 
 -- of the rows f from i on, m of them: row j has the key, and none before it
 pub record First (at : ℕ) (key : List ℕ) (f : ℕ → List ℕ) (i m j : ℕ) : Type 0 where
@@ -323,13 +322,13 @@ passed : (at : ℕ) (key : List ℕ) (f : ℕ → List ℕ) (i j x : ℕ) → ha
 passed at key f i j x h r u v =
     below_or_not i x (has_key at key (f x) ≡ false) (λ l. r x (omega arith) v) (λ l. let y : x ≡ i = omega arith in ap (λ (z : ℕ). has_key at key (f z)) y ∙ h)
 
-first-at : (at : ℕ) (key : List ℕ) (f : ℕ → List ℕ) (i m j : ℕ) → first_with at key i (span f i m) ≡ Found.At j → First at key f i m j
+first-at : (at : ℕ) (key : List ℕ) (f : ℕ → List ℕ) (i m j : ℕ) → first_with at key i (span f i m) ≡ Some j → First at key f i m j
 unfolding first_with span answer
 first-at at key f i zero j e = absurd (let z : ◌≡◌ {A = ℕ} 0 (suc j) = ap answer e in omega arith)
 first-at at key f i (suc m) j e = by (λ g. first-at at key f (suc i) m j g) (has_key at key (f i)) refl e
   where
-    by : (first_with at key (suc i) (span f (suc i) m) ≡ Found.At j → First at key f (suc i) m j) → (b : Bool) → has_key at key (f i) ≡ b
-        → cond b (Found.At i) (first_with at key (suc i) (span f (suc i) m)) ≡ Found.At j → First at key f i (suc m) j
+    by : (first_with at key (suc i) (span f (suc i) m) ≡ Some j → First at key f (suc i) m j) → (b : Bool) → has_key at key (f i) ≡ b
+        → cond b (Some i) (first_with at key (suc i) (span f (suc i) m)) ≡ Some j → First at key f i (suc m) j
     by r true h g =
         let z : suc i ≡ suc j = ap answer g in
         let y : i ≡ j = omega arith in
@@ -340,19 +339,19 @@ first-at at key f i (suc m) j e = by (λ g. first-at at key f (suc i) m j g) (ha
         let b = w.within in
         record { from = omega arith; within = omega arith; has = w.has; earlier = λ x u v. passed at key f i j x h w.earlier u v }
 
-pub none_has : (at : ℕ) (key : List ℕ) (f : ℕ → List ℕ) (i m : ℕ) → first_with at key i (span f i m) ≡ Found.Nothing → (x : ℕ) → i ≤ x → x < i + m → has_key at key (f x) ≡ false
+pub none_has : (at : ℕ) (key : List ℕ) (f : ℕ → List ℕ) (i m : ℕ) → first_with at key i (span f i m) ≡ None → (x : ℕ) → i ≤ x → x < i + m → has_key at key (f x) ≡ false
 unfolding first_with span answer
 none_has at key f i zero e x u v = absurd (omega arith)
 none_has at key f i (suc m) e x u v = by (λ g. none_has at key f (suc i) m g) (has_key at key (f i)) refl e
   where
-    by : (first_with at key (suc i) (span f (suc i) m) ≡ Found.Nothing → (x : ℕ) → suc i ≤ x → x < suc i + m → has_key at key (f x) ≡ false) → (b : Bool) → has_key at key (f i) ≡ b
-        → cond b (Found.At i) (first_with at key (suc i) (span f (suc i) m)) ≡ Found.Nothing → has_key at key (f x) ≡ false
+    by : (first_with at key (suc i) (span f (suc i) m) ≡ None → (x : ℕ) → suc i ≤ x → x < suc i + m → has_key at key (f x) ≡ false) → (b : Bool) → has_key at key (f i) ≡ b
+        → cond b (Some i) (first_with at key (suc i) (span f (suc i) m)) ≡ None → has_key at key (f x) ≡ false
     by r true h g = absurd (let z : ◌≡◌ {A = ℕ} (suc i) 0 = ap answer g in omega arith)
     by r false h g = passed at key f i (i + suc m) x h (λ y a b. r g y a (omega arith)) u v
 
 -- Of any bytes, a table or not.
 module _ (k at : ℕ) (key s : List ℕ) where
-  module _ (i : ℕ) (e : find k at key s ≡ Found.At i) where
+  module _ (i : ℕ) (e : find k at key s ≡ Some i) where
     pub found_first : First at key (row_at k s) 0 (row_count s) i
     unfolding find
     found_first = first-at at key (row_at k s) 0 (row_count s) i e

@@ -1,14 +1,13 @@
 -- A flat table in lent bytes (ours: docs/DECISIONS.md, "A lent table is bytes of a fixed form"): its count in four bytes, then rows of k bytes each.
 -- It has room for n rows. Bytes behind the last row mean nothing and keep their value. A table that is full of rows is a list of sized items (RFC 0008),
 -- so its rows are read as that list's items are.
-use Rattle.std.specs.Prelude.{ℕ, suc, ◌+◌, ◌-◌, ◌*◌, Bool, cond, ◌&&◌, List, [], ◌∷◌, ◌++◌}
+use Rattle.std.specs.Prelude.{Option, Some, None, ℕ, suc, ◌+◌, ◌-◌, ◌*◌, Bool, cond, ◌&&◌, List, [], ◌∷◌, ◌++◌}
 use mathlib.Core.List.{flatten}
 use lib.{Dec.eqb, Dec.leb, Dec.ltb, ListN.length, ListN.take, ListN.drop}
 use Rattle.arithmetic.specs.LittleEndian.{to_le}
 use Rattle.molecule.specs.Layout.{part, word, fix_count, fix_item, fix_start, fix_items}
 use Rattle.molecule.specs.Write.{put_at}
 use Rattle.lists.specs.Lists.{eq_bytes}
-use Rattle.rows.specs.declared.{Found.Found}
 
 -- ---- what lent bytes mean
 
@@ -42,11 +41,11 @@ unfoldable pub has_key : ℕ → List ℕ → List ℕ → Bool
 has_key at key row = eq_bytes (take (length key) (drop at row)) key
 
 -- the place of the first such row, where the first of them all has place i
-unfoldable pub first_with : ℕ → List ℕ → ℕ → List (List ℕ) → Found
-first_with at key i [] = Found.Nothing
-first_with at key i (row ∷ rows) = cond (has_key at key row) (Found.At i) (first_with at key (suc i) rows)
+unfoldable pub first_with : ℕ → List ℕ → ℕ → List (List ℕ) → Option ℕ
+first_with at key i [] = None
+first_with at key i (row ∷ rows) = cond (has_key at key row) (Some i) (first_with at key (suc i) rows)
 
-unfoldable pub find : ℕ → ℕ → List ℕ → List ℕ → Found
+unfoldable pub find : ℕ → ℕ → List ℕ → List ℕ → Option ℕ
 find k at key s = first_with at key 0 (rows_of k s)
 
 -- ---- what a call leaves of the lent bytes; all of them as they were where it has nothing to do

@@ -2,37 +2,18 @@
 // is none; a call that has nothing to do (a row of another length, no room, no row at that place) leaves all bytes as they were.
 #![tactic(auto)]
 
-ghost use Rattle.std.specs.Prelude.{◌≡◌, ◌+◌, ◌≤◌, length, take, drop};
+ghost use Rattle.std.specs.Prelude.{◌≡◌};
 ghost use Rattle.molecule.specs.Layout.{inside};
-ghost use Rattle.molecule.specs.Write.{splice};
 ghost use Rattle.rows.specs.Rows.{is_table, row_count, row_at, row_start, has_key, find, pushed, replaced, removed};
 
-use arithmetic::sizes;
 use molecule::write;
 
-// Where a row that was looked for stands.
-#[derive(Clone, Copy)]
-pub enum Found {
-    At(usize),
-    Nothing,
-}
-
-// How many bytes are moved at a time.
-const BLOCK: usize = 512;
-
 // Whether s is a table with room for n rows of k bytes.
+#[tactic(auto, unfolding(crate::specs::Rows::is_table))]
 pub fn is_table(s: &[u8], k: u32, n: u32) -> bool
     ensures { result ≡ is_table k n s.now }
 {
-    let w = k as usize;
-    let most = n as usize;
-    if s.len() != 4 + w * most {
-        return false;
-    }
-    if n < molecule::word(s, 0) {
-        return false;
-    }
-    true
+    s.len() == 4 + k as usize * n as usize && molecule::word(s, 0) <= n
 }
 
 // How many rows it has: no more than bytes, whatever it says.
@@ -59,20 +40,17 @@ pub fn has_key(row: &[u8], at: usize, key: &[u8]) -> bool
     lists::same(part, key)
 }
 
-// The first row with the key at `at`.
-pub fn find(s: &[u8], k: u32, at: usize, key: &[u8]) -> Found
+// Where the first row with the key at `at` stands.
+pub fn find(s: &[u8], k: u32, at: usize, key: &[u8]) -> Option<usize>
     ensures { result ≡ find k at key.now s.now }
 {
-    let n = row_count(s);
-    let mut i = 0;
-    while i < n {
+    for i in 0..row_count(s) {
         let x = row(s, k, i);
         if has_key(x, at, key) {
-            return Found::At(i);
+            return Some(i);
         }
-        i += 1;
     }
-    Found::Nothing
+    None
 }
 
 // A row behind the last, where there is room.
@@ -89,9 +67,8 @@ pub fn push(s: &mut [u8], k: u32, row: &[u8])
         return;
     }
     // four bytes hold the count modulo 2^32
-    let more = std::num::wrapping_add_u32(n, 1);
     write::put(s, at, row);
-    write::put_u32(s, 0, more);
+    write::put_u32(s, 0, n.wrapping_add(1));
 }
 
 // Another row in place of row i.
@@ -110,32 +87,6 @@ pub fn replace(s: &mut [u8], k: u32, i: usize, row: &[u8])
     write::put(s, at, row);
 }
 
-// Moves at most a block of bytes, by way of an array, so that they are copied as two stretches.
-fn move_block(s: &mut [u8], from: usize, to: usize, n: usize)
-    requires n_bound { n ≤ 512 }
-    requires n_in_bounds { from + n ≤ length s.old }
-    requires n_in_bounds_2 { to + n ≤ length s.old }
-    ensures { s.new ≡ splice s.old to (take n (drop from s.old)) }
-{
-    let mut block: [u8; 512] = [0; 512];
-    write::put(&mut block, 0, &s[from..from + n]);
-    write::put(s, to, &block[0..n]);
-}
-
-// Moves n bytes down, the first of them first.
-fn move_down(s: &mut [u8], from: usize, to: usize, n: usize)
-    requires to_le_from { to ≤ from }
-    requires n_in_bounds { from + n ≤ length s.old }
-    ensures { s.new ≡ splice s.old to (take n (drop from s.old)) }
-{
-    let mut moved = 0;
-    while moved < n {
-        let m = sizes::min(n - moved, BLOCK);
-        move_block(s, from + moved, to + moved, m);
-        moved += m;
-    }
-}
-
 // Takes row i out: the rows behind it move one place up.
 pub fn remove(s: &mut [u8], k: u32, i: usize)
     ensures { s.new ≡ removed k i s.old }
@@ -152,6 +103,6 @@ pub fn remove(s: &mut [u8], k: u32, i: usize)
     }
     let to = 4 + w * i;
     let from = to + w;
-    move_down(s, from, to, end - from);
+    s.copy_within(from..end, to);
     write::put_u32(s, 0, count - 1);
 }

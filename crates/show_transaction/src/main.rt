@@ -2,151 +2,136 @@
 #![tactic(auto)]
 
 use reader::lists;
+use std::io::{BufWriter, Read, Write};
+use std::{fmt, io};
 use transaction::fields;
 
-const STDIN_FILENO: i32 = 0;
+const LONGEST: usize = 65_536;
 
-const STDOUT_FILENO: i32 = 1;
+#[derive(Clone, Copy)]
+struct Hex<'a>(&'a [u8]);
 
-fn text(s: &[u8]) {
-    io::write_all(STDOUT_FILENO, s);
-}
-
-fn number(n: u64) {
-    io::print_decimal(STDOUT_FILENO, n);
-}
-
-// A line: words and a number.
-fn line(label: &[u8], n: u64) {
-    text(label);
-    number(n);
-    text(b"\n");
-}
-
-fn hex(s: &[u8]) {
-    text(b"0x");
-    let mut i = 0;
-    while i < s.len() {
-        io::print_hex(STDOUT_FILENO, wide(s[i]), 2);
-        i += 1;
+impl fmt::Display for Hex<'_> {
+    fn fmt<W: fmt::Write>(&self, f: &mut fmt::Formatter<W>) -> fmt::Result {
+        write!(f, "0x")?;
+        for byte in self.0 {
+            write!(f, "{byte:02x}")?;
+        }
+        Ok(())
     }
 }
 
-fn wide(b: u8) -> u64 {
-    b as u64
-}
+#[derive(Clone, Copy)]
+struct OutPoint<'a>(&'a [u8]);
 
-fn out_point(p: &[u8]) {
-    hex(fields::tx_hash(p));
-    text(b":");
-    number(fields::index(p) as u64);
-}
-
-fn script(label: &[u8], s: &[u8]) {
-    text(label);
-    hex(fields::code_hash(s));
-    text(b", hash type ");
-    number(fields::hash_type(s) as u64);
-    text(b", args ");
-    hex(fields::args(s));
-    text(b"\n");
-}
-
-fn show_cell_deps(s: &[u8]) {
-    let n = lists::cell_dep_count(s) as usize;
-    line(b"cell deps ", n as u64);
-    let mut i = 0;
-    while i < n {
-        let dep = lists::cell_dep(s, i);
-        text(b"  ");
-        out_point(fields::out_point(dep));
-        line(b", dep type ", fields::dep_type(dep) as u64);
-        i += 1;
+impl fmt::Display for OutPoint<'_> {
+    fn fmt<W: fmt::Write>(&self, f: &mut fmt::Formatter<W>) -> fmt::Result {
+        let hash = Hex(fields::tx_hash(self.0));
+        write!(f, "{hash}:{}", fields::index(self.0))
     }
 }
 
-fn show_header_deps(s: &[u8]) {
-    let n = lists::header_dep_count(s) as usize;
-    line(b"header deps ", n as u64);
-    let mut i = 0;
-    while i < n {
-        text(b"  ");
-        hex(lists::header_dep(s, i));
-        text(b"\n");
-        i += 1;
+#[derive(Clone, Copy)]
+struct Script<'a>(&'a [u8]);
+
+impl fmt::Display for Script<'_> {
+    fn fmt<W: fmt::Write>(&self, f: &mut fmt::Formatter<W>) -> fmt::Result {
+        let hash = Hex(fields::code_hash(self.0));
+        let args = Hex(fields::args(self.0));
+        write!(
+            f,
+            "{hash}, hash type {}, args {args}",
+            fields::hash_type(self.0)
+        )
     }
 }
 
-fn show_inputs(s: &[u8]) {
-    let n = lists::input_count(s) as usize;
-    line(b"inputs ", n as u64);
-    let mut i = 0;
-    while i < n {
-        let input = lists::input(s, i);
-        text(b"  ");
-        out_point(fields::previous_output(input));
-        line(b", since ", fields::since(input));
-        i += 1;
+fn show_cell_deps<W: Write>(out: &mut W, tx: &[u8]) -> io::Result<()> {
+    let n = lists::cell_dep_count(tx);
+    writeln!(out, "cell deps {n}")?;
+    for i in 0..n as usize {
+        let dep = lists::cell_dep(tx, i);
+        let point = OutPoint(fields::out_point(dep));
+        writeln!(out, "  {point}, dep type {}", fields::dep_type(dep))?;
     }
+    Ok(())
 }
 
-fn show_output(s: &[u8], i: usize) {
-    let output = lists::output(s, i);
-    let capacity = fields::capacity(output);
-    line(b"  shannons ", capacity.0.low);
-    script(b"    lock ", fields::lock(output));
+fn show_header_deps<W: Write>(out: &mut W, tx: &[u8]) -> io::Result<()> {
+    let n = lists::header_dep_count(tx);
+    writeln!(out, "header deps {n}")?;
+    for i in 0..n as usize {
+        writeln!(out, "  {}", Hex(lists::header_dep(tx, i)))?;
+    }
+    Ok(())
+}
+
+fn show_inputs<W: Write>(out: &mut W, tx: &[u8]) -> io::Result<()> {
+    let n = lists::input_count(tx);
+    writeln!(out, "inputs {n}")?;
+    for i in 0..n as usize {
+        let input = lists::input(tx, i);
+        let point = OutPoint(fields::previous_output(input));
+        writeln!(out, "  {point}, since {}", fields::since(input))?;
+    }
+    Ok(())
+}
+
+fn shannons(output: &[u8]) -> u64 {
+    fields::capacity(output).0.low
+}
+
+fn show_output<W: Write>(out: &mut W, tx: &[u8], i: usize) -> io::Result<()> {
+    let output = lists::output(tx, i);
+    writeln!(out, "  shannons {}", shannons(output))?;
+    writeln!(out, "    lock {}", Script(fields::lock(output)))?;
     let kind = fields::type_script(output);
-    if kind.len() != 0 {
-        script(b"    type ", kind);
+    if !kind.is_empty() {
+        writeln!(out, "    type {}", Script(kind))?;
     }
-    text(b"    data ");
-    hex(lists::output_data(s, i));
-    text(b"\n");
+    writeln!(out, "    data {}", Hex(lists::output_data(tx, i)))
 }
 
-fn show_outputs(s: &[u8]) {
-    let n = lists::output_count(s) as usize;
-    line(b"outputs ", n as u64);
-    let mut i = 0;
-    while i < n {
-        show_output(s, i);
-        i += 1;
+fn show_outputs<W: Write>(out: &mut W, tx: &[u8]) -> io::Result<()> {
+    let n = lists::output_count(tx);
+    writeln!(out, "outputs {n}")?;
+    for i in 0..n as usize {
+        show_output(out, tx, i)?;
     }
+    Ok(())
 }
 
-fn show_witnesses(s: &[u8]) {
-    let n = lists::witness_count(s) as usize;
-    line(b"witnesses ", n as u64);
-    let mut i = 0;
-    while i < n {
-        text(b"  ");
-        hex(lists::witness(s, i));
-        text(b"\n");
-        i += 1;
+fn show_witnesses<W: Write>(out: &mut W, tx: &[u8]) -> io::Result<()> {
+    let n = lists::witness_count(tx);
+    writeln!(out, "witnesses {n}")?;
+    for i in 0..n as usize {
+        writeln!(out, "  {}", Hex(lists::witness(tx, i)))?;
     }
+    Ok(())
 }
 
-fn show(s: &[u8]) {
-    if !transaction::is_transaction(s) {
-        text(b"refused with 1: these bytes are no transaction\n");
-        return;
+fn show<W: Write>(out: &mut W, tx: &[u8]) -> io::Result<()> {
+    if tx.len() > LONGEST {
+        return writeln!(out, "refused: more than 65,536 bytes");
     }
-    line(b"bytes ", s.len() as u64);
-    line(b"version ", lists::version(s) as u64);
-    show_cell_deps(s);
-    show_header_deps(s);
-    show_inputs(s);
-    show_outputs(s);
-    show_witnesses(s);
+    if !transaction::is_transaction(tx) {
+        return writeln!(out, "refused with 1: these bytes are no transaction");
+    }
+    writeln!(out, "bytes {}", tx.len())?;
+    writeln!(out, "version {}", lists::version(tx))?;
+    show_cell_deps(out, tx)?;
+    show_header_deps(out, tx)?;
+    show_inputs(out, tx)?;
+    show_outputs(out, tx)?;
+    show_witnesses(out, tx)
 }
 
-fn main() {
-    let mut buf = io::large_buffer();
-    let n = io::read_full(STDIN_FILENO, &mut buf);
-    let mut more = [0u8; 1];
-    if io::read_full(STDIN_FILENO, &mut more) != 0 {
-        text(b"refused: more than 65,536 bytes\n");
-        return;
-    }
-    show(&buf[..n]);
+fn main(rt: HostRuntime) -> io::Result<()> {
+    // one byte more than may be there
+    let most = LONGEST as u64 + 1;
+    let mut tx = Vec::new(rt.alloc());
+    rt.reader().take(most).read_to_end(&mut tx)?;
+    let mut out = BufWriter::new(rt.alloc(), io::writer(&rt))?;
+    show(&mut out, &tx)?;
+    out.flush()
 }

@@ -1,8 +1,8 @@
--- The tables of CKB (RFC 0019): one law for each way out of the function that tests one. Written by tools/tables.py.
+-- The tables of CKB (RFC 0019): what each is of its fields, in the tests that code makes. Written by tools/tables.py.
 use mathlib.Core.Path.{◌≡◌, refl, sym, ◌∙◌}
 use Prim.Native.Nat.{ℕ}
 use mathlib.Core.List.{List}
-use mathlib.Core.Bool.{Bool, true, false, not, ◌&&◌, and-true, and-false}
+use mathlib.Core.Bool.{Bool, true, false, not, ◌&&◌, and-true, and-false, and_assoc}
 use borrow.Author.Tests.{eq-eqb, ne_eqb, not-true, not-false}
 use lib.Dec.{eqb}
 use lib.ListN.{length}
@@ -13,17 +13,26 @@ use Rattle.molecule.proofs.ReadableLaws.{all_readable, sized}
 use Rattle.molecule.proofs.HeaderLaws.{count, table-readable}
 use Rattle.transaction.specs.Ckb.{Uint32, Uint64, Byte32, Bytes, OutPoint, CellInput, CellDep, Script, CellOutput, RawTransaction, Transaction, TokenCell, Record}
 
-pub script_fields : (s : List ℕ) → readable Script s ≡ (has_items s 3 && (eqb (length (field_of s 3 0)) 32 && (eqb (length (field_of s 3 1)) 1 && (readable Bytes (field_of s 3 2) && true))))
+script_fields : (s : List ℕ) → readable Script s ≡ (has_items s 3 && (eqb (length (field_of s 3 0)) 32 && (eqb (length (field_of s 3 1)) 1 && (readable Bytes (field_of s 3 2) && true))))
 unfolding size fixed count all_readable span
 script_fields s = table-readable (Byte32 & byte & Bytes & end) s ∙ simp (sized Byte32 tt 32 refl, sized byte tt 1 refl)
 
-pub output_fields : (s : List ℕ) → readable CellOutput s ≡ (has_items s 3 && (eqb (length (field_of s 3 0)) 8 && (readable Script (field_of s 3 1) && (readable (option Script) (field_of s 3 2) && true))))
+pub script_is : (s : List ℕ) → readable Script s ≡ (has_items s 3 && eqb (length (field_of s 3 0)) 32 && eqb (length (field_of s 3 1)) 1 && readable Bytes (field_of s 3 2))
+script_is s = script_fields s ∙ simp (and-true, and_assoc)
+
+output_fields : (s : List ℕ) → readable CellOutput s ≡ (has_items s 3 && (eqb (length (field_of s 3 0)) 8 && (readable Script (field_of s 3 1) && (readable (option Script) (field_of s 3 2) && true))))
 unfolding size fixed count all_readable span
 output_fields s = table-readable (Uint64 & Script & option Script & end) s ∙ simp (sized Uint64 tt 8 refl)
+
+pub output_is : (s : List ℕ) → readable CellOutput s ≡ (has_items s 3 && eqb (length (field_of s 3 0)) 8 && readable Script (field_of s 3 1) && readable (option Script) (field_of s 3 2))
+output_is s = output_fields s ∙ simp (and-true, and_assoc)
 
 raw_fields : (s : List ℕ) → readable RawTransaction s ≡ (has_items s 6 && (eqb (length (field_of s 6 0)) 4 && (readable (fixvec CellDep) (field_of s 6 1) && (readable (fixvec Byte32) (field_of s 6 2) && (readable (fixvec CellInput) (field_of s 6 3) && (readable (dynvec CellOutput) (field_of s 6 4) && (readable (dynvec Bytes) (field_of s 6 5) && true)))))))
 unfolding size fixed count all_readable span
 raw_fields s = table-readable (Uint32 & fixvec CellDep & fixvec Byte32 & fixvec CellInput & dynvec CellOutput & dynvec Bytes & end) s ∙ simp (sized Uint32 tt 4 refl)
+
+pub raw_is : (s : List ℕ) → readable RawTransaction s ≡ (has_items s 6 && eqb (length (field_of s 6 0)) 4 && readable (fixvec CellDep) (field_of s 6 1) && readable (fixvec Byte32) (field_of s 6 2) && readable (fixvec CellInput) (field_of s 6 3) && readable (dynvec CellOutput) (field_of s 6 4) && readable (dynvec Bytes) (field_of s 6 5))
+raw_is s = raw_fields s ∙ simp (and-true, and_assoc)
 
 module _ (s : List ℕ) where
   pub raw_head : {r : Bool} → r ≡ has_items s 6 → not r ≡ true → false ≡ readable RawTransaction s
@@ -51,6 +60,9 @@ transaction_fields : (s : List ℕ) → readable Transaction s ≡ (has_items s 
 unfolding size fixed count all_readable span
 transaction_fields s = table-readable (RawTransaction & dynvec Bytes & end) s
 
+pub transaction_is : (s : List ℕ) → readable Transaction s ≡ (has_items s 2 && readable RawTransaction (field_of s 2 0) && readable (dynvec Bytes) (field_of s 2 1))
+transaction_is s = transaction_fields s ∙ simp (and-true, and_assoc)
+
 module _ (s : List ℕ) where
   pub transaction_head : {r : Bool} → r ≡ has_items s 2 → not r ≡ true → false ≡ readable Transaction s
   transaction_head e h = sym (transaction_fields s ∙ simp (sym e ∙ not-true _ h))
@@ -65,19 +77,15 @@ token-cell_fields : (s : List ℕ) → readable TokenCell s ≡ (has_items s 2 &
 unfolding size fixed count all_readable span
 token-cell_fields s = table-readable (OutPoint & Bytes & end) s ∙ simp (sized OutPoint tt 36 refl)
 
-module _ (s : List ℕ) where
-  pub token-cell_head : {r : Bool} → r ≡ has_items s 2 → not r ≡ true → false ≡ readable TokenCell s
-  token-cell_head e h = sym (token-cell_fields s ∙ simp (sym e ∙ not-true _ h))
-
-  pub token-cell_0 : {m : ℕ} → m ≡ length (field_of s 2 0) → (m ≡ 36 → ⊥) → false ≡ readable TokenCell s
-  token-cell_0 e h = sym (token-cell_fields s ∙ simp (← e, ne_eqb _ _ h, and-false))
-
-  pub token-cell_all : {q r : Bool} {m0 : ℕ} {f1 : List ℕ} → q ≡ has_items s 2 → not q ≡ false → m0 ≡ length (field_of s 2 0) → m0 ≡ 36 → f1 ≡ field_of s 2 1 → r ≡ readable Bytes f1 → r ≡ readable TokenCell s
-  token-cell_all e h e0 h0 g1 e1 = sym (token-cell_fields s ∙ simp (← g1, sym e ∙ not-false _ h, eq-eqb _ _ (sym e0 ∙ h0), and-true) (sym e1))
+pub token-cell_is : (s : List ℕ) → readable TokenCell s ≡ (has_items s 2 && eqb (length (field_of s 2 0)) 36 && readable Bytes (field_of s 2 1))
+token-cell_is s = token-cell_fields s ∙ simp (and-true, and_assoc)
 
 record_fields : (s : List ℕ) → readable Record s ≡ (has_items s 2 && (readable CellOutput (field_of s 2 0) && (readable Bytes (field_of s 2 1) && true)))
 unfolding size fixed count all_readable span
 record_fields s = table-readable (CellOutput & Bytes & end) s
+
+pub record_is : (s : List ℕ) → readable Record s ≡ (has_items s 2 && readable CellOutput (field_of s 2 0) && readable Bytes (field_of s 2 1))
+record_is s = record_fields s ∙ simp (and-true, and_assoc)
 
 module _ (s : List ℕ) where
   pub record_head : {r : Bool} → r ≡ has_items s 2 → not r ≡ true → false ≡ readable Record s

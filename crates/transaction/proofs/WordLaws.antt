@@ -1,12 +1,13 @@
--- A script and an output, which code tests by the words of their header: one law for each way out of the functions that do so. Both have three fields.
+-- A script and an output, which code tests by the words of their header: what each is in these words. Both have three fields.
 use mathlib.Core.Path.{◌≡◌, refl, sym, ap, ap₂, ◌∙◌}
 use Prim.Native.Nat.{ℕ, ◌-◌, ◌/◌, ◌≤◌, ◌<◌}
-use mathlib.Core.List.{List, []}
-use mathlib.Core.Bool.{Bool, true, false, not, ◌&&◌, and-true, and-eq-true_iff, false≢true}
+use mathlib.Core.List.{List}
+use mathlib.Core.Bool.{Bool, true, false, ◌&&◌, false≢true}
 use native.Mathlib.Decide.{dec_lt}
 use native.Mathlib.Omega.{arith}
-use borrow.Author.Tests.{eq-eqb, eqb-true, leb-true, not-true, not-false}
-use lib.Dec.{eqb}
+use borrow.Author.Tests.{eq-eqb, leb-true}
+use lib.Dec.{eqb, leb}
+use Rattle.std.proofs.lemmas.Bool.Decides.{nat_tests}
 use lib.ListN.{length, drop, length-drop}
 use lib.Seq.{length-take-le}
 use Rattle.molecule.specs.Molecule.{readable, option}
@@ -16,7 +17,7 @@ use Rattle.molecule.proofs.HeaderLaws.{offsets-has}
 use Rattle.molecule.proofs.LayoutLaws.{part_none}
 use Rattle.molecule.proofs.TestLaws.{header_is, ordered_none, ordered_more, ordered_end, bytes_are, fix_short}
 use Rattle.transaction.specs.Ckb.{Bytes, Script, CellOutput}
-use Rattle.transaction.proofs.TableLaws.{script_fields, output_fields}
+use Rattle.transaction.proofs.TableLaws.{script_is, output_is}
 
 -- ---- a table of three fields
 
@@ -88,127 +89,81 @@ module _ (s : List ℕ) where
   length_1 : Three s → length (field_of s 3 1) ≡ word s 3 - word s 2
   length_1 t = ap length field_1 ∙ length_part s (word s 2) (word s 3) t.third t.last
 
-no_answer : (b : Bool) → (b ≡ true → ⊥) → false ≡ b
-no_answer true h = absurd (h refl)
-no_answer false h = refl
+-- what is true where the other is
+same_so : (a b : Bool) → (a ≡ true → b ≡ true) → (b ≡ true → a ≡ true) → a ≡ b
+same_so true b f g = sym (f refl)
+same_so false true f g = g refl
+same_so false false f g = refl
 
 -- ---- a script
 
-pub record ScriptWords (s : List ℕ) : Type 0 where
-  pub whole : word s 0 ≡ length s
-  pub first : word s 1 ≡ 16
-  pub second : word s 2 ≡ 48
-  pub third : word s 3 ≡ 49
-  pub long : 53 ≤ length s
+bytes-long : (f : List ℕ) → readable Bytes f ≡ true → 4 ≤ length f
+bytes-long f h =
+    elim (dec_lt (length f) 4) [
+      | yes l ↦ absurd (false≢true (bytes_are f (fix_short f 1 l) ∙ h))
+      | no l ↦ omega arith
+    ]
+
+abbrev script_words : List ℕ → Bool
+script_words s = leb 53 (length s) && eqb (word s 0) (length s) && eqb (word s 1) 16 && eqb (word s 2) 48 && eqb (word s 3) 49 && readable Bytes (part s 49 (length s))
 
 module _ (s : List ℕ) where
-  script_words : readable Script s ≡ true → ScriptWords s
-  script_words h =
-      let a = (and-eq-true_iff (has_items s 3) (eqb (length (field_of s 3 0)) 32 && (eqb (length (field_of s 3 1)) 1 && (readable Bytes (field_of s 3 2) && true)))).0 (sym (script_fields s) ∙ h) in
-      let b = (and-eq-true_iff (eqb (length (field_of s 3 0)) 32) (eqb (length (field_of s 3 1)) 1 && (readable Bytes (field_of s 3 2) && true))).0 a.1 in
-      let c = (and-eq-true_iff (eqb (length (field_of s 3 1)) 1) (readable Bytes (field_of s 3 2) && true)).0 b.1 in
-      let d = (and-eq-true_iff (readable Bytes (field_of s 3 2)) true).0 c.1 in
-      let t = three_are s a.0 in
-      let l0 : length (field_of s 3 0) ≡ 32 = eqb-true _ _ b.0 in
-      let l1 : length (field_of s 3 1) ≡ 1 = eqb-true _ _ c.0 in
-      let w2 : word s 2 ≡ 48 = omega (arith, l0, length_0 s t, t.first, t.second) in
-      let w3 : word s 3 ≡ 49 = omega (arith, l1, length_1 s t, w2, t.third) in
-      let x : length (field_of s 3 2) ≡ length s - word s 3 = ap length (field_2 s) ∙ length_part s (word s 3) (length s) t.last (omega arith) in
-      let y : 4 ≤ length (field_of s 3 2) = bytes-long (field_of s 3 2) d.0 in
-      record { whole = t.whole; first = t.first; second = w2; third = w3; long = omega (arith, x, y, w3) }
-    where
-      bytes-long : (f : List ℕ) → readable Bytes f ≡ true → 4 ≤ length f
-      bytes-long f h =
-          elim (dec_lt (length f) 4) [
-            | yes l ↦ absurd (false≢true (bytes_are f (fix_short f 1 l) ∙ h))
-            | no l ↦ omega arith
-          ]
+  script_tested : readable Script s ≡ true → script_words s ≡ true
+  script_tested h =
+      let a : (has_items s 3 && eqb (length (field_of s 3 0)) 32 && eqb (length (field_of s 3 1)) 1 && readable Bytes (field_of s 3 2)) ≡ true = sym (script_is s) ∙ h in
+      let b : (has_items s 3 ≡ true) × (length (field_of s 3 0) ≡ 32) × (length (field_of s 3 1) ≡ 1) × (readable Bytes (field_of s 3 2) ≡ true) = grind (arith, nat_tests) in
+      let t = three_are s b.0 in
+      let w2 : word s 2 ≡ 48 = omega (arith, length_0 s t, t.first, t.second) in
+      let w3 : word s 3 ≡ 49 = omega (arith, length_1 s t, w2, t.third) in
+      let f2 : field_of s 3 2 ≡ part s 49 (length s) = field_2 s ∙ ap (λ (a : ℕ). part s a (length s)) w3 in
+      let y : 4 ≤ length s - word s 3 = rw (← length_part s (word s 3) (length s) t.last (omega arith), ← field_2 s) (bytes-long (field_of s 3 2) b.3) in
+      let r : readable Bytes (part s 49 (length s)) ≡ true = rw f2 at b.3 in
+      grind (arith, nat_tests)
 
-  pub script_short : length s < 53 → false ≡ readable Script s
-  script_short h = no_answer _ (λ t. omega (arith, (script_words t).long))
-
-  pub script_size : {w : ℕ} → w ≡ word s 0 → (w ≡ length s → ⊥) → false ≡ readable Script s
-  script_size e h = no_answer _ (λ t. h (e ∙ (script_words t).whole))
-
-  pub script_first : {w : ℕ} → w ≡ word s 1 → (w ≡ 16 → ⊥) → false ≡ readable Script s
-  script_first e h = no_answer _ (λ t. h (e ∙ (script_words t).first))
-
-  pub script_second : {w : ℕ} → w ≡ word s 2 → (w ≡ 48 → ⊥) → false ≡ readable Script s
-  script_second e h = no_answer _ (λ t. h (e ∙ (script_words t).second))
-
-  pub script_third : {w : ℕ} → w ≡ word s 3 → (w ≡ 49 → ⊥) → false ≡ readable Script s
-  script_third e h = no_answer _ (λ t. h (e ∙ (script_words t).third))
-
-  pub script_all : {w x y z : ℕ} {f : List ℕ} {r : Bool} → 53 ≤ length s → w ≡ word s 0 → w ≡ length s → x ≡ word s 1 → x ≡ 16 → y ≡ word s 2 → y ≡ 48 → z ≡ word s 3 → z ≡ 49
-      → f ≡ part s 49 (length s) → r ≡ readable Bytes f → r ≡ readable Script s
-  script_all {f = f} l ew hw ex hx ey hy ez hz g e =
-      let w1 : word s 1 ≡ 16 = sym ex ∙ hx in
-      let w2 : word s 2 ≡ 48 = sym ey ∙ hy in
-      let w3 : word s 3 ≡ 49 = sym ez ∙ hz in
-      let t : Three s = record { room = omega arith; whole = sym ew ∙ hw; first = w1; second = omega arith; third = omega arith; last = omega arith } in
+  script_built : script_words s ≡ true → readable Script s ≡ true
+  script_built h =
+      let b : (53 ≤ length s) × (word s 0 ≡ length s) × (word s 1 ≡ 16) × (word s 2 ≡ 48) × (word s 3 ≡ 49) × (readable Bytes (part s 49 (length s)) ≡ true) = grind (arith, nat_tests) in
+      let t : Three s = record { room = omega arith; whole = b.1; first = b.2; second = omega arith; third = omega arith; last = omega arith } in
       let l0 : length (field_of s 3 0) ≡ 32 = omega (arith, length_0 s t) in
       let l1 : length (field_of s 3 1) ≡ 1 = omega (arith, length_1 s t) in
-      let f2 : field_of s 3 2 ≡ f = field_2 s ∙ ap (λ (a : ℕ). part s a (length s)) w3 ∙ sym g in
-      sym (script_fields s ∙ simp (three_have s t, eq-eqb _ _ l0, eq-eqb _ _ l1, f2, and-true) (sym e))
+      let f2 : field_of s 3 2 ≡ part s 49 (length s) = field_2 s ∙ ap (λ (a : ℕ). part s a (length s)) b.4 in
+      script_is s ∙ simp (three_have s t, eq-eqb _ _ l0, eq-eqb _ _ l1, f2, b.5)
+
+  pub script-by_words : readable Script s ≡ script_words s
+  script-by_words = same_so _ _ script_tested script_built
 
 -- ---- an output
 
-pub record OutputWords (s : List ℕ) : Type 0 where
-  pub whole : word s 0 ≡ length s
-  pub first : word s 1 ≡ 16
-  pub second : word s 2 ≡ 24
-  pub third : 24 ≤ word s 3
-  pub last : word s 3 ≤ length s
-  pub lock : readable Script (part s 24 (word s 3)) ≡ true
+abbrev output_words : List ℕ → Bool
+output_words s =
+    leb 24 (length s) && eqb (word s 0) (length s) && eqb (word s 1) 16 && eqb (word s 2) 24 && leb (word s 3) (length s)
+    && readable Script (part s 24 (word s 3))
+    && readable (option Script) (part s (word s 3) (length s))
 
 module _ (s : List ℕ) where
-  output-words : readable CellOutput s ≡ true → OutputWords s
-  output-words h =
-      let a = (and-eq-true_iff (has_items s 3) (eqb (length (field_of s 3 0)) 8 && (readable Script (field_of s 3 1) && (readable (option Script) (field_of s 3 2) && true)))).0 (sym (output_fields s) ∙ h) in
-      let b = (and-eq-true_iff (eqb (length (field_of s 3 0)) 8) (readable Script (field_of s 3 1) && (readable (option Script) (field_of s 3 2) && true))).0 a.1 in
-      let c = (and-eq-true_iff (readable Script (field_of s 3 1)) (readable (option Script) (field_of s 3 2) && true)).0 b.1 in
-      let t = three_are s a.0 in
-      let l0 : length (field_of s 3 0) ≡ 8 = eqb-true _ _ b.0 in
-      let w2 : word s 2 ≡ 24 = omega (arith, l0, length_0 s t, t.first, t.second) in
-      let f1 : field_of s 3 1 ≡ part s 24 (word s 3) = field_1 s ∙ ap (λ (a : ℕ). part s a (word s 3)) w2 in
-      record { whole = t.whole; first = t.first; second = w2; third = omega (arith, w2, t.third); last = t.last; lock = ap (readable Script) (sym f1) ∙ c.0 }
+  output_tested : readable CellOutput s ≡ true → output_words s ≡ true
+  output_tested h =
+      let a : (has_items s 3 && eqb (length (field_of s 3 0)) 8 && readable Script (field_of s 3 1) && readable (option Script) (field_of s 3 2)) ≡ true = sym (output_is s) ∙ h in
+      let b : (has_items s 3 ≡ true) × (length (field_of s 3 0) ≡ 8) × (readable Script (field_of s 3 1) ≡ true) × (readable (option Script) (field_of s 3 2) ≡ true) = grind (arith, nat_tests) in
+      let t = three_are s b.0 in
+      let w2 : word s 2 ≡ 24 = omega (arith, length_0 s t, t.first, t.second) in
+      let r : readable Script (part s 24 (word s 3)) ≡ true = rw (field_1 s, w2) at b.2 in
+      let q : readable (option Script) (part s (word s 3) (length s)) ≡ true = rw (field_2 s) at b.3 in
+      let l : 24 ≤ length s = omega (arith, w2, t.third, t.last) in
+      grind (arith, nat_tests, t.whole, t.first, t.last)
 
-  pub output_short : length s < 24 → false ≡ readable CellOutput s
-  output_short h = no_answer _ (λ t. let w = output-words t in omega (arith, w.third, w.last))
+  output_built : output_words s ≡ true → readable CellOutput s ≡ true
+  output_built h =
+      let b : (24 ≤ length s) × (word s 0 ≡ length s) × (word s 1 ≡ 16) × (word s 2 ≡ 24) × (word s 3 ≤ length s) × (readable Script (part s 24 (word s 3)) ≡ true) × (readable (option Script) (part s (word s 3) (length s)) ≡ true) = grind (arith, nat_tests) in
+      let n : 53 ≤ length (part s 24 (word s 3)) = let k = sym (script-by_words (part s 24 (word s 3))) ∙ b.5 in grind (arith, nat_tests) in
+      let low : 24 ≤ word s 3 = elim (dec_lt (word s 3) 24) [
+        | yes m ↦ let z : length (part s 24 (word s 3)) ≡ 0 = ap length (part_none s 24 (word s 3) (omega arith)) in omega arith
+        | no m ↦ omega arith
+      ] in
+      let t : Three s = record { room = omega arith; whole = b.1; first = b.2; second = omega arith; third = omega arith; last = b.4 } in
+      let l0 : length (field_of s 3 0) ≡ 8 = omega (arith, length_0 s t) in
+      let f1 : field_of s 3 1 ≡ part s 24 (word s 3) = field_1 s ∙ ap (λ (a : ℕ). part s a (word s 3)) b.3 in
+      output_is s ∙ simp (three_have s t, eq-eqb _ _ l0, f1, field_2 s, b.5, b.6)
 
-  pub output-size : {w : ℕ} → w ≡ word s 0 → (w ≡ length s → ⊥) → false ≡ readable CellOutput s
-  output-size e h = no_answer _ (λ t. h (e ∙ (output-words t).whole))
-
-  pub output-first : {w : ℕ} → w ≡ word s 1 → (w ≡ 16 → ⊥) → false ≡ readable CellOutput s
-  output-first e h = no_answer _ (λ t. h (e ∙ (output-words t).first))
-
-  pub output_second : {w : ℕ} → w ≡ word s 2 → (w ≡ 24 → ⊥) → false ≡ readable CellOutput s
-  output_second e h = no_answer _ (λ t. h (e ∙ (output-words t).second))
-
-  -- e is the third offset
-  module _ {e : ℕ} (d : e ≡ word s 3) where
-    pub output_past : length s < e → false ≡ readable CellOutput s
-    output_past h = no_answer _ (λ t. omega (arith, d, (output-words t).last))
-
-    module _ {f : List ℕ} {r : Bool} (g : f ≡ part s 24 e) (q : r ≡ readable Script f) where
-      pub output-lock : not r ≡ true → false ≡ readable CellOutput s
-      output-lock h = no_answer _ (λ t. false≢true (sym (not-true _ h) ∙ q ∙ ap (readable Script) (g ∙ ap (part s 24) d) ∙ (output-words t).lock))
-
-      pub output_all : {w x y : ℕ} {k : List ℕ} {z : Bool} → w ≡ word s 0 → w ≡ length s → x ≡ word s 1 → x ≡ 16 → y ≡ word s 2 → y ≡ 24 → e ≤ length s → not r ≡ false
-          → k ≡ part s e (length s) → z ≡ readable (option Script) k → z ≡ readable CellOutput s
-      output_all {k = k} ew hw ex hx ey hy l h j o =
-          let w1 : word s 1 ≡ 16 = sym ex ∙ hx in
-          let w2 : word s 2 ≡ 24 = sym ey ∙ hy in
-          let v : readable Script f ≡ true = sym q ∙ not-false _ h in
-          let low : 24 ≤ e = elim (dec_lt e 24) [
-            | yes m ↦ absurd (by (g ∙ part_none s 24 e (omega arith)) (script_words f v).long)
-            | no m ↦ omega arith
-          ] in
-          let t : Three s = record { room = omega arith; whole = sym ew ∙ hw; first = w1; second = omega arith; third = omega arith; last = omega arith } in
-          let l0 : length (field_of s 3 0) ≡ 8 = omega (arith, length_0 s t) in
-          let f1 : field_of s 3 1 ≡ f = field_1 s ∙ ap₂ (part s) w2 (sym d) ∙ sym g in
-          let f2 : field_of s 3 2 ≡ k = field_2 s ∙ ap (λ (a : ℕ). part s a (length s)) (sym d) ∙ sym j in
-          sym (output_fields s ∙ simp (three_have s t, eq-eqb _ _ l0, f1, f2, v, and-true) (sym o))
-        where
-          by : {f : List ℕ} → f ≡ [] → 53 ≤ length f → ⊥
-          by {f} e l = let z : length f ≡ 0 = ap length e in omega arith
+  pub output-by_words : readable CellOutput s ≡ output_words s
+  output-by_words = same_so _ _ output_tested output_built

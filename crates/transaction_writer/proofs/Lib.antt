@@ -1,4 +1,3 @@
-pub mod AnswerLaws
 pub mod PutLaws
 pub mod RewriteLaws
 pub mod Ways

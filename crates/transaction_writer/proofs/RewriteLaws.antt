@@ -1,11 +1,12 @@
 -- Writing the fields of a readable transaction yields it again (docs/RULES.md, demand 2: "writing its fields, within the rules' limit, yields it again").
 use mathlib.Core.Path.{◌≡◌, sym, ap, ◌∙◌, subst}
 use Prim.Native.Nat.{ℕ}
-use mathlib.Core.Bool.{Bool, true, false, not, ◌&&◌, and-eq-true_iff}
+use mathlib.Core.Bool.{Bool, true, ◌&&◌, and-eq-true_iff}
 use mathlib.Core.List.{List}
+use Rattle.std.specs.Prelude.{Result}
 use native.Mathlib.Omega.{arith}
-use borrow.Author.Tests.{eqb-true, not-false}
-use lib.ListN.{length, get_or, get_or-eq_default}
+use borrow.Author.Tests.{eqb-true}
+use lib.ListN.{length}
 use lib.Seq.{take_all}
 use Rattle.arithmetic.specs.LittleEndian.{le, to_le, AllBytes, u32_at}
 use Rattle.arithmetic.proofs.LittleEndianLaws.{to_le-le, num_some}
@@ -20,11 +21,9 @@ use Rattle.molecule.proofs.ReadableLaws.{all_readable, readable_fixed}
 use Rattle.molecule.proofs.HeaderLaws.{count, split_n, table-readable}
 use Rattle.transaction.specs.Ckb.{Uint32, Byte32, Bytes, CellInput, CellDep, CellOutput, RawTransaction, Transaction}
 use Rattle.transaction.specs.Tx.{raw_field, witnesses_of, tx_at}
-use Rattle.transaction_writer.specs.declared.Written.{Written}
+use Rattle.transaction_writer.specs.declared.TxFields.{TxFields}
 use Rattle.transaction_writer.specs.Written.{raw_bytes, tx_bytes, in_form, writes, leaves}
-
-pub no_bytes : (s : List ℕ) → length s ≡ 0 → AllBytes s
-no_bytes s h i = let e : get_or s i 0 ≡ 0 = get_or-eq_default s 0 (omega arith) in omega arith
+use Rattle.transaction_writer.specs.TxFields.{AreTxFields, bytes_of, are_in_form}
 
 -- ---- a readable table is its fields joined
 
@@ -100,20 +99,19 @@ module _ (s : List ℕ) (h : readable Transaction s ≡ true) where
 
 -- ---- the way out of `rewrite` that writes
 
-module _ (s out : List ℕ) {r : Bool} {v : ℕ} {a b c d e w : List ℕ} (q : r ≡ readable Transaction s) (n : not r ≡ false) (bytes : AllBytes s)
-    (ev : v ≡ (tx_at s).version) (ea : a ≡ raw_field s 1) (eb : b ≡ raw_field s 2) (ec : c ≡ raw_field s 3) (ed : d ≡ raw_field s 4) (ee : e ≡ raw_field s 5) (ew : w ≡ witnesses_of s) where
+module _ (s out : List ℕ) {r : Bool} {f : TxFields} (q : r ≡ readable Transaction s) (n : r ≡ true) (bytes : AllBytes s) (e : AreTxFields f s) where
   good : readable Transaction s ≡ true
-  good = sym q ∙ not-false _ n
+  good = sym q ∙ n
 
-  same_bytes : tx_bytes v a b c d e w ≡ s
-  same_bytes = rw (ev, ea, eb, ec, ed, ee, ew) (written_again s good bytes)
+  same_bytes : bytes_of f ≡ s
+  same_bytes = rw (e.version, e.deps, e.headers, e.inputs, e.outputs, e.datas, e.witnesses) (written_again s good bytes)
 
-  same_form : in_form a b c d e w ≡ true
-  same_form = rw (ea, eb, ec, ed, ee, ew) (lists_in_form s good)
+  same_form : are_in_form f ≡ true
+  same_form = rw (e.deps, e.headers, e.inputs, e.outputs, e.datas, e.witnesses) (lists_in_form s good)
 
-  pub rewrote : {x : Written} → x ≡ writes (in_form a b c d e w) Refusal.LentBytesUnreadable (tx_bytes v a b c d e w) out → x ≡ writes (readable Transaction s) Refusal.OurTransactionUnreadable s out
+  pub rewrote : {x : Result ℕ Refusal} → x ≡ writes (are_in_form f) Refusal.LentBytesUnreadable (bytes_of f) out → x ≡ writes (readable Transaction s) Refusal.OurTransactionUnreadable s out
   unfolding writes pick
   rewrote h = h ∙ rw (same_form, same_bytes, good)
 
-  pub rewrote_leaves : {after : List ℕ} → after ≡ leaves (in_form a b c d e w) (tx_bytes v a b c d e w) out → after ≡ leaves (readable Transaction s) s out
+  pub rewrote_leaves : {after : List ℕ} → after ≡ leaves (are_in_form f) (bytes_of f) out → after ≡ leaves (readable Transaction s) s out
   rewrote_leaves h = h ∙ rw (same_form, same_bytes, good)

@@ -1,6 +1,6 @@
 -- Writing a transaction from its fields (RFC 0019): the version, and each list in its list form; and what a call that writes answers and leaves
 -- in the lent buffer (docs/RULES.md: 3 for a list that is not in its form, 13 over the lent buffer or 133,116 bytes).
-use Rattle.std.specs.Prelude.{ℕ, ◌+◌, Bool, ◌&&◌, cond, List, [], ◌∷◌, ◌++◌, length, drop, leb}
+use Rattle.std.specs.Prelude.{ℕ, ◌+◌, Bool, ◌&&◌, cond, List, [], ◌∷◌, ◌++◌, length, drop, leb, Result, Ok, Err}
 use Rattle.arithmetic.specs.LittleEndian.{to_le}
 use Rattle.error.specs.declared.Refusal.{Refusal}
 use Rattle.molecule.specs.Items.{join, unwords}
@@ -8,7 +8,6 @@ use Rattle.molecule.specs.Molecule.{fixvec, dynvec, readable}
 use Rattle.molecule.specs.Partial.{pick}
 use Rattle.molecule.specs.Write.{splice}
 use Rattle.transaction.specs.Ckb.{Byte32, Bytes, CellInput, CellDep, CellOutput}
-use Rattle.transaction_writer.specs.declared.Written.{Written}
 
 unfoldable pub raw_bytes : ℕ → List ℕ → List ℕ → List ℕ → List ℕ → List ℕ → List ℕ
 raw_bytes version deps headers inputs outputs datas = join (to_le 4 version ∷ deps ∷ headers ∷ inputs ∷ outputs ∷ datas ∷ [])
@@ -42,11 +41,11 @@ unfoldable pub head_end : List ℕ → ℕ → ℕ → ℕ → ℕ → ℕ → �
 head_end out a b c d e f = cond (fits (44 + a + b + c + d + e + f) (length out)) 44 0
 
 -- the answer of a call that writes: refused where its arguments are not right, then where the bytes do not fit
-unfoldable pub writes : Bool → Refusal → List ℕ → List ℕ → Written
+unfoldable pub writes : Bool → Refusal → List ℕ → List ℕ → Result ℕ Refusal
 writes right refusal bytes out =
     pick right
-    (pick (fits (length bytes) (length out)) (Written.Wrote (length bytes)) (Written.Refused Refusal.BufferTooShort))
-    (Written.Refused refusal)
+    (pick (fits (length bytes) (length out)) (Ok (length bytes)) (Err Refusal.BufferTooShort))
+    (Err refusal)
 
 -- the buffer after it: the bytes, and what stood behind them; after a refusal all is as it was
 unfoldable pub leaves : Bool → List ℕ → List ℕ → List ℕ

@@ -2,259 +2,191 @@
 #![tactic(auto)]
 
 ghost use Rattle.std.specs.Prelude.{◌≡◌, ◌+◌, ◌≤◌, min, length};
-ghost use mathlib.Core.List.{[], ◌∷◌, flatten};
 ghost use Rattle.arithmetic.specs.LittleEndian.{AllBytes};
-ghost use Rattle.molecule.specs.Items.{unwords};
 ghost use Rattle.molecule.specs.Molecule.{readable};
 ghost use Rattle.molecule.specs.Write.{Put};
 ghost use Rattle.transaction.specs.Ckb.{Transaction};
-ghost use Rattle.transaction_writer.specs.Written.{tx_bytes, tx_head, put_head, head_end, in_form, writes, leaves, tx_size};
+ghost use Rattle.transaction_writer.specs.Written.{tx_head, fits, put_head, head_end, writes, leaves};
+ghost use Rattle.transaction_writer.specs.TxFields.{AreTxFields, total, bytes_of, are_in_form, sizes_of};
 
 use error::Refusal;
-use list_writer::MAX_BYTES;
-use molecule::write;
+use list_writer::{MAX_BYTES, capped, put_all, put_words};
 use transaction::fields;
 
 // The answer of a call that writes: how many bytes it wrote, or why it wrote none.
-#[derive(Clone, Copy)]
-pub enum Written {
-    Wrote(usize),
-    Refused(Refusal),
+pub type Written = Result<usize, Refusal>;
+
+// How long the lists of a transaction are.
+#[derive(Clone, Copy, Debug, PartialEq, Eq, Hash)]
+pub struct Sizes {
+    pub deps: usize,
+    pub headers: usize,
+    pub inputs: usize,
+    pub outputs: usize,
+    pub datas: usize,
+    pub witnesses: usize,
 }
 
-// Puts three numbers of four bytes.
-fn put_three_words(out: &mut [u8], at: usize, x: u32, y: u32, z: u32) -> usize
-    requires { at + 12 ≤ length out.old }
-    ensures put { Put out.old at (unwords (x ∷ y ∷ z ∷ [])) out.new result }
-    ensures value { result ≡ at + 12 }
-{
-    let at = write::put_u32(out, at, x);
-    let at = write::put_u32(out, at, y);
-    write::put_u32(out, at, z)
-}
+impl Sizes {
+    // How long the transaction is; MAX_BYTES + 1 for all that is longer.
+    pub fn total(self) -> usize
+        ensures { result ≡ min (total self) 133117 }
+    {
+        let n = capped(44, self.deps);
+        let n = capped(n, self.headers);
+        let n = capped(n, self.inputs);
+        let n = capped(n, self.outputs);
+        let n = capped(n, self.datas);
+        capped(n, self.witnesses)
+    }
 
-// Puts four numbers of four bytes.
-fn put_four_words(out: &mut [u8], at: usize, w: u32, x: u32, y: u32, z: u32) -> usize
-    requires { at + 16 ≤ length out.old }
-    ensures put { Put out.old at (unwords (w ∷ x ∷ y ∷ z ∷ [])) out.new result }
-    ensures value { result ≡ at + 16 }
-{
-    let at = put_three_words(out, at, w, x, y);
-    write::put_u32(out, at, z)
-}
-
-// Puts three lists.
-fn put_three(out: &mut [u8], at: usize, a: &[u8], b: &[u8], c: &[u8]) -> usize
-    requires { at + length a.now + length b.now + length c.now ≤ length out.old }
-    ensures put { Put out.old at (flatten (a.now ∷ b.now ∷ c.now ∷ [])) out.new result }
-    ensures value { result ≡ at + length a.now + length b.now + length c.now }
-{
-    let at = write::put(out, at, a);
-    let at = write::put(out, at, b);
-    write::put(out, at, c)
-}
-
-// Puts five lists.
-fn put_five(out: &mut [u8], at: usize, a: &[u8], b: &[u8], c: &[u8], d: &[u8], e: &[u8]) -> usize
-    requires { at + length a.now + length b.now + length c.now + length d.now + length e.now ≤ length out.old }
-    ensures put { Put out.old at (flatten (a.now ∷ b.now ∷ c.now ∷ d.now ∷ e.now ∷ [])) out.new result }
-    ensures value { result ≡ at + length a.now + length b.now + length c.now + length d.now + length e.now }
-{
-    let at = put_three(out, at, a, b, c);
-    let at = write::put(out, at, d);
-    write::put(out, at, e)
-}
-
-// How long a transaction is, from the lengths of its lists; MAX_BYTES + 1 for all that is longer.
-pub fn tx_size(
-    deps: usize,
-    headers: usize,
-    inputs: usize,
-    outputs: usize,
-    datas: usize,
-    witnesses: usize,
-) -> usize
-    ensures { result ≡ min (44 + deps + headers + inputs + outputs + datas + witnesses) 133117 }
-{
-    let n = list_writer::capped(44, deps);
-    let n = list_writer::capped(n, headers);
-    let n = list_writer::capped(n, inputs);
-    let n = list_writer::capped(n, outputs);
-    let n = list_writer::capped(n, datas);
-    list_writer::capped(n, witnesses)
+    // Whether it fits 133,116 bytes, and a buffer of `room` bytes.
+    #[tactic(auto, using(std::proofs::lemmas::Bool::Decides::nat_tests), unfolding(crate::specs::Written::fits))]
+    pub fn fit(self, room: usize) -> bool
+        ensures { result ≡ fits (total self) room }
+    {
+        let n = self.total();
+        n <= MAX_BYTES && n <= room
+    }
 }
 
 // Puts both tables' headers and the version.
-fn put_headers(
-    out: &mut [u8],
-    version: u32,
-    deps: usize,
-    headers: usize,
-    inputs: usize,
-    outputs: usize,
-    datas: usize,
-    witnesses: usize,
-) -> usize
-    requires { (44 ≤ length out.old) × (44 + deps + headers + inputs + outputs + datas + witnesses ≤ 133116) }
-    ensures { Put out.old 0 (tx_head version deps headers inputs outputs datas witnesses) out.new result }
+fn put_headers(out: &mut [u8], version: u32, z: Sizes) -> usize
+    requires { (44 ≤ length out.old) × (total z ≤ 133116) }
+    ensures { Put out.old 0 (tx_head version z.deps z.headers z.inputs z.outputs z.datas z.witnesses) out.new result }
 {
-    let o2 = 32 + deps;
-    let o3 = o2 + headers;
-    let o4 = o3 + inputs;
-    let o5 = o4 + outputs;
-    let raw = o5 + datas;
-    let at = put_three_words(out, 0, (12 + raw + witnesses) as u32, 12, (12 + raw) as u32);
-    let at = put_four_words(out, at, raw as u32, 28, 32, o2 as u32);
-    put_four_words(out, at, o3 as u32, o4 as u32, o5 as u32, version)
-}
-
-// Puts what stands before the lists of a transaction, from their lengths: nothing where the transaction is over out or over 133,116 bytes.
-pub fn put_head(
-    out: &mut [u8],
-    version: u32,
-    deps: usize,
-    headers: usize,
-    inputs: usize,
-    outputs: usize,
-    datas: usize,
-    witnesses: usize,
-) -> usize
-    ensures out_after { out.new ≡ put_head out.old version deps headers inputs outputs datas witnesses }
-    ensures value { result ≡ head_end out.old deps headers inputs outputs datas witnesses }
-{
-    let n = tx_size(deps, headers, inputs, outputs, datas, witnesses);
-    if MAX_BYTES < n {
-        return 0;
-    }
-    if out.len() < n {
-        return 0;
-    }
-    put_headers(
-        out, version, deps, headers, inputs, outputs, datas, witnesses,
+    let o2 = 32 + z.deps as u32;
+    let o3 = o2 + z.headers as u32;
+    let o4 = o3 + z.inputs as u32;
+    let o5 = o4 + z.outputs as u32;
+    let raw = o5 + z.datas as u32;
+    let whole = 12 + raw + z.witnesses as u32;
+    put_words(
+        out,
+        0,
+        &[whole, 12, 12 + raw, raw, 28, 32, o2, o3, o4, o5, version],
     )
 }
 
-// Puts a transaction at the start of out.
-fn put_transaction(
-    out: &mut [u8],
-    version: u32,
-    deps: &[u8],
-    headers: &[u8],
-    inputs: &[u8],
-    outputs: &[u8],
-    datas: &[u8],
-    witnesses: &[u8],
-) -> usize
-    requires { (tx_size deps.now headers.now inputs.now outputs.now datas.now witnesses.now ≤ length out.old) × (tx_size deps.now headers.now inputs.now outputs.now datas.now witnesses.now ≤ 133116) }
-    ensures { Put out.old 0 (tx_bytes version deps.now headers.now inputs.now outputs.now datas.now witnesses.now) out.new result }
+// Puts what stands before the lists of a transaction, from their lengths: nothing where the transaction is over out or over 133,116 bytes.
+#[tactic(auto, using(std::proofs::lemmas::Bool::Decides::nat_tests, crate::proofs::PutLaws::head_length), unfolding(crate::specs::Written::put_head, crate::specs::Written::head_end, crate::specs::Written::fits))]
+pub fn put_head(out: &mut [u8], version: u32, z: Sizes) -> usize
+    ensures out_after { out.new ≡ put_head out.old version z.deps z.headers z.inputs z.outputs z.datas z.witnesses }
+    ensures value { result ≡ head_end out.old z.deps z.headers z.inputs z.outputs z.datas z.witnesses }
 {
-    let at = put_head(
-        out,
-        version,
-        deps.len(),
-        headers.len(),
-        inputs.len(),
-        outputs.len(),
-        datas.len(),
-        witnesses.len(),
-    );
-    let at = put_five(out, at, deps, headers, inputs, outputs, datas);
-    write::put(out, at, witnesses)
+    if !z.fit(out.len()) {
+        return 0;
+    }
+    put_headers(out, version, z)
 }
 
-fn in_form(
-    deps: &[u8],
-    headers: &[u8],
-    inputs: &[u8],
-    outputs: &[u8],
-    datas: &[u8],
-    witnesses: &[u8],
-) -> bool
-    ensures { result ≡ in_form deps.now headers.now inputs.now outputs.now datas.now witnesses.now }
-{
-    if !transaction::is_cell_deps(deps) {
-        return false;
+// The fields of a transaction: the version, and its lists.
+#[derive(Clone, Copy)]
+pub struct TxFields<'a> {
+    pub version: u32,
+    pub deps: &'a [u8],
+    pub headers: &'a [u8],
+    pub inputs: &'a [u8],
+    pub outputs: &'a [u8],
+    pub datas: &'a [u8],
+    pub witnesses: &'a [u8],
+}
+
+impl<'a> TxFields<'a> {
+    // Those of a transaction.
+    pub fn of(tx: &'a [u8]) -> TxFields<'a>
+        ensures { AreTxFields result tx.now }
+    {
+        TxFields {
+            version: fields::version(tx),
+            deps: fields::cell_deps(tx),
+            headers: fields::header_deps(tx),
+            inputs: fields::inputs(tx),
+            outputs: fields::outputs(tx),
+            datas: fields::outputs_data(tx),
+            witnesses: fields::witnesses(tx),
+        }
     }
-    if !transaction::is_header_deps(headers) {
-        return false;
+
+    // Whether each list is in its list form.
+    #[tactic(auto, unfolding(crate::specs::Written::in_form))]
+    fn are_in_form(self) -> bool
+        ensures { result ≡ are_in_form self.entry }
+    {
+        transaction::is_cell_deps(self.deps)
+            && transaction::is_header_deps(self.headers)
+            && transaction::is_inputs(self.inputs)
+            && transaction::is_outputs(self.outputs)
+            && molecule::is_bytes_vec(self.datas)
+            && molecule::is_bytes_vec(self.witnesses)
     }
-    if !transaction::is_inputs(inputs) {
-        return false;
+
+    fn sizes(self) -> Sizes
+        ensures { result ≡ sizes_of self.entry }
+    {
+        Sizes {
+            deps: self.deps.len(),
+            headers: self.headers.len(),
+            inputs: self.inputs.len(),
+            outputs: self.outputs.len(),
+            datas: self.datas.len(),
+            witnesses: self.witnesses.len(),
+        }
     }
-    if !transaction::is_outputs(outputs) {
-        return false;
+
+    // Puts the transaction at the start of out.
+    fn put(self, out: &mut [u8]) -> usize
+        requires { (total (sizes_of self) ≤ length out.old) × (total (sizes_of self) ≤ 133116) }
+        ensures { Put out.old 0 (bytes_of self.entry) out.new result }
+    {
+        let at = put_head(out, self.version, self.sizes());
+        put_all(
+            out,
+            at,
+            &[
+                self.deps,
+                self.headers,
+                self.inputs,
+                self.outputs,
+                self.datas,
+                self.witnesses,
+            ],
+        )
     }
-    if !molecule::is_bytes_vec(datas) {
-        return false;
-    }
-    molecule::is_bytes_vec(witnesses)
 }
 
 // Writes a transaction from its fields, each list in its list form, to the start of out. Refused, and out as it was: a list that is not in its form
 // (3), a transaction over out or over 133,116 bytes (13).
-pub fn write_transaction(
-    version: u32,
-    deps: &[u8],
-    headers: &[u8],
-    inputs: &[u8],
-    outputs: &[u8],
-    datas: &[u8],
-    witnesses: &[u8],
-    out: &mut [u8],
-) -> Written
-    ensures value { result ≡ writes (in_form deps.now headers.now inputs.now outputs.now datas.now witnesses.now) Refusal.LentBytesUnreadable (tx_bytes version deps.now headers.now inputs.now outputs.now datas.now witnesses.now) out.old }
-    ensures out_after { out.new ≡ leaves (in_form deps.now headers.now inputs.now outputs.now datas.now witnesses.now) (tx_bytes version deps.now headers.now inputs.now outputs.now datas.now witnesses.now) out.old }
+#[tactic(auto, using(std::proofs::lemmas::Bool::Decides::nat_tests, crate::proofs::PutLaws::tx_length, molecule::proofs::WriteLaws::splice_zero), unfolding(crate::specs::Written::writes, crate::specs::Written::leaves, crate::specs::Written::fits, molecule::specs::Partial::pick))]
+pub fn write_transaction(f: TxFields, out: &mut [u8]) -> Written
+    ensures value { result ≡ writes (are_in_form f.entry) Refusal.LentBytesUnreadable (bytes_of f.entry) out.old }
+    ensures out_after { out.new ≡ leaves (are_in_form f.entry) (bytes_of f.entry) out.old }
 {
-    if !in_form(deps, headers, inputs, outputs, datas, witnesses) {
-        return Written::Refused(Refusal::LentBytesUnreadable);
+    if !f.are_in_form() {
+        return Err(Refusal::LentBytesUnreadable);
     }
-    let n = tx_size(
-        deps.len(),
-        headers.len(),
-        inputs.len(),
-        outputs.len(),
-        datas.len(),
-        witnesses.len(),
-    );
-    if n > MAX_BYTES {
-        return Written::Refused(Refusal::BufferTooShort);
+    if !f.sizes().fit(out.len()) {
+        return Err(Refusal::BufferTooShort);
     }
-    if n > out.len() {
-        return Written::Refused(Refusal::BufferTooShort);
-    }
-    Written::Wrote(put_transaction(
-        out, version, deps, headers, inputs, outputs, datas, witnesses,
-    ))
+    Ok(f.put(out))
 }
 
 // Shows that each element of a slice of bytes is below 256, which a read of any one tells.
 pub fn are_bytes(s: &[u8])
     ensures { AllBytes s.now }
 {
-    if s.len() == 0 {
-        return;
-    }
-    let _first = s[0];
+    let _first = s.first();
 }
 
 // Reads the fields of a transaction and writes them to the start of out: the same bytes again. Refused, and out as it was: bytes that are no
 // transaction (1), a transaction over out or over 133,116 bytes (13).
+#[tactic(auto, unfolding(crate::specs::Written::writes, crate::specs::Written::leaves, molecule::specs::Partial::pick))]
 pub fn rewrite(s: &[u8], out: &mut [u8]) -> Written
     ensures value { result ≡ writes (readable Transaction s.now) Refusal.OurTransactionUnreadable s.now out.old }
     ensures out_after { out.new ≡ leaves (readable Transaction s.now) s.now out.old }
 {
     if !transaction::is_transaction(s) {
-        return Written::Refused(Refusal::OurTransactionUnreadable);
+        return Err(Refusal::OurTransactionUnreadable);
     }
-    are_bytes(s);
-    let version = fields::version(s);
-    let deps = fields::cell_deps(s);
-    let headers = fields::header_deps(s);
-    let inputs = fields::inputs(s);
-    let outputs = fields::outputs(s);
-    let datas = fields::outputs_data(s);
-    let witnesses = fields::witnesses(s);
-    write_transaction(
-        version, deps, headers, inputs, outputs, datas, witnesses, out,
-    )
+    write_transaction(TxFields::of(s), out)
 }

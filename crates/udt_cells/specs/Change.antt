@@ -1,6 +1,6 @@
 -- The change of the pick (docs/RULES.md, "Our own side"): "A remainder makes one change output with our lock, the type and 16 data bytes; its capacity is
 -- 100,000,000 shannons times (8 + 33 + lock args + 33 + type args + 16)." And what the call answers and leaves in the lent buffer.
-use Rattle.std.specs.Prelude.{ℕ, min, cond, List, [], ◌++◌, length, drop, leb, eqb}
+use Rattle.std.specs.Prelude.{ℕ, min, cond, List, [], ◌++◌, length, drop, leb, eqb, Result}
 use Rattle.units.specs.Units.{shannon_count, token_count}
 use Rattle.units.specs.Fee.{change_shannons}
 use Rattle.molecule.specs.Molecule.{readable, option}
@@ -8,7 +8,8 @@ use Rattle.molecule.specs.Layout.{items_of}
 use Rattle.transaction.specs.Ckb.{Script, TokenCells}
 use Rattle.transaction.specs.Tx.{args_of}
 use Rattle.rules.specs.Outcome.{Outcome, fine, refused, check, ◌>>◌}
-use Rattle.rules.specs.Told.{refusal}
+use Rattle.rules.specs.Told.{told_by}
+use Rattle.error.specs.declared.Refusal.{Refusal}
 use Rattle.udt_cells.specs.declared.UdtInputsOutputs.{UdtInputsOutputs}
 use Rattle.cell_output.specs.CellOutput.{cell_output}
 use Rattle.udt_cells.specs.Pick.{Pick, pick_typed}
@@ -22,10 +23,9 @@ pub record Built : Type 0 where
 abbrev pub built : ℕ → ℕ → ℕ → Outcome Built
 built taken change capacity = fine (record { taken = taken; change = change; capacity = capacity })
 
--- the number and figures of each answer
-abbrev pub answered : UdtInputsOutputs → Outcome Built
-answered (UdtInputsOutputs.Built taken change capacity) = built taken (token_count change) (shannon_count capacity)
-answered (UdtInputsOutputs.Refused e) = refusal e
+-- the figures of an answer in numbers
+abbrev pub answered : Result UdtInputsOutputs Refusal → Outcome Built
+answered = told_by (λ b. record { taken = b.taken; change = token_count b.change; capacity = shannon_count b.capacity })
 
 abbrev pub capacity_for : List ℕ → List ℕ → ℕ
 capacity_for source type = change_shannons (length (args_of source)) (length (args_of type))

@@ -1,27 +1,23 @@
 -- The token pick (docs/RULES.md, "Our own side"): "Token pick, for a typed request with local amount above 0: cells in list order until the total reaches it;
 -- later cells are unread." Its row of the table: "by cell: data under 16 bytes (12); total 2^128 or more (10); list ended short (9)".
-use Rattle.std.specs.Prelude.{ℕ, ◌+◌, ◌-◌, ◌^◌, cond, List, [], ◌∷◌, length, take, leb, ltb}
+use Rattle.std.specs.Prelude.{ℕ, ◌+◌, ◌-◌, ◌^◌, cond, List, [], ◌∷◌, length, take, leb, ltb, Result}
 use Rattle.arithmetic.specs.LittleEndian.{le}
 use Rattle.units.specs.Units.{token_count}
 use Rattle.transaction.specs.Tx.{data_of}
 use Rattle.rules.specs.Outcome.{Outcome, fine, refused, check, ◌>>=◌, ◌>>◌}
 use Rattle.rules.specs.Surplus.{is_empty}
-use Rattle.rules.specs.Told.{refusal}
-use Rattle.udt_cells.specs.declared.{Total.Total, Picked.Picked}
+use Rattle.rules.specs.Told.{told_by}
+use Rattle.error.specs.declared.Refusal.{Refusal}
+use Rattle.udt_cells.specs.declared.Picked.{Picked}
 
 -- how many of the first cells are taken, and what they hold over the wanted amount
 pub record Pick : Type 0 where
   pub taken : ℕ
   pub change : ℕ
 
--- the number and figures of each answer
-abbrev pub told : Picked → Outcome Pick
-told (Picked.Cells taken change) = fine (record { taken = taken; change = token_count change })
-told (Picked.Refused e) = refusal e
-
-abbrev pub summed : Total → Outcome ℕ
-summed (Total.Is t) = fine (token_count t)
-summed (Total.Refused e) = refusal e
+-- the figures of an answer in numbers
+abbrev pub told : Result Picked Refusal → Outcome Pick
+told = told_by (λ p. record { taken = p.taken; change = token_count p.change })
 
 -- a total with the amount of one more cell
 unfoldable pub plus_cell : ℕ → List ℕ → Outcome ℕ

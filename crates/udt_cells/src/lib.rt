@@ -1,5 +1,5 @@
 // The token cells that our side pays with: the pick among those that are lent, and the change that is left of them.
-#![tactic(auto)]
+#![tactic(auto, using(crate::proofs::Ways::ways))]
 
 ghost use Rattle.std.specs.Prelude.{◌≡◌, true, ◌^◌, ◌<◌, min, length};
 ghost use Rattle.units.specs.Units.{token_count};
@@ -9,93 +9,67 @@ ghost use Rattle.molecule.specs.Layout.{item_of, items_of};
 ghost use Rattle.transaction.specs.Ckb.{Script};
 ghost use Rattle.transaction.specs.Tx.{args_of};
 ghost use Rattle.rules.specs.Outcome.{check};
-ghost use Rattle.udt_cells.specs.Pick.{summed, told, plus_cell, pick_from, pick_typed};
+ghost use Rattle.rules.specs.Told.{told_by};
+ghost use Rattle.udt_cells.specs.Pick.{told, plus_cell, pick_from, pick_typed};
 ghost use Rattle.udt_cells.specs.Change.{answered, capacity_for, with_change, lent, udt_inputs_outputs};
 
-use arithmetic::sizes;
 use error::Refusal;
 use list_writer::MAX_BYTES;
 use transaction::fields;
-use units::{CheckedShannons, CheckedTokens, Shannons, Tokens, TokensRead};
-
-// A total of tokens.
-#[derive(Clone, Copy)]
-enum Total {
-    Is(Tokens),
-    Refused(Refusal),
-}
+use units::{Figure, Shannons, Tokens};
 
 // How many of the first cells are taken, and what is left of them over the wanted amount.
-#[derive(Clone, Copy)]
-pub enum Picked {
-    Cells { taken: usize, change: Tokens },
-    Refused(Refusal),
+#[derive(Clone, Copy, Debug, Default, PartialEq, Eq, Hash)]
+pub struct Picked {
+    pub taken: usize,
+    pub change: Tokens,
 }
 
 // The same with the capacity of the change output; change and capacity are 0 where there is no such output.
-#[derive(Clone, Copy)]
-pub enum UdtInputsOutputs {
-    Built {
-        taken: usize,
-        change: Tokens,
-        capacity: Shannons,
-    },
-    Refused(Refusal),
+#[derive(Clone, Copy, Debug, PartialEq, Eq, Hash)]
+pub struct UdtInputsOutputs {
+    pub taken: usize,
+    pub change: Tokens,
+    pub capacity: Shannons,
 }
 
 // ---- the pick
 
 // A total with the amount of cell i.
-fn plus_cell(cells: &[u8], i: usize, total: Tokens) -> Total
-    ensures { summed result ≡ plus_cell (token_count total) (item_of cells.now i) }
+fn plus_cell(cells: &[u8], i: usize, total: Tokens) -> Result<Tokens, Refusal>
+    ensures { told_by token_count result ≡ plus_cell (token_count total) (item_of cells.now i) }
 {
     let cell = molecule::item(cells, i);
     let d = fields::token_cell_data(cell);
-    let amount = match Tokens::from_le_bytes(d) {
-        TokensRead::Tokens(amount) => amount,
-        TokensRead::Short => return Total::Refused(Refusal::TokenCellDataTooShort),
-    };
-    match total.checked_add(amount) {
-        CheckedTokens::Fits(sum) => Total::Is(sum),
-        CheckedTokens::Overflow => Total::Refused(Refusal::TokenTotalOverflow),
-    }
+    let amount = Tokens::from_le_bytes(d).ok_or(Refusal::TokenCellDataTooShort)?;
+    total.checked_add(amount).ok_or(Refusal::TokenTotalOverflow)
 }
 
 // Takes cells in list order until their total reaches what is wanted: none where that is 0. Later cells are not read.
-pub fn pick(cells: &[u8], wanted: Tokens) -> Picked
+pub fn pick(cells: &[u8], wanted: Tokens) -> Result<Picked, Refusal>
     ensures { told result ≡ pick_from (token_count wanted) 0 0 (items_of cells.now) }
 {
     let n = molecule::item_count(cells) as usize;
     let mut total = Tokens::ZERO;
-    let mut taken: usize = 0;
-    loop {
-        if let CheckedTokens::Fits(change) = total.checked_sub(wanted) {
-            return Picked::Cells { taken, change };
+    for taken in 0..n {
+        if let Some(change) = total.checked_sub(wanted) {
+            return Ok(Picked { taken, change });
         }
-        if n <= taken {
-            return Picked::Refused(Refusal::InsufficientCells);
-        }
-        match plus_cell(cells, taken, total) {
-            Total::Is(sum) => {
-                total = sum;
-            }
-            Total::Refused(e) => {
-                return Picked::Refused(e);
-            }
-        }
-        taken += 1;
+        total = plus_cell(cells, taken, total)?;
     }
+    let change = total.checked_sub(wanted).ok_or(Refusal::InsufficientCells)?;
+    Ok(Picked { taken: n, change })
 }
 
 // The pick of a request: nothing where it is untyped.
-pub fn pick_typed(cells: &[u8], udt: &[u8], local_amount: Tokens) -> Picked
+pub fn pick_typed(cells: &[u8], udt: &[u8], local_amount: Tokens) -> Result<Picked, Refusal>
     ensures { told result ≡ pick_typed udt.now (token_count local_amount) (items_of cells.now) }
 {
-    if udt.len() == 0 {
-        return Picked::Cells {
+    if udt.is_empty() {
+        return Ok(Picked {
             taken: 0,
             change: Tokens::ZERO,
-        };
+        });
     }
     pick(cells, local_amount)
 }
@@ -103,7 +77,7 @@ pub fn pick_typed(cells: &[u8], udt: &[u8], local_amount: Tokens) -> Picked
 // ---- the change
 
 // The capacity of a change output under our lock, of the type. It fits 64 bits for scripts that are readable: they say their length in four bytes.
-pub fn change_capacity(source: &[u8], udt: &[u8]) -> CheckedShannons
+pub fn change_capacity(source: &[u8], udt: &[u8]) -> Option<Shannons>
     ensures value { result ≡ change_capacity (length (args_of source.now)) (length (args_of udt.now)) }
     ensures udt_bound { readable Script source.now ≡ true → readable (option Script) udt.now ≡ true → capacity_for source.now udt.now < 2 ^ 64 }
 {
@@ -116,39 +90,34 @@ pub fn change_capacity(source: &[u8], udt: &[u8]) -> CheckedShannons
 
 // Writes the change output, if there is change, to the start of out.
 fn put_change(
-    taken: usize,
-    change: Tokens,
+    picked: Picked,
     udt: &[u8],
     source: &[u8],
     out: &mut [u8],
-) -> UdtInputsOutputs
+) -> Result<UdtInputsOutputs, Refusal>
     requires { (readable Script source.now ≡ true) × (readable (option Script) udt.now ≡ true) }
-    ensures { (answered result, out.new) ≡ with_change source.now udt.now taken (token_count change) out.old }
+    ensures { (answered result, out.new) ≡ with_change source.now udt.now picked.taken (token_count picked.change) out.old }
 {
-    if change.is_zero() {
-        return UdtInputsOutputs::Built {
+    let Picked { taken, change } = picked;
+    if change == Tokens::ZERO {
+        return Ok(UdtInputsOutputs {
             taken,
             change,
             capacity: Shannons::ZERO,
-        };
+        });
     }
-    let capacity = match change_capacity(source, udt) {
-        CheckedShannons::Fits(capacity) => capacity,
-        // Never, of readable scripts.
-        CheckedShannons::Overflow => {
-            return UdtInputsOutputs::Refused(Refusal::OverflowError);
-        }
-    };
-    let room = sizes::min(out.len(), MAX_BYTES);
+    // Never refused, of readable scripts.
+    let capacity = change_capacity(source, udt).ok_or(Refusal::OverflowError)?;
+    let room = out.len().min(MAX_BYTES);
     if !cell_output::has_room(room, 0, source.len(), udt.len()) {
-        return UdtInputsOutputs::Refused(Refusal::BufferTooShort);
+        return Err(Refusal::BufferTooShort);
     }
     cell_output::put_cell_output(out, 0, capacity, source, udt);
-    UdtInputsOutputs::Built {
+    Ok(UdtInputsOutputs {
         taken,
         change,
         capacity,
-    }
+    })
 }
 
 // ---- the call
@@ -157,13 +126,9 @@ fn put_change(
 fn are_readable(cells: &[u8], udt: &[u8], source: &[u8]) -> bool
     ensures { check 3 result ≡ lent cells.now udt.now source.now }
 {
-    if !transaction::is_token_cells(cells) {
-        return false;
-    }
-    if !transaction::is_optional_script(udt) {
-        return false;
-    }
-    transaction::is_script(source)
+    transaction::is_token_cells(cells)
+        && transaction::is_optional_script(udt)
+        && transaction::is_script(source)
 }
 
 // Picks token cells for the local amount, and writes the change output, if there is one, to the start of out. Refused, and out as it was: a lent list or script
@@ -174,14 +139,12 @@ pub fn build_udt_inputs_outputs(
     source: &[u8],
     local_amount: Tokens,
     out: &mut [u8],
-) -> UdtInputsOutputs
+) -> Result<UdtInputsOutputs, Refusal>
     ensures { (answered result, out.new) ≡ udt_inputs_outputs cells.now udt.now source.now (token_count local_amount) out.old }
 {
     if !are_readable(cells, udt, source) {
-        return UdtInputsOutputs::Refused(Refusal::LentBytesUnreadable);
+        return Err(Refusal::LentBytesUnreadable);
     }
-    match pick_typed(cells, udt, local_amount) {
-        Picked::Cells { taken, change } => put_change(taken, change, udt, source, out),
-        Picked::Refused(e) => UdtInputsOutputs::Refused(e),
-    }
+    let picked = pick_typed(cells, udt, local_amount)?;
+    put_change(picked, udt, source, out)
 }

@@ -4,85 +4,44 @@
 
 mod parts;
 
-const STDIN_FILENO: i32 = 0;
+use recorded_calls::{Items, Tally};
+use std::io;
+use std::io::{Read, Write};
 
-const STDOUT_FILENO: i32 = 1;
+// How much of standard input is read.
+const LONGEST: u64 = 65_536;
 
-#[derive(Clone, Copy)]
-struct Count {
-    parts: u64,
-    wrong: u64,
-}
-
-fn sum(a: Count, b: Count) -> Count {
-    Count {
-        parts: std::num::wrapping_add_u64(a.parts, b.parts),
-        wrong: std::num::wrapping_add_u64(a.wrong, b.wrong),
-    }
-}
-
-fn print_count(label: &[u8], n: u64) {
-    io::write_all(STDOUT_FILENO, label);
-    io::print_decimal(STDOUT_FILENO, n);
-}
-
-fn print(name: &[u8], c: Count) {
-    io::write_all(STDOUT_FILENO, name);
-    print_count(b": ", c.parts);
-    print_count(b" parts, ", c.wrong);
-    io::write_all(STDOUT_FILENO, b" wrong\n");
-}
-
-fn one(s: &[u8], expected: &[u8]) -> Count {
-    let right = parts::is_as_expected(s, expected);
-    Count {
-        parts: 1,
-        wrong: !right as u64,
-    }
+fn print(rt: &impl Print, name: &[u8], tally: Tally) -> io::Result<()> {
+    io::writer(rt).write_all(name)?;
+    println!(rt; ": {} parts, {} wrong", tally.all, tally.wrong)
 }
 
 // A vector and its parts.
-fn vector(v: &[u8]) -> Count {
+fn vector(v: &[u8]) -> Tally {
     let s = molecule::field(v, 2, 0);
-    let list = molecule::field(v, 2, 1);
-    let n = molecule::item_count(list) as usize;
-    let mut c = Count { parts: 0, wrong: 0 };
-    let mut i = 0;
-    while i < n {
-        c = sum(c, one(s, molecule::item(list, i)));
-        i += 1;
+    let mut tally = Tally::default();
+    for part in Items::of(molecule::field(v, 2, 1)) {
+        tally.count(parts::is_as_expected(s, part));
     }
-    c
+    tally
 }
 
 // The vectors of a type.
-fn group(g: &[u8]) -> Count {
-    let list = molecule::field(g, 2, 1);
-    let n = molecule::item_count(list) as usize;
-    let mut c = Count { parts: 0, wrong: 0 };
-    let mut i = 0;
-    while i < n {
-        c = sum(c, vector(molecule::item(list, i)));
-        i += 1;
+fn group(rt: &impl Print, g: &[u8]) -> io::Result<Tally> {
+    let mut tally = Tally::default();
+    for v in Items::of(molecule::field(g, 2, 1)) {
+        tally.add(vector(v));
     }
-    print(molecule::field(g, 2, 0), c);
-    c
+    print(rt, molecule::field(g, 2, 0), tally)?;
+    Ok(tally)
 }
 
-fn run(file: &[u8]) {
-    let n = molecule::item_count(file) as usize;
-    let mut c = Count { parts: 0, wrong: 0 };
-    let mut i = 0;
-    while i < n {
-        c = sum(c, group(molecule::item(file, i)));
-        i += 1;
+fn main(rt: HostRuntime) -> io::Result<()> {
+    let mut file = Vec::new(rt.alloc());
+    rt.reader().take(LONGEST).read_to_end(&mut file)?;
+    let mut all = Tally::default();
+    for g in Items::of(&file) {
+        all.add(group(&rt, g)?);
     }
-    print(b"all", c);
-}
-
-fn main() {
-    let mut input = io::large_buffer();
-    let n = io::read_full(STDIN_FILENO, &mut input);
-    let file = &input[..n];
-    run(file);
+    print(&rt, b"all", all)
 }

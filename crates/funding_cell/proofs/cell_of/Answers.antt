@@ -1,8 +1,14 @@
-use Rattle.funding_cell.proofs.Ways.{ways}
+use Rattle.std.proofs.Common.{arith}
+use Rattle.std.proofs.lemmas.Grind.{common_steps}
+use Rattle.rules.specs.Outcome.{check, check_with, ◌>>◌}
+use Rattle.error.specs.Refusal.{number, values}
+use Rattle.funding_cell.specs.FundingCell.{cell_of}
 use Rattle.funding_cell.proofs.cell_of.Goals as goal
 
-pub returns-then-count-ne0 : goal.returns-then-count-ne0
-returns-then-count-ne0 c = search ways
+pub returns-then-gt : goal.returns-then-gt
+unfolding cell_of check check_with ◌>>◌ number values
+returns-then-gt c = grind (arith, common_steps)
 
 pub returns : goal.returns
-returns c = search ways
+unfolding cell_of check check_with ◌>>◌ number values
+returns c = grind (arith, common_steps)

@@ -1,14 +1,23 @@
-use Rattle.funding_cell.proofs.Ways.{ways}
+use Rattle.std.proofs.Common.{arith}
+use Rattle.std.proofs.lemmas.Grind.{common_steps}
+use Rattle.rules.specs.Outcome.{check, check_with, ◌>>◌}
+use Rattle.error.specs.Refusal.{number, values}
+use Rattle.arithmetic.specs.Amount.{sum}
+use Rattle.funding_cell.specs.FundingCell.{funding_cell, cell_of_sums, cell_of, reserves}
 use Rattle.funding_cell.proofs.untyped_cell.Goals as goal
 
-pub returns-in-Overflow : goal.returns-in-Overflow
-returns-in-Overflow c = search ways
+pub returns-in_err-reserved : goal.returns-in_err-reserved
+unfolding funding_cell cell_of_sums reserves cell_of check check_with ◌>>◌ number values sum
+returns-in_err-reserved c = grind (arith, common_steps)
 
-pub returns-in-Overflow-checked_add : goal.returns-in-Overflow-checked_add
-returns-in-Overflow-checked_add c = search ways
+pub returns-in_err-amounts : goal.returns-in_err-amounts
+unfolding funding_cell cell_of_sums reserves cell_of check check_with ◌>>◌ number values sum
+returns-in_err-amounts c = grind (arith, common_steps)
 
-pub returns-in-Fits-checked_add-2 : goal.returns-in-Fits-checked_add-2
-returns-in-Fits-checked_add-2 c = search ways
+pub returns-in_err-capacity : goal.returns-in_err-capacity
+unfolding funding_cell cell_of_sums reserves cell_of check check_with ◌>>◌ number values sum
+returns-in_err-capacity c = grind (arith, common_steps)
 
-pub returns-in-Overflow-checked_add-2 : goal.returns-in-Overflow-checked_add-2
-returns-in-Overflow-checked_add-2 c = search ways
+pub returns : goal.returns
+unfolding funding_cell cell_of_sums reserves cell_of check check_with ◌>>◌ number values sum
+returns c = grind (arith, common_steps)

@@ -1,11 +1,6 @@
-use Rattle.item_index.proofs.Ways.{ways}
+use Rattle.item_index.specs.Index.{key_of}
+use Rattle.item_index.proofs.FindLaws.{place_front}
 use Rattle.item_index.proofs.place_of.Goals as goal
 
-pub returns-then-m-at : goal.returns-then-m-at
-returns-then-m-at c = search ways
-
-pub returns-then-same : goal.returns-then-same
-returns-then-same c = search ways
-
 pub returns : goal.returns
-returns c = search ways
+returns c = λ o. place_front (key_of c.args.b.now c.args.k c.args.skip) c.args.s.now c.args.x.now c.args.n o c.place_of.ensures c.unwrap_or.ensures

@@ -1,9 +1,6 @@
-use Rattle.std.proofs.Common.{◌-◌}
-use Rattle.lists.proofs.BlockLaws.{InBlock}
+use Rattle.std.proofs.Common.{◌≡◌, take, drop}
+use Rattle.lists.specs.Lists.{eq_bytes}
 use Rattle.lists.proofs.same_block.Given as goal
 
 abbrev pub invariant-loop-i : goal.invariant-loop-i
-invariant-loop-i l = InBlock 64 l.at l.a l.b l.ok l.i
-
-abbrev pub decreases-loop-i : goal.decreases-loop-i
-decreases-loop-i l = 64 - l.i
+invariant-loop-i g l = l.ok ≡ eq_bytes (take l.i (drop l.at l.a)) (take l.i (drop l.at l.b))

@@ -1,12 +1,6 @@
 use Rattle.molecule.proofs.Ways.{ways}
 use Rattle.molecule.proofs.has_items.Goals as goal
 
-pub returns-then-not-has_header : goal.returns-then-not-has_header
-returns-then-not-has_header c = search ways
-
-pub loop-i-init : goal.loop-i-init
-loop-i-init c = search ways
-
 pub returns-then-to-from : goal.returns-then-to-from
 returns-then-to-from c = search ways
 

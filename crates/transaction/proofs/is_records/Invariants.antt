@@ -1,11 +1,6 @@
-use Rattle.std.proofs.Common.{◌-◌}
 use Rattle.molecule.specs.Molecule.{option}
 use Rattle.transaction.specs.Ckb.{Record}
-use Rattle.molecule.proofs.TestLaws.{Walked}
 use Rattle.transaction.proofs.is_records.Given as goal
 
-abbrev pub invariant-loop-i : goal.invariant-loop-i
-invariant-loop-i l = Walked (option Record) l.s l.n l.i l.from
-
-abbrev pub decreases-loop-i : goal.decreases-loop-i
-decreases-loop-i l = l.n - l.i
+abbrev pub ghost-is_dynvec_of : goal.ghost-is_dynvec_of
+ghost-is_dynvec_of a = option Record

@@ -1,8 +1,13 @@
-use Rattle.udt_cells.proofs.Ways.{ways}
+use Rattle.std.proofs.Common.{arith}
+use Rattle.std.proofs.lemmas.Grind.{common_steps}
+use Rattle.rules.proofs.CellLaws.{empty-is}
+use Rattle.udt_cells.specs.Pick.{pick_typed}
 use Rattle.udt_cells.proofs.pick_typed.Goals as goal
 
-pub returns-then-udt-eq0 : goal.returns-then-udt-eq0
-returns-then-udt-eq0 c = search ways
+pub returns-then-is_empty : goal.returns-then-is_empty
+unfolding pick_typed
+returns-then-is_empty c = grind (arith, common_steps, empty-is c.args.udt.now)
 
 pub returns : goal.returns
-returns c = search ways
+unfolding pick_typed
+returns c = grind (arith, common_steps, empty-is c.args.udt.now)

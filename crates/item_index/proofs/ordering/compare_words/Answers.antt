@@ -4,17 +4,8 @@ use Rattle.item_index.proofs.ordering.compare_words.Goals as goal
 pub returns-then-u-v : goal.returns-then-u-v
 returns-then-u-v c = search ways
 
-pub returns-then-v-u : goal.returns-then-v-u
-returns-then-v-u c = search ways
-
 pub loop-i-preserved : goal.loop-i-preserved
 loop-i-preserved c = search ways
-
-pub returns-then-u-v-2 : goal.returns-then-u-v-2
-returns-then-u-v-2 c = search ways
-
-pub returns-then-v-u-2 : goal.returns-then-v-u-2
-returns-then-v-u-2 c = search ways
 
 pub returns : goal.returns
 returns c = search ways

@@ -1,5 +1,4 @@
-use Rattle.std.proofs.Common.{◌-◌}
-use Rattle.std.proofs.Common.{length}
+use Rattle.std.proofs.Common.{◌-◌, length}
 use Rattle.item_index.proofs.OrderLaws.{Alike}
 use Rattle.item_index.proofs.ordering.compare_words.Given as goal
 

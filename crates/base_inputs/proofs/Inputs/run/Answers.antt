@@ -1,0 +1,5 @@
+use Rattle.base_inputs.proofs.Ways.{ways}
+use Rattle.base_inputs.proofs.Inputs.run.Goals as goal
+
+pub returns : goal.returns
+returns c = search ways

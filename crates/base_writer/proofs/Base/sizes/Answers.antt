@@ -1,0 +1,5 @@
+use Rattle.base_writer.proofs.Ways.{ways}
+use Rattle.base_writer.proofs.Base.sizes.Goals as goal
+
+pub returns : goal.returns
+returns c = search ways

@@ -1,8 +1,0 @@
-use Rattle.base_writer.proofs.Ways.{ways}
-use Rattle.base_writer.proofs.put_data.Goals as goal
-
-pub returns-clause-out_after : goal.returns-clause-out_after
-returns-clause-out_after c = search ways
-
-pub returns-clause-value : goal.returns-clause-value
-returns-clause-value c = search ways

@@ -1,5 +1,0 @@
-use Rattle.cell_output.proofs.Ways.{ways}
-use Rattle.cell_output.proofs.put_parts.Goals as goal
-
-pub returns : goal.returns
-returns c = search ways

@@ -1,5 +1,0 @@
-use Rattle.transaction.proofs.Ways.{ways}
-use Rattle.transaction.proofs.is_inputs.Goals as goal
-
-pub returns : goal.returns
-returns c = search ways
