@@ -1,16 +1,17 @@
 -- Places of parts: one law for each way out of the functions that say where a part stands.
-use mathlib.Core.Path.{◌≡◌, refl, ap, subst, ◌∙◌}
+use mathlib.Core.Path.{◌≡◌, refl, sym, ap, subst, ◌∙◌}
 use Prim.Native.Nat.{ℕ, ◌+◌, ◌-◌, ◌*◌, ◌^◌, ◌≤◌, ◌<◌, min}
-use mathlib.Core.Bool.{cond}
 use mathlib.Core.List.{List}
 use native.Mathlib.Omega.{arith}
 use borrow.Author.Tests.{lt-ltb, le-ltb}
-use lib.Dec.{ltb}
 use lib.ListN.{length, drop, length-take, length-drop}
 use Rattle.molecule.specs.Layout.{span, part, part_start, start, word, field_of, field_start, fix_item, fix_start, item_count, item_of, item_start, content, content_start, entry_of, entry_start}
 use Rattle.transaction.specs.Tx.{tx_at, raw_field, raw_start, witnesses_of}
 use Rattle.transaction_lists.specs.Lists.{list_of, list_in, item_in, start_of, place_in}
-use Rattle.transaction_lists.proofs.ListLaws.{item_as, left-is-witnesses}
+use Rattle.transaction_lists.specs.Kinds.{number_of}
+use Rattle.transaction_lists.specs.declared.ListKind.{ListKind}
+use Rattle.transaction_lists.specs.declared.ListKind.TheVariants.{CellDeps, HeaderDeps, Inputs, Outputs, OutputsData, Witnesses}
+use Rattle.transaction_lists.proofs.ListLaws.{item_there, place_there}
 use Rattle.item_places.specs.declared.Place.{Place}
 use Rattle.item_places.specs.Places.{At, onward}
 
@@ -94,40 +95,33 @@ module _ (tx : List ℕ) {list : List ℕ} {p : Place} (h : At tx (field_of tx 2
   unfolding witnesses_of
   witness_in_list i k er = entry_in_list tx h e i k er
 
--- field j of the raw transaction, taken in two steps
-pub raw_list : (tx : List ℕ) (j : ℕ) {raw list : List ℕ} → raw ≡ field_of tx 2 0 → list ≡ field_of raw 6 j → list ≡ raw_field tx j
-unfolding raw_field
-raw_list tx j e h = rw e at h
+-- item i of a list
+module _ (tx : List ℕ) (i : ℕ) {r : Place} where
+  at_item : (n a m : ℕ) (f : ℕ → List ℕ) → i < length (list_in tx n) → list_of (tx_at tx) n ≡ span f 0 m → a ≡ start_of tx n i → At tx (f i) a r → At tx (item_in tx n i) (place_in tx n i) r
+  at_item n a m f h l s at =
+      subst (λ (x : List ℕ). At tx x (place_in tx n i) r) (sym (item_there tx n i h f m l)) (subst (λ (b : ℕ). At tx (f i) b r) (s ∙ sym (place_there tx n i h)) at)
 
--- item i of a list by number
-module _ (tx : List ℕ) (list i : ℕ) (h : i < length (list_in tx list)) {r : Place} where
-  here : (k a m : ℕ) (f : ℕ → List ℕ) → list ≡ k → list_of (tx_at tx) k ≡ span f 0 m → a ≡ start_of tx k i → At tx (f i) a r → At tx (item_in tx list i) (place_in tx list i) r
-  unfolding place_in
-  here k a m f g l s at =
-      let e : a ≡ cond (ltb i (length (list_in tx list))) (start_of tx list i) 0 = s ∙ rw (lt-ltb i (length (list_in tx list)) h, g) in
-      subst (λ (x : List ℕ). At tx x (place_in tx list i) r) (item_as tx list i refl h k f m g l refl) (subst (λ (b : ℕ). At tx (f i) b r) e at)
+  module _ {k : ListKind} (h : i < length (list_in tx (number_of k))) where
+    pub at-cell-dep : k ≡ CellDeps → At tx (fix_item (raw_field tx 1) 37 i) (raw_start tx 1 + fix_start (raw_field tx 1) 37 i) r → At tx (item_in tx (number_of k) i) (place_in tx (number_of k) i) r
+    unfolding list_of start_of
+    at-cell-dep g at = rw g (at_item 0 _ _ (fix_item (raw_field tx 1) 37) (rw g at h) refl refl at)
 
-  pub at-cell-dep : list ≡ 0 → At tx (fix_item (raw_field tx 1) 37 i) (raw_start tx 1 + fix_start (raw_field tx 1) 37 i) r → At tx (item_in tx list i) (place_in tx list i) r
-  unfolding list_of start_of
-  at-cell-dep g at = here 0 _ _ (fix_item (raw_field tx 1) 37) g refl refl at
+    pub at-header-dep : k ≡ HeaderDeps → At tx (fix_item (raw_field tx 2) 32 i) (raw_start tx 2 + fix_start (raw_field tx 2) 32 i) r → At tx (item_in tx (number_of k) i) (place_in tx (number_of k) i) r
+    unfolding list_of start_of
+    at-header-dep g at = rw g (at_item 1 _ _ (fix_item (raw_field tx 2) 32) (rw g at h) refl refl at)
 
-  pub at-header-dep : list ≡ 1 → At tx (fix_item (raw_field tx 2) 32 i) (raw_start tx 2 + fix_start (raw_field tx 2) 32 i) r → At tx (item_in tx list i) (place_in tx list i) r
-  unfolding list_of start_of
-  at-header-dep g at = here 1 _ _ (fix_item (raw_field tx 2) 32) g refl refl at
+    pub at-input : k ≡ Inputs → At tx (fix_item (raw_field tx 3) 44 i) (raw_start tx 3 + fix_start (raw_field tx 3) 44 i) r → At tx (item_in tx (number_of k) i) (place_in tx (number_of k) i) r
+    unfolding list_of start_of
+    at-input g at = rw g (at_item 2 _ _ (fix_item (raw_field tx 3) 44) (rw g at h) refl refl at)
 
-  pub at-input : list ≡ 2 → At tx (fix_item (raw_field tx 3) 44 i) (raw_start tx 3 + fix_start (raw_field tx 3) 44 i) r → At tx (item_in tx list i) (place_in tx list i) r
-  unfolding list_of start_of
-  at-input g at = here 2 _ _ (fix_item (raw_field tx 3) 44) g refl refl at
+    pub at-output : k ≡ Outputs → At tx (item_of (raw_field tx 4) i) (raw_start tx 4 + item_start (raw_field tx 4) i) r → At tx (item_in tx (number_of k) i) (place_in tx (number_of k) i) r
+    unfolding list_of start_of
+    at-output g at = rw g (at_item 3 _ _ (item_of (raw_field tx 4)) (rw g at h) refl refl at)
 
-  pub at-output : list ≡ 3 → At tx (item_of (raw_field tx 4) i) (raw_start tx 4 + item_start (raw_field tx 4) i) r → At tx (item_in tx list i) (place_in tx list i) r
-  unfolding list_of start_of
-  at-output g at = here 3 _ _ (item_of (raw_field tx 4)) g refl refl at
+    pub at-output_data : k ≡ OutputsData → At tx (entry_of (raw_field tx 5) i) (raw_start tx 5 + entry_start (raw_field tx 5) i) r → At tx (item_in tx (number_of k) i) (place_in tx (number_of k) i) r
+    unfolding list_of start_of
+    at-output_data g at = rw g (at_item 4 _ _ (entry_of (raw_field tx 5)) (rw g at h) refl refl at)
 
-  pub at-output_data : list ≡ 4 → At tx (entry_of (raw_field tx 5) i) (raw_start tx 5 + entry_start (raw_field tx 5) i) r → At tx (item_in tx list i) (place_in tx list i) r
-  unfolding list_of start_of
-  at-output_data g at = here 4 _ _ (entry_of (raw_field tx 5)) g refl refl at
-
-  pub at_witness : (list ≡ 0 → ⊥) → (list ≡ 1 → ⊥) → (list ≡ 2 → ⊥) → (list ≡ 3 → ⊥) → (list ≡ 4 → ⊥)
-      → At tx (entry_of (witnesses_of tx) i) (field_start tx 2 1 + entry_start (witnesses_of tx) i) r → At tx (item_in tx list i) (place_in tx list i) r
-  unfolding list_of start_of
-  at_witness a b c d e at = here 5 _ _ (entry_of (witnesses_of tx)) (left-is-witnesses tx list i refl h a b c d e) refl refl at
+    pub at_witness : k ≡ Witnesses → At tx (entry_of (witnesses_of tx) i) (field_start tx 2 1 + entry_start (witnesses_of tx) i) r → At tx (item_in tx (number_of k) i) (place_in tx (number_of k) i) r
+    unfolding list_of start_of
+    at_witness g at = rw g (at_item 5 _ _ (entry_of (witnesses_of tx)) (rw g at h) refl refl at)

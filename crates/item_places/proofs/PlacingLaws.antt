@@ -1,25 +1,17 @@
--- Laws of the loop that sets two words for each item, and of the call over it.
-use mathlib.Core.Path.{◌≡◌, refl, sym, ap, ap₂, ◌∙◌}
-use Prim.Native.Nat.{ℕ, zero, suc, ◌+◌, ◌-◌, ◌*◌, ◌/◌, ◌^◌, ◌≤◌, ◌<◌}
+-- Laws of the loop that sets two words for each item.
+use mathlib.Core.Path.{◌≡◌, refl, sym, ap, ◌∙◌}
+use Prim.Native.Nat.{ℕ, zero, suc, ◌+◌, ◌-◌, ◌*◌, ◌^◌, ◌≤◌, ◌<◌}
 use mathlib.Core.List.{List, [], ◌∷◌, ◌++◌, flatten}
 use native.Mathlib.Nat.{add-zero}
 use native.Mathlib.Omega.{arith}
-use borrow.Author.Tests.{le-leb, lt-leb}
 use lib.ListN.{length, set}
-use Rattle.error.specs.declared.Refusal.{Refusal}
-use Rattle.error.specs.Refusal.{number, values}
 use Rattle.molecule.specs.Layout.{span}
 use Rattle.molecule.specs.Write.{splice, Put}
-use Rattle.molecule.proofs.Offsets.{span-length}
-use Rattle.molecule.proofs.WriteLaws.{copy_none, copy_more, copy_end, none, then, splice_zero, splice-length}
+use Rattle.molecule.proofs.WriteLaws.{copy_none, copy_more, copy_end, none, then, splice-length}
 use Rattle.lists.proofs.SpanLaws.{span-on, span-end, span-whole}
-use Rattle.rules.specs.Outcome.{fine, check, check_with, ◌>>=◌, ◌>>◌}
-use Rattle.rules.proofs.Tests.{fine_inj, check-fine}
-use Rattle.transaction_lists.specs.declared.Found.{Found}
 use Rattle.transaction_lists.specs.Lists.{list_in, item_in, place_in}
-use Rattle.transaction_lists.specs.Found.{told, count_found}
 use Rattle.item_places.specs.declared.Place.{Place}
-use Rattle.item_places.specs.Places.{At, place_words, places_of, places_found, listed}
+use Rattle.item_places.specs.Places.{At, place_words, places_of}
 
 -- ---- two words
 
@@ -93,32 +85,3 @@ module _ {tx : List ℕ} {list : ℕ} {out₀ : List ℕ} {n i : ℕ} {out : Lis
   placing_end l =
       let z : rest tx list i n ≡ [] = ap flatten (span-end (place_words tx list) i n l) in
       (none out (2 * i) (omega (arith, g.room, g.within))).bytes ∙ rw z at g.words
-
--- ---- the call
-
-module _ (tx : List ℕ) (list : ℕ) (out : List ℕ) {x : Found} (e : told x ≡ count_found tx list) where
-  pub items_uncounted : {why : Refusal} → x ≡ Found.Refused why → (told (Found.Refused why), out) ≡ listed (places_found tx list (length out)) out
-  unfolding places_found listed ◌>>=◌
-  items_uncounted {why} ex = rw (sym (rw ex at e))
-
-  module _ {n : ℕ} (ex : x ≡ Found.Number n) where
-    counted : count_found tx list ≡ fine n
-    counted = sym (rw ex at e)
-
-    pub items-count : n ≡ length (list_in tx list)
-    unfolding count_found
-    items-count = sym (fine_inj (check-fine 3 _ _ n (check-fine 1 _ _ n counted).1).1)
-
-    pub items_short : length out / 2 < n → (told (Found.Refused Refusal.BufferTooShort), out) ≡ listed (places_found tx list (length out)) out
-    unfolding places_found listed check check_with ◌>>=◌ ◌>>◌ number values
-    items_short h = let k : length out < 2 * n = omega arith in rw (counted, lt-leb (2 * n) (length out) k)
-
-    pub items-room : n ≤ length out / 2 → 2 * n ≤ length out
-    items-room h = omega arith
-
-    pub items-told : {after : List ℕ} → n ≤ length out / 2 → after ≡ splice out 0 (flatten (places_of tx list n)) → (told (Found.Number n), after) ≡ listed (places_found tx list (length out)) out
-    unfolding places_found listed check check_with ◌>>=◌ ◌>>◌
-    items-told {after} h k =
-        let r : 2 * n ≤ length out = omega arith in
-        rw (counted, le-leb (2 * n) (length out) r)
-        (ap₂ (λ (m : ℕ) (l : List ℕ). (fine m, l)) (sym (span-length (place_words tx list) 0 n)) (k ∙ splice_zero out (flatten (places_of tx list n))))

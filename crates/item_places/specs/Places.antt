@@ -3,7 +3,7 @@ use Rattle.std.specs.Prelude.{◌≡◌, ℕ, ◌+◌, ◌*◌, ◌≤◌}
 use mathlib.Core.List.{List, [], ◌∷◌, ◌++◌, flatten}
 use lib.{Dec.leb, ListN.length, ListN.drop}
 use Rattle.molecule.specs.Layout.{span, part, part_start, field_of, field_start, fix_item, fix_start, item_of, item_start, entry_of, entry_start}
-use Rattle.transaction.specs.Tx.{raw_field, raw_start, witnesses_of}
+use Rattle.transaction.specs.Tx.{raw_field, raw_start}
 use Rattle.rules.specs.Outcome.{Outcome, fine, refused, check, ◌>>=◌, ◌>>◌}
 use Rattle.transaction_lists.specs.Lists.{item_in, place_in}
 use Rattle.transaction_lists.specs.Found.{count_found}
@@ -31,21 +31,9 @@ ItemAt s i p = At s (item_of s i) (item_start s i) p
 abbrev pub EntryAt : List ℕ → ℕ → Place → Type 0
 EntryAt s i p = At s (entry_of s i) (entry_start s i) p
 
--- and in a transaction, of field j of the raw one, of item i of such a field, of an output, a data entry, a witness, and of item i of a list by number
+-- and in a transaction, of field j of the raw one, and of item i of a list by number
 abbrev pub RawAt : List ℕ → ℕ → Place → Type 0
 RawAt tx j p = At tx (raw_field tx j) (raw_start tx j) p
-
-abbrev pub FixIn : List ℕ → ℕ → ℕ → ℕ → Place → Type 0
-FixIn tx j k i p = At tx (fix_item (raw_field tx j) k i) (raw_start tx j + fix_start (raw_field tx j) k i) p
-
-abbrev pub OutputIn : List ℕ → ℕ → Place → Type 0
-OutputIn tx i p = At tx (item_of (raw_field tx 4) i) (raw_start tx 4 + item_start (raw_field tx 4) i) p
-
-abbrev pub DataIn : List ℕ → ℕ → Place → Type 0
-DataIn tx i p = At tx (entry_of (raw_field tx 5) i) (raw_start tx 5 + entry_start (raw_field tx 5) i) p
-
-abbrev pub WitnessIn : List ℕ → ℕ → Place → Type 0
-WitnessIn tx i p = At tx (entry_of (witnesses_of tx) i) (field_start tx 2 1 + entry_start (witnesses_of tx) i) p
 
 abbrev pub AnItemIn : List ℕ → ℕ → ℕ → Place → Type 0
 AnItemIn tx list i p = At tx (item_in tx list i) (place_in tx list i) p

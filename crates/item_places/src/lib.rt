@@ -1,31 +1,21 @@
 // Where the items of a list of a transaction stand, all of them after one reading, so that a caller goes through the list in its own bytes.
-#![tactic(auto)]
+#![tactic(auto, using(crate::proofs::Ways::ways))]
 
 ghost use Rattle.std.specs.Prelude.{◌≡◌, ◌+◌, ◌*◌, ◌^◌, ◌≤◌, ◌<◌, min, length};
 ghost use mathlib.Core.List.{flatten};
 ghost use Rattle.molecule.specs.Write.{splice};
+ghost use Rattle.transaction_lists.specs.Kinds.{number_of};
 ghost use Rattle.transaction_lists.specs.Lists.{list_in};
 ghost use Rattle.transaction_lists.specs.Found.{told};
 ghost use Rattle.item_places.specs.Places.{onward, places_of, places_found, listed};
-ghost use Rattle.item_places.specs.Places.{PartAt, FieldAt, FixAt, ItemAt, EntryAt, RawAt, FixIn, OutputIn, DataIn, WitnessIn, AnItemIn};
+ghost use Rattle.item_places.specs.Places.{PartAt, FieldAt, FixAt, ItemAt, EntryAt, RawAt, AnItemIn};
 
-use arithmetic::sizes;
 use error::Refusal;
 use transaction::fields;
-use transaction_lists::Found;
-
-const CELL_DEPS: u32 = 0;
-
-const HEADER_DEPS: u32 = 1;
-
-const INPUTS: u32 = 2;
-
-const OUTPUTS: u32 = 3;
-
-const OUTPUTS_DATA: u32 = 4;
+use transaction_lists::ListKind;
 
 // Where an item starts, and how many bytes it has.
-#[derive(Clone, Copy)]
+#[derive(Clone, Copy, Debug, PartialEq, Eq, Hash)]
 struct Place {
     start: usize,
     len: usize,
@@ -37,7 +27,7 @@ struct Place {
 fn part_start(n: usize, from: usize, to: usize) -> usize
     ensures { result ≡ min from (min to n) }
 {
-    sizes::min(from, sizes::min(to, n))
+    from.min(to.min(n))
 }
 
 // The place of a part, by its ends.
@@ -114,102 +104,46 @@ fn raw_place(tx: &[u8], j: u32) -> Place
     on(outer, inner)
 }
 
-// Item i of the list of items of k bytes that is field j of the raw transaction.
-fn fix_in(tx: &[u8], j: u32, k: u32, i: u32) -> Place
-    ensures { FixIn tx.now j k i result }
-{
-    let outer = raw_place(tx, j);
-    let raw = fields::raw(tx);
-    let list = molecule::field(raw, 6, j as usize);
-    let inner = fix_place(list, k, i);
-    on(outer, inner)
-}
-
-// An output.
-fn output_in(tx: &[u8], i: u32) -> Place
-    ensures { OutputIn tx.now i result }
-{
-    let outer = raw_place(tx, 4);
-    let list = fields::outputs(tx);
-    let inner = item_place(list, i);
-    on(outer, inner)
-}
-
-// The bytes of a data entry.
-fn data_in(tx: &[u8], i: u32) -> Place
-    ensures { DataIn tx.now i result }
-{
-    let outer = raw_place(tx, 5);
-    let list = fields::outputs_data(tx);
-    let inner = entry_place(list, i);
-    on(outer, inner)
-}
-
-// The bytes of a witness.
-fn witness_in(tx: &[u8], i: u32) -> Place
-    ensures { WitnessIn tx.now i result }
-{
-    let outer = field_place(tx, 2, 1);
-    let list = fields::witnesses(tx);
-    let inner = entry_place(list, i);
-    on(outer, inner)
-}
-
 // Item i of a list, where there is one.
-fn place_in(tx: &[u8], list: u32, i: u32) -> Place
-    requires { i < length (list_in tx.now list) }
-    ensures { AnItemIn tx.now list i result }
+fn place_in(tx: &[u8], list: ListKind, i: u32) -> Place
+    requires { i < length (list_in tx.now (number_of list)) }
+    ensures { AnItemIn tx.now (number_of list) i result }
 {
-    if list == CELL_DEPS {
-        return fix_in(tx, 1, 37, i);
+    match list {
+        ListKind::CellDeps => on(raw_place(tx, 1), fix_place(fields::cell_deps(tx), 37, i)),
+        ListKind::HeaderDeps => on(raw_place(tx, 2), fix_place(fields::header_deps(tx), 32, i)),
+        ListKind::Inputs => on(raw_place(tx, 3), fix_place(fields::inputs(tx), 44, i)),
+        ListKind::Outputs => on(raw_place(tx, 4), item_place(fields::outputs(tx), i)),
+        ListKind::OutputsData => on(raw_place(tx, 5), entry_place(fields::outputs_data(tx), i)),
+        ListKind::Witnesses => on(field_place(tx, 2, 1), entry_place(fields::witnesses(tx), i)),
     }
-    if list == HEADER_DEPS {
-        return fix_in(tx, 2, 32, i);
-    }
-    if list == INPUTS {
-        return fix_in(tx, 3, 44, i);
-    }
-    if list == OUTPUTS {
-        return output_in(tx, i);
-    }
-    if list == OUTPUTS_DATA {
-        return data_in(tx, i);
-    }
-    // the last of the lists, since an item is there
-    witness_in(tx, i)
 }
 
 // ---- all of them
 
 // Sets two words for each of the n items, from the first word on.
-fn put_places(tx: &[u8], list: u32, n: u32, places: &mut [u64])
-    requires { (n ≡ length (list_in tx.now list)) × (2 * n ≤ length places.old) }
-    ensures { places.new ≡ splice places.old 0 (flatten (places_of tx.now list n)) }
+fn put_places(tx: &[u8], list: ListKind, n: u32, places: &mut [u64])
+    requires { (n ≡ length (list_in tx.now (number_of list))) × (2 * n ≤ length places.old) }
+    ensures { places.new ≡ splice places.old 0 (flatten (places_of tx.now (number_of list) n)) }
 {
-    let mut i = 0;
-    while i < n {
+    for i in 0..n {
         let p = place_in(tx, list, i);
         let at = 2 * (i as usize);
         places[at] = p.start as u64;
         places[at + 1] = p.len as u64;
-        i += 1;
     }
 }
 
 // Where each item of a list of a transaction starts and how many bytes it has, two words for each from the first of `places` on, and how many items there are.
 // Refused, and `places` as it was: bytes that are no transaction (1), a list that there is not (3), fewer than two words for each item (13).
-pub fn items(tx: &[u8], list: u32, places: &mut [u64]) -> Found
+pub fn items(tx: &[u8], list: u32, places: &mut [u64]) -> Result<u32, Refusal>
     ensures { (told result, places.new) ≡ listed (places_found tx.now list (length places.old)) places.old }
 {
-    let found = transaction_lists::item_count(tx, list);
-    match found {
-        Found::Number(n) => {
-            if places.len() / 2 < n as usize {
-                return Found::Refused(Refusal::BufferTooShort);
-            }
-            put_places(tx, list, n, places);
-            Found::Number(n)
-        }
-        Found::Refused(why) => Found::Refused(why),
+    let n = transaction_lists::item_count(tx, list)?;
+    let kind = ListKind::try_from(list)?;
+    if places.len() / 2 < n as usize {
+        return Err(Refusal::BufferTooShort);
     }
+    put_places(tx, kind, n, places);
+    Ok(n)
 }

@@ -1,14 +1,29 @@
-use Rattle.item_places.proofs.Ways.{ways}
+use Rattle.std.proofs.Common.{arith}
+use Rattle.std.proofs.lemmas.Grind.{common_steps}
+use Rattle.error.specs.Refusal.{number, values}
+use Rattle.molecule.proofs.Offsets.{span-length}
+use Rattle.molecule.proofs.WriteLaws.{splice_zero}
+use Rattle.rules.specs.Outcome.{check, check_with, ◌>>=◌, ◌>>◌}
+use Rattle.transaction_lists.specs.Found.{count_found}
+use Rattle.item_places.specs.Places.{places_found, listed}
 use Rattle.item_places.proofs.items.Goals as goal
 
+pub returns-in_err-n : goal.returns-in_err-n
+unfolding places_found listed ◌>>=◌
+returns-in_err-n c = grind (arith, common_steps)
+
+pub returns-in_err-kind : goal.returns-in_err-kind
+unfolding count_found check check_with ◌>>◌
+returns-in_err-kind c = grind (arith, common_steps)
+
 pub returns-then-places-n : goal.returns-then-places-n
-returns-then-places-n c = search ways
+unfolding places_found listed check check_with ◌>>=◌ ◌>>◌ number values
+returns-then-places-n c = grind (arith, common_steps)
 
 pub put_places-requires : goal.put_places-requires
-put_places-requires c = search ways
+unfolding count_found check check_with ◌>>◌
+put_places-requires c = grind (arith, common_steps)
 
-pub returns-else-places-n : goal.returns-else-places-n
-returns-else-places-n c = search ways
-
-pub returns-in-Refused : goal.returns-in-Refused
-returns-in-Refused c = search ways
+pub returns : goal.returns
+unfolding places_found listed check check_with ◌>>=◌ ◌>>◌
+returns c = grind (arith, common_steps, span-length, splice_zero)

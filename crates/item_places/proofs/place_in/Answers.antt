@@ -1,20 +1,20 @@
 use Rattle.item_places.proofs.Ways.{ways}
 use Rattle.item_places.proofs.place_in.Goals as goal
 
-pub returns-then-list-eq-CELL_DEPS : goal.returns-then-list-eq-CELL_DEPS
-returns-then-list-eq-CELL_DEPS c = search ways
+pub returns-in-CellDeps : goal.returns-in-CellDeps
+returns-in-CellDeps c = search ways
 
-pub returns-then-list-eq-HEADER_DEPS : goal.returns-then-list-eq-HEADER_DEPS
-returns-then-list-eq-HEADER_DEPS c = search ways
+pub returns-in-HeaderDeps : goal.returns-in-HeaderDeps
+returns-in-HeaderDeps c = search ways
 
-pub returns-then-list-eq-INPUTS : goal.returns-then-list-eq-INPUTS
-returns-then-list-eq-INPUTS c = search ways
+pub returns-in-Inputs : goal.returns-in-Inputs
+returns-in-Inputs c = search ways
 
-pub returns-then-list-eq-OUTPUTS : goal.returns-then-list-eq-OUTPUTS
-returns-then-list-eq-OUTPUTS c = search ways
+pub returns-in-Outputs : goal.returns-in-Outputs
+returns-in-Outputs c = search ways
 
-pub returns-then-list-eq-OUTPUTS_DATA : goal.returns-then-list-eq-OUTPUTS_DATA
-returns-then-list-eq-OUTPUTS_DATA c = search ways
+pub returns-in-OutputsData : goal.returns-in-OutputsData
+returns-in-OutputsData c = search ways
 
-pub returns : goal.returns
-returns c = search ways
+pub returns-in-Witnesses : goal.returns-in-Witnesses
+returns-in-Witnesses c = search ways
