@@ -18,11 +18,11 @@ pub const MOST_PICKS: usize = 7394;
 const SOME_PICKS: usize = 1024;
 
 // What stands for a pick, in numbers: they are read from lent room that is cleared at once, and the laws of a list's places are of numbers. An earlier one is the same; it is the first on its cell and free; it is the first and busy.
-const AGAIN: u8 = 0;
+pub const AGAIN: u8 = 0;
 
-const FREE: u8 = 1;
+pub const FREE: u8 = 1;
 
-const BUSY: u8 = 2;
+pub const BUSY: u8 = 2;
 
 // Whether the list has all its items whole.
 fn is_whole(s: &[u8]) -> bool
