@@ -1,7 +1,7 @@
 -- What the tables of cells share (docs/RULES.md, "Holds and exclusions"): holds (crate hold_records) and excluded transactions (crate exclusion_entries).
-use Rattle.std.specs.Prelude.{ℕ, min, Bool, cond, List, [], ◌∷◌, ◌++◌}
+use Rattle.std.specs.Prelude.{ℕ, min, Bool, cond, List, [], ◌∷◌, ◌++◌, Result, Ok, Err}
 use lib.{Dec.leb, ListN.length, ListN.drop}
-use Rattle.error.specs.{declared.Answer.Answer, Refusal.number}
+use Rattle.error.specs.{declared.Refusal.Refusal, Refusal.number}
 use Rattle.out_points.specs.{declared.OutPoint.OutPoint, OutPoints.point_list}
 
 -- the elements that pass the test, in order
@@ -20,9 +20,9 @@ pub data Outcome (T M : Type 0) : Type 0 where
   refused : ℕ → T → Outcome T M
 
 -- a call's answer with the table that it returns, where a table t means `means t`
-unfoldable pub told : {T M : Type 0} → (T → M) → Answer → T → Outcome T M
-told means Answer.Done t = done (means t)
-told means (Answer.Refused why) t = refused (number why) t
+unfoldable pub told : {T M : Type 0} → (T → M) → Result (Unit {0}) Refusal → T → Outcome T M
+told means (Ok _) t = done (means t)
+told means (Err why) t = refused (number why) t
 
 -- what a call answers if the test passes, and its refusal if not
 abbrev pub check : {A : Type 0} → Bool → A → A → A

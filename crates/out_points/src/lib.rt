@@ -15,7 +15,7 @@ use molecule::write;
 const OUT_POINT_BYTES: u32 = 36;
 
 // A hash, in words of eight bytes, so that two are compared in four steps.
-#[derive(Clone, Copy)]
+#[derive(Clone, Copy, Debug, PartialEq, Eq, Hash)]
 pub struct Byte32 {
     pub a: u64,
     pub b: u64,
@@ -23,7 +23,7 @@ pub struct Byte32 {
     pub d: u64,
 }
 
-#[derive(Clone, Copy)]
+#[derive(Clone, Copy, Debug, PartialEq, Eq, Hash)]
 pub struct OutPoint {
     pub hash: Byte32,
     pub index: u32,
