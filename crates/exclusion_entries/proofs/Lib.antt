@@ -1,7 +1,6 @@
 pub mod EntryLaws
 pub mod LentLaws
 pub mod MapLaws
-pub mod ReadLaws
 pub mod SpliceLaws
 pub mod StayLaws
 pub mod SurveyLaws

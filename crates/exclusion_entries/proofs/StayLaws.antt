@@ -4,8 +4,9 @@ use Prim.Native.Nat.{ℕ, suc, ◌+◌, ◌≤◌}
 use mathlib.Core.Bool.{Bool, true, false, not, cond}
 use mathlib.Core.List.{List, [], ◌∷◌, ◌++◌}
 use native.Mathlib.Omega.{arith}
-use borrow.Author.Tests.{not-true, not-false}
+use Rattle.std.specs.Prelude.{Result, Ok, Err}
 use lib.ListN.{length, take, drop, length-append}
+use Rattle.error.specs.declared.{Refusal.Refusal}
 use Rattle.molecule.specs.Partial.{All}
 use Rattle.out_points.specs.Tables.{keep, renew}
 use Rattle.exclusion_entries.specs.Exclusions.{Entry, excluded}
@@ -106,7 +107,6 @@ module _ (f p : Entry → Bool) where
   -- ---- the numbers
 
   pub record Tells (v u : Survey) (l : List Entry) : Type 0 where
-    pub good_told : u.good ≡ v.good
     pub lost_told : u.lost ≡ cond v.lost true (loses f p l)
     pub stays_told : u.stays ≡ v.stays + length (stay f p v.taken l)
     pub points-told : u.points ≡ v.points + length (excluded (stay f p v.taken l))
@@ -115,14 +115,13 @@ module _ (f p : Entry → Bool) where
     pub index-told : u.index ≡ v.index + cond v.taken 0 (cond v.lost 0 (length (front f p l)))
 
   -- the first entry is not kept, is taken, stays: the rest tells all
-  module _ (e : Entry) (l : List Entry) (good : Bool) (stays points place from index : ℕ) (u : Survey) where
+  module _ (e : Entry) (l : List Entry) (stays points place from index : ℕ) (u : Survey) where
     abbrev now : Bool → Bool → Survey
-    now lost taken = record { good = good; lost = lost; taken = taken; stays = stays; points = points; place = place; from = from; index = index }
+    now lost taken = record { lost = lost; taken = taken; stays = stays; points = points; place = place; from = from; index = index }
 
     not_kept : (lost taken : Bool) → f e ≡ false → Tells (lost_one (now lost taken)) u l → Tells (now lost taken) u (e ∷ l)
     unfolding lost_one stay loses ahead front entries_bytes
     not_kept true true k t = record {
-      good_told = t.good_told;
       lost_told = t.lost_told;
       stays_told = rw k t.stays_told;
       points-told = rw k t.points-told;
@@ -131,7 +130,6 @@ module _ (f p : Entry → Bool) where
       index-told = t.index-told;
     }
     not_kept true false k t = record {
-      good_told = t.good_told;
       lost_told = t.lost_told;
       stays_told = rw k t.stays_told;
       points-told = rw k t.points-told;
@@ -140,7 +138,6 @@ module _ (f p : Entry → Bool) where
       index-told = t.index-told;
     }
     not_kept false true k t = record {
-      good_told = t.good_told;
       lost_told = rw k t.lost_told;
       stays_told = rw k t.stays_told;
       points-told = rw k t.points-told;
@@ -149,7 +146,6 @@ module _ (f p : Entry → Bool) where
       index-told = t.index-told;
     }
     not_kept false false k t = record {
-      good_told = t.good_told;
       lost_told = rw k t.lost_told;
       stays_told = rw k t.stays_told;
       points-told = rw k t.points-told;
@@ -162,7 +158,6 @@ module _ (f p : Entry → Bool) where
     unfolding took_one stay loses ahead front entries_bytes
     took lost true g k h t = absurd (let z : ◌≡◌ {A = ℕ} 0 1 = cc in omega arith)
     took true false g k h t = record {
-      good_told = t.good_told;
       lost_told = t.lost_told;
       stays_told = rw (k, h) t.stays_told;
       points-told = rw (k, h) t.points-told;
@@ -171,7 +166,6 @@ module _ (f p : Entry → Bool) where
       index-told = t.index-told;
     }
     took false false g k h t = record {
-      good_told = t.good_told;
       lost_told = rw k t.lost_told;
       stays_told = rw (k, h) t.stays_told;
       points-told = rw (k, h) t.points-told;
@@ -183,7 +177,6 @@ module _ (f p : Entry → Bool) where
     stays_on : (lost taken : Bool) → f e ≡ true → (taken ≡ false → p e ≡ false) → Tells (stayed (length e.points) (now lost taken)) u l → Tells (now lost taken) u (e ∷ l)
     unfolding stayed stay loses ahead front entries_bytes excluded
     stays_on true true k h t = record {
-      good_told = t.good_told;
       lost_told = t.lost_told;
       stays_told = rw (k) (omega (arith, t.stays_told));
       points-told = rw (k) (omega (arith, t.points-told, length-append e.points (excluded (stay f p true l))));
@@ -192,7 +185,6 @@ module _ (f p : Entry → Bool) where
       index-told = t.index-told;
     }
     stays_on true false k h t = record {
-      good_told = t.good_told;
       lost_told = t.lost_told;
       stays_told = rw (k, h refl) (omega (arith, t.stays_told));
       points-told = rw (k, h refl) (omega (arith, t.points-told, length-append e.points (excluded (stay f p false l))));
@@ -201,7 +193,6 @@ module _ (f p : Entry → Bool) where
       index-told = t.index-told;
     }
     stays_on false true k h t = record {
-      good_told = t.good_told;
       lost_told = rw k t.lost_told;
       stays_told = rw (k) (omega (arith, t.stays_told));
       points-told = rw (k) (omega (arith, t.points-told, length-append e.points (excluded (stay f p true l))));
@@ -210,7 +201,6 @@ module _ (f p : Entry → Bool) where
       index-told = t.index-told;
     }
     stays_on false false k h t = record {
-      good_told = t.good_told;
       lost_told = rw k t.lost_told;
       stays_told = rw (k, h refl) (omega (arith, t.stays_told));
       points-told = rw (k, h refl) (omega (arith, t.points-told, length-append e.points (excluded (stay f p false l))));
@@ -222,7 +212,6 @@ module _ (f p : Entry → Bool) where
   pub sweep_tells : (v : Survey) (l : List Entry) → Tells v (sweep f p v l) l
   unfolding sweep stay loses ahead front entries_bytes excluded turned
   sweep_tells v [] = record {
-    good_told = refl;
     lost_told = by v.lost;
     stays_told = omega arith;
     points-told = omega arith;
@@ -251,17 +240,40 @@ module _ (f p : Entry → Bool) where
       turn b c g = ap (λ (x : Bool). cond (cond x false b) (took_one v) (stayed (length e.points) v)) g
 
       by : (a b c : Bool) → f e ≡ a → p e ≡ b → v.taken ≡ c → Tells (turned a b (length e.points) v) u l → Tells v u (e ∷ l)
-      by false b c k h g t = not_kept e l v.good v.stays v.points v.place v.from v.index u v.lost v.taken k t
-      by true b true k h g t = stays_on e l v.good v.stays v.points v.place v.from v.index u v.lost v.taken k (λ z. absurd (let o : ◌≡◌ {A = ℕ} 0 1 = cc in omega arith)) (subst (λ (w : Survey). Tells w u l) (turn b true g) t)
-      by true true false k h g t = took e l v.good v.stays v.points v.place v.from v.index u v.lost v.taken g k h (subst (λ (w : Survey). Tells w u l) (turn true false g) t)
-      by true false false k h g t = stays_on e l v.good v.stays v.points v.place v.from v.index u v.lost v.taken k (λ _. h) (subst (λ (w : Survey). Tells w u l) (turn false false g) t)
+      by false b c k h g t = not_kept e l v.stays v.points v.place v.from v.index u v.lost v.taken k t
+      by true b true k h g t = stays_on e l v.stays v.points v.place v.from v.index u v.lost v.taken k (λ z. absurd (let o : ◌≡◌ {A = ℕ} 0 1 = cc in omega arith)) (subst (λ (w : Survey). Tells w u l) (turn b true g) t)
+      by true true false k h g t = took e l v.stays v.points v.place v.from v.index u v.lost v.taken g k h (subst (λ (w : Survey). Tells w u l) (turn true false g) t)
+      by true false false k h g t = stays_on e l v.stays v.points v.place v.from v.index u v.lost v.taken k (λ _. h) (subst (λ (w : Survey). Tells w u l) (turn false false g) t)
 
 -- ---- of a table
 
-module _ (rule : Rule) (s : List ℕ) {v : Survey} (g : is_map s ≡ true) (e : v ≡ survey_of rule s) where
-  tells : Tells (keeps rule) (takes rule) (start true) v (excluded_at s)
+module _ (rule : Rule) (s : List ℕ) where
+  -- bytes that are no table
+  pub told_bad : {e : Refusal} → Err e ≡ survey_of rule s → (is_map s ≡ false) × (e ≡ Refusal.LentBytesUnreadable)
   unfolding survey_of
-  tells = rw (e, g) (sweep_tells (keeps rule) (takes rule) (start true) (excluded_at s))
+  told_bad = by (is_map s) refl
+    where
+      by : {e : Refusal} → (b : Bool) → is_map s ≡ b → ◌≡◌ {A = Result Survey Refusal} (Err e) (cond b (Ok (sweep (keeps rule) (takes rule) start (excluded_at s))) (Err Refusal.LentBytesUnreadable)) → (is_map s ≡ false) × (e ≡ Refusal.LentBytesUnreadable)
+      by false k h = (k, cc)
+      by true k h = cc
+
+  told_as : {v : Survey} → Ok v ≡ survey_of rule s → (is_map s ≡ true) × (v ≡ sweep (keeps rule) (takes rule) start (excluded_at s))
+  unfolding survey_of
+  told_as = by (is_map s) refl
+    where
+      by : {v : Survey} → (b : Bool) → is_map s ≡ b → ◌≡◌ {A = Result Survey Refusal} (Ok v) (cond b (Ok (sweep (keeps rule) (takes rule) start (excluded_at s))) (Err Refusal.LentBytesUnreadable)) → (is_map s ≡ true) × (v ≡ sweep (keeps rule) (takes rule) start (excluded_at s))
+      by true k h = (k, cc)
+      by false k h = cc
+
+  pub told_good : {v : Survey} → Ok v ≡ survey_of rule s → is_map s ≡ true
+  told_good e = (told_as e).0
+
+module _ (rule : Rule) (s : List ℕ) {v : Survey} (e : Ok v ≡ survey_of rule s) where
+  is : is_map s ≡ true
+  is = told_good rule s e
+
+  tells : Tells (keeps rule) (takes rule) start v (excluded_at s)
+  tells = rw (told_as rule s e).1 (sweep_tells (keeps rule) (takes rule) start (excluded_at s))
 
   pub told_lost : v.lost ≡ loses (keeps rule) (takes rule) (excluded_at s)
   unfolding start
@@ -287,42 +299,8 @@ module _ (rule : Rule) (s : List ℕ) {v : Survey} (g : is_map s ≡ true) (e : 
   unfolding start
   told-index = omega (arith, tells.index-told)
 
--- bytes that are no table
-module _ (rule : Rule) (s : List ℕ) {v : Survey} (e : v ≡ survey_of rule s) where
-  pub told_bad : not v.good ≡ true → is_map s ≡ false
-  unfolding survey_of start
-  told_bad h = by (is_map s) refl
-    where
-      by : (b : Bool) → is_map s ≡ b → is_map s ≡ false
-      by false k = k
-      by true k =
-          let y : v.good ≡ true = (tells rule s k e).good_told in
-          let z : v.good ≡ false = not-true v.good h in
-          absurd (let o : ◌≡◌ {A = ℕ} 0 1 = cc in omega arith)
-
-  pub told_good : not v.good ≡ false → is_map s ≡ true
-  unfolding survey_of start
-  told_good h = by (is_map s) refl
-    where
-      by : (b : Bool) → is_map s ≡ b → is_map s ≡ true
-      by true k = k
-      by false k =
-          let y : v.good ≡ false = rw (e, k) in
-          let z : v.good ≡ true = not-false v.good h in
-          absurd (let o : ◌≡◌ {A = ℕ} 0 1 = cc in omega arith)
-
   pub stays_few : v.stays ≤ 64
-  unfolding survey_of start
-  stays_few = by (is_map s) refl
-    where
-      by : (b : Bool) → is_map s ≡ b → v.stays ≤ 64
-      by true k = omega (arith, told_stays rule s k e, stay-few (keeps rule) (takes rule) false (excluded_at s), map-count s k, map-few s k)
-      by false k = let z : v.stays ≡ 0 = rw (e, k) in omega arith
+  stays_few = omega (arith, told_stays, stay-few (keeps rule) (takes rule) false (excluded_at s), map-count s is, map-few s is)
 
   pub points-few : v.points ≤ 512
-  unfolding survey_of start
-  points-few = by (is_map s) refl
-    where
-      by : (b : Bool) → is_map s ≡ b → v.points ≤ 512
-      by true k = omega (arith, told-points rule s k e, stay-points (keeps rule) (takes rule) false (excluded_at s), map-points s k)
-      by false k = let z : v.points ≡ 0 = rw (e, k) in omega arith
+  points-few = omega (arith, told-points, stay-points (keeps rule) (takes rule) false (excluded_at s), map-points s is)

@@ -4,8 +4,10 @@ use Prim.Native.Nat.{ℕ, suc, ◌+◌, ◌-◌, ◌*◌, ◌≤◌, ◌<◌}
 use mathlib.Core.Bool.{Bool, true, false, true≢false, not, cond}
 use mathlib.Core.List.{List}
 use native.Mathlib.Omega.{arith}
-use borrow.Author.Tests.{eq-eqb, ne_eqb, le-leb, lt-leb, not-true, not-false}
+use borrow.Author.Tests.{eq-eqb, ne_eqb, le-leb, lt-leb}
 use lib.Dec.{eqb}
+use Rattle.std.specs.Prelude.{Option, Result, Ok, Err}
+use Rattle.error.specs.declared.{Refusal.Refusal}
 use lib.ListN.{length, take, drop, length-drop}
 use lib.Seq.{take_all, drop-drop}
 use Rattle.arithmetic.specs.LittleEndian.{u32_at, u64_at}
@@ -16,92 +18,10 @@ use Rattle.out_points.specs.OutPoints.{eq_hash, byte32_at}
 use Rattle.exclusion_entries.specs.Exclusions.{has_hash}
 use Rattle.exclusion_entries.specs.declared.{Rule.Rule, Words.Words, Survey.Survey}
 use Rattle.exclusion_entries.specs.Entries.{entry_of, size_of, entries_in, excluded_at, is_entry, are_entries, map_size, is_map}
-use Rattle.exclusion_entries.specs.Survey.{keeps, takes, lost_one, took_one, stayed, turned, sweep, start, words_of, may_touch, survey_of}
+use Rattle.exclusion_entries.specs.Survey.{Small, keeps, takes, lost_one, took_one, stayed, turned, sweep, start, words_of, may_touch, survey_of}
 use Rattle.exclusion_entries.proofs.EntryLaws.{points-count}
 
--- ---- one entry
-
-module _ (n : ℕ) (v : Survey) where
-  pub stayed-taken : v.taken ≡ true
-      → ◌≡◌ {A = Survey} (record { good = v.good; lost = v.lost; taken = v.taken; stays = v.stays + 1; points = v.points + n; place = v.place; from = v.from; index = v.index }) (stayed n v)
-  unfolding stayed
-  stayed-taken e = rw e
-
-  pub stayed_lost : {z : ℕ} → z ≡ 48 + 36 * n → v.taken ≡ false → v.lost ≡ true
-      → ◌≡◌ {A = Survey} (record { good = v.good; lost = v.lost; taken = v.taken; stays = v.stays + 1; points = v.points + n; place = v.place + z; from = v.from; index = v.index }) (stayed n v)
-  unfolding stayed
-  stayed_lost ez e f = rw (ez, e, f)
-
-  pub stayed-front : {z : ℕ} → z ≡ 48 + 36 * n → v.taken ≡ false → v.lost ≡ false
-      → ◌≡◌ {A = Survey} (record { good = v.good; lost = v.lost; taken = v.taken; stays = v.stays + 1; points = v.points + n; place = v.place + z; from = v.from + z; index = v.index + 1 }) (stayed n v)
-  unfolding stayed
-  stayed-front ez e f = rw (ez, e, f)
-
-  module _ (kept taken : Bool) where
-    pub turned_lost : not kept ≡ true
-        → ◌≡◌ {A = Survey} (record { good = v.good; lost = true; taken = v.taken; stays = v.stays; points = v.points; place = v.place; from = v.from; index = v.index }) (turned kept taken n v)
-    unfolding turned lost_one
-    turned_lost h = rw (not-true kept h)
-
-    module _ (h : not kept ≡ false) where
-      pub turned_again : {w : Survey} → v.taken ≡ true → w ≡ stayed n v → w ≡ turned kept taken n v
-      unfolding turned
-      turned_again f e = e ∙ rw (not-false kept h, f)
-
-      module _ (f : v.taken ≡ false) where
-        pub turned-took : taken ≡ true
-            → ◌≡◌ {A = Survey} (record { good = v.good; lost = v.lost; taken = true; stays = v.stays; points = v.points; place = v.place; from = v.from; index = v.index }) (turned kept taken n v)
-        unfolding turned took_one
-        turned-took e = rw (not-false kept h, f, e)
-
-        pub turned-stayed : {w : Survey} → taken ≡ false → w ≡ stayed n v → w ≡ turned kept taken n v
-        unfolding turned
-        turned-stayed g e = e ∙ rw (not-false kept h, f, g)
-
-pub start_is : (good : Bool) → ◌≡◌ {A = Survey} (record { good = good; lost = false; taken = false; stays = 0; points = 0; place = 4; from = 4; index = 0 }) (start good)
-unfolding start
-start_is good = refl
-
-pub turned_by : (rule : Rule) (n : ℕ) (v : Survey) (x : List ℕ) {p q : Bool} {u : Survey} → p ≡ keeps rule (entry_of x) → q ≡ takes rule (entry_of x) → u ≡ turned p q n v
-    → u ≡ turned (keeps rule (entry_of x)) (takes rule (entry_of x)) n v
-turned_by rule n v x ep eq e = e ∙ rw (ep, eq)
-
 -- ---- an entry that the rule does not touch
-
-pub words_all : (rule : Rule) → rule ≡ Rule.All → ◌≡◌ {A = Words} (record { always = false; old = 0; new = 0 }) (words_of rule)
-unfolding words_of
-words_all rule e = rw e
-
-module _ (rule : Rule) where
-  pub words_enter : {h : Byte32} → rule ≡ Rule.Enter h → ◌≡◌ {A = Words} (record { always = false; old = h.a; new = h.a }) (words_of rule)
-  unfolding words_of
-  words_enter e = rw e
-
-  pub words-remove : {h : Byte32} → rule ≡ Rule.Remove h → ◌≡◌ {A = Words} (record { always = false; old = h.a; new = h.a }) (words_of rule)
-  unfolding words_of
-  words-remove e = rw e
-
-  pub words-migrate : {o h : Byte32} → rule ≡ Rule.Migrate o h → ◌≡◌ {A = Words} (record { always = false; old = o.a; new = h.a }) (words_of rule)
-  unfolding words_of
-  words-migrate e = rw e
-
-  pub words-truncate : {tip : BlockNumber} → rule ≡ Rule.Truncate tip → ◌≡◌ {A = Words} (record { always = true; old = 0; new = 0 }) (words_of rule)
-  unfolding words_of
-  words-truncate e = rw e
-
-module _ (w : Words) (x : List ℕ) where
-  pub touch_always : w.always ≡ true → true ≡ may_touch w x
-  unfolding may_touch
-  touch_always e = rw e
-
-  module _ (f : w.always ≡ false) {a : ℕ} (e : a ≡ u64_at x 0) where
-    pub touch_old : a ≡ w.old → true ≡ may_touch w x
-    unfolding may_touch
-    touch_old h = rw (f, eq-eqb (u64_at x 0) w.old (sym e ∙ h))
-
-    pub touch_new : (a ≡ w.old → ⊥) → eqb a w.new ≡ may_touch w x
-    unfolding may_touch
-    touch_new h = rw (f, ne_eqb (u64_at x 0) w.old (λ z. h (e ∙ z)), e)
 
 -- another first word is another hash
 other_hash : (x : List ℕ) (h : Byte32) → eqb (u64_at x 0) h.a ≡ false → has_hash h (entry_of x) ≡ false
@@ -142,9 +62,9 @@ pub record Bounded (v : Survey) (i at left : ℕ) : Type 0 where
   pub from_most : v.from ≤ at
   pub index_most : v.index ≤ i
 
-bounded_start : (good : Bool) → Bounded (start good) 0 4 512
+bounded_start : Bounded start 0 4 512
 unfolding start
-bounded_start good = omega arith
+bounded_start = omega arith
 
 bounded_turn : {v : Survey} {i at left : ℕ} (n : ℕ) (kept taken : Bool) → Bounded v i at left → n ≤ left → Bounded (turned kept taken n v) (i + 1) (at + (48 + 36 * n)) (left - n)
 unfolding turned stayed took_one lost_one
@@ -158,9 +78,8 @@ bounded_turn n false taken b h = record {
 bounded_turn {v} {i} {at} {left} n true taken b h = by v.taken v.lost taken
   where
     by : (t l k : Bool)
-        → Bounded (cond (cond t false k) (record { good = v.good; lost = v.lost; taken = true; stays = v.stays; points = v.points; place = v.place; from = v.from; index = v.index })
+        → Bounded (cond (cond t false k) (record { lost = v.lost; taken = true; stays = v.stays; points = v.points; place = v.place; from = v.from; index = v.index })
         (record {
-          good = v.good;
           lost = v.lost;
           taken = v.taken;
           stays = v.stays + 1;
@@ -183,23 +102,23 @@ pub record Sweeping (rule : Rule) (s : List ℕ) (n : ℕ) (v : Survey) (at left
   pub room : at + 48 * (n - i) + 36 * left ≤ map_size
   pub bounded : Bounded v i at left
   pub reads : are_entries (n - i) left (drop at s) ≡ is_map s
-  pub swept : sweep (keeps rule) (takes rule) v (entries_in (n - i) (drop at s)) ≡ sweep (keeps rule) (takes rule) (start true) (excluded_at s)
+  pub swept : sweep (keeps rule) (takes rule) v (entries_in (n - i) (drop at s)) ≡ sweep (keeps rule) (takes rule) start (excluded_at s)
 
 module _ (rule : Rule) (s : List ℕ) where
-  pub sweep_other : {v : Survey} → (length s ≡ map_size → ⊥) → v ≡ start false → v ≡ survey_of rule s
+  pub sweep_other : (length s ≡ map_size → ⊥) → Err Refusal.LentBytesUnreadable ≡ survey_of rule s
   unfolding survey_of is_map
-  sweep_other h e = e ∙ rw (ne_eqb (length s) map_size h)
+  sweep_other h = rw (ne_eqb (length s) map_size h)
 
   module _ {n : ℕ} (l : length s ≡ map_size) (e : n ≡ word s 0) where
-    pub sweep_many : {v : Survey} → 64 < n → v ≡ start false → v ≡ survey_of rule s
+    pub sweep_many : 64 < n → Err Refusal.LentBytesUnreadable ≡ survey_of rule s
     unfolding survey_of is_map word
-    sweep_many h f = f ∙ rw (eq-eqb (length s) map_size l, lt-leb (u32_at s 0) 64 (omega arith))
+    sweep_many h = rw (eq-eqb (length s) map_size l, lt-leb (u32_at s 0) 64 (omega arith))
 
-    pub sweep-none : {v : Survey} → n ≤ 64 → v ≡ start true → Sweeping rule s n v 4 512 0
+    pub sweep-none : {v : Survey} → n ≤ 64 → v ≡ start → Sweeping rule s n v 4 512 0
     unfolding is_map word excluded_at start
     sweep-none {v} h f =
         let z : u32_at s 0 ≡ n - 0 = omega arith in
-        let b : Bounded v 0 4 512 = rw f (bounded_start true) in
+        let b : Bounded v 0 4 512 = rw f (bounded_start) in
         let m : is_map s ≡ are_entries (u32_at s 0) 512 (drop 4 s) = rw (eq-eqb (length s) map_size l, le-leb (u32_at s 0) 64 (omega arith)) in
         record {
           long = l;
@@ -212,6 +131,13 @@ module _ (rule : Rule) (s : List ℕ) where
         }
 
 module _ {rule : Rule} {s : List ℕ} {n : ℕ} {v : Survey} {at left i : ℕ} (w : Sweeping rule s n v at left i) where
+  pub sweep_small : {c : ℕ} → i < n → c ≤ left → Small c v
+  sweep_small h k =
+      let b = w.bounded in
+      let r = w.room in
+      let f = w.few in
+      record { n_small = omega arith; stays_small = omega arith; points_small = omega arith; place_small = omega arith; from_small = omega arith; index_small = omega arith }
+
   -- the first of the entries that are left, and the rest
   module _ (h : i < n) {x : List ℕ} (ex : x ≡ take (length s - at) (drop at s)) where
     here : x ≡ drop at s
@@ -230,25 +156,25 @@ module _ {rule : Rule} {s : List ℕ} {n : ℕ} {v : Survey} {at left i : ℕ} (
     reads_on = ap₂ (λ (k : ℕ) (y : List ℕ). are_entries k left y) (sym next) here ∙ w.reads
 
     module _ {c : ℕ} (ec : c ≡ u32_at x 44) where
-      pub sweep-full : {u : Survey} → left < c → u ≡ start false → u ≡ survey_of rule s
+      pub sweep-full : left < c → Err Refusal.LentBytesUnreadable ≡ survey_of rule s
       unfolding survey_of are_entries
-      sweep-full {u} k f = f ∙ by (is_entry x) refl
+      sweep-full k = by (is_entry x) refl
         where
-          by : (t : Bool) → is_entry x ≡ t → start false ≡ survey_of rule s
+          by : (t : Bool) → is_entry x ≡ t → Err Refusal.LentBytesUnreadable ≡ survey_of rule s
           by true e = rw (← reads_on, e, ← ec, lt-leb c left k)
           by false e = rw (← reads_on, e)
 
       module _ (k : c ≤ left) {b : Bool} (eb : b ≡ is_entry x) where
-        pub sweep_bad : {u : Survey} → not b ≡ true → u ≡ start false → u ≡ survey_of rule s
+        pub sweep_bad : b ≡ false → Err Refusal.LentBytesUnreadable ≡ survey_of rule s
         unfolding survey_of are_entries
-        sweep_bad g f = f ∙ rw (← reads_on, ← eb, not-true b g)
+        sweep_bad g = rw (← reads_on, ← eb, g)
 
-        module _ (g : not b ≡ false) {u : Survey} where
+        module _ (g : b ≡ true) {u : Survey} where
           turned-one : u ≡ turned (keeps rule (entry_of x)) (takes rule (entry_of x)) c v → Sweeping rule s n u (at + (48 + 36 * c)) (left - c) (i + 1)
           unfolding are_entries entries_in sweep
           turned-one on =
               let r = w.room in
-              let yes : is_entry x ≡ true = sym eb ∙ not-false b g in
+              let yes : is_entry x ≡ true = sym eb ∙ g in
               let p = keeps rule (entry_of x) in
               let q = takes rule (entry_of x) in
               let m : length (entry_of x).points ≡ c = points-count x (let l = whole in omega arith) ∙ sym ec in
@@ -272,12 +198,12 @@ module _ {rule : Rule} {s : List ℕ} {n : ℕ} {v : Survey} {at left i : ℕ} (
           pub sweep_touched : {z : ℕ} → z ≡ 48 + 36 * c → u ≡ turned (keeps rule (entry_of x)) (takes rule (entry_of x)) c v → Sweeping rule s n u (at + z) (left - c) (i + 1)
           sweep_touched ez on = rw ez (turned-one on)
 
-          pub sweep_passed : {o : Words} {m : Bool} {z : ℕ} → o ≡ words_of rule → m ≡ may_touch o x → z ≡ 48 + 36 * c → m ≡ false → u ≡ stayed c v → Sweeping rule s n u (at + z) (left - c) (i + 1)
-          sweep_passed eo em ez f e = sweep_touched ez (e ∙ passes rule c v x (ap (λ (y : Words). may_touch y x) (sym eo) ∙ sym em ∙ f))
+          pub sweep_passed : {o : Option Words} {m : Bool} {z : ℕ} → o ≡ words_of rule → m ≡ may_touch o x → z ≡ 48 + 36 * c → m ≡ false → u ≡ stayed c v → Sweeping rule s n u (at + z) (left - c) (i + 1)
+          sweep_passed eo em ez f e = sweep_touched ez (e ∙ passes rule c v x (ap (λ (y : Option Words). may_touch y x) (sym eo) ∙ sym em ∙ f))
 
-  pub sweep-end : n ≤ i → v ≡ survey_of rule s
+  pub sweep-end : n ≤ i → Ok v ≡ survey_of rule s
   unfolding survey_of are_entries entries_in sweep
   sweep-end h =
       let z : n - i ≡ 0 = let k = w.within in omega arith in
       let good : is_map s ≡ true = sym w.reads ∙ ap (λ (k : ℕ). are_entries k left (drop at s)) z in
-      rw good (ap (λ (k : ℕ). sweep (keeps rule) (takes rule) v (entries_in k (drop at s))) (sym z) ∙ w.swept)
+      rw good (ap Ok (ap (λ (k : ℕ). sweep (keeps rule) (takes rule) v (entries_in k (drop at s))) (sym z) ∙ w.swept))

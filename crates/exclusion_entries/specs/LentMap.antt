@@ -1,8 +1,11 @@
 -- The calls on a lent exclusion map: "our transaction unreadable is 1, then a script or lent list 3", where the map is the first of the lent lists. Of bytes that
 -- are a map each call has its rule (Exclusions.antt) over the entries that they hold.
-use Rattle.std.specs.Prelude.{ℕ, List}
+use Rattle.std.specs.Prelude.{ℕ, cond, List, Result, Ok, Err}
+use lib.{Dec.eqb, ListN.length}
+use Rattle.error.specs.declared.{Refusal.Refusal}
 use Rattle.molecule.specs.Molecule.{readable, option}
 use Rattle.transaction.specs.Ckb.{Transaction}
+use Rattle.out_points.specs.{declared.Byte32.Byte32, OutPoints.byte32_at}
 use Rattle.out_points.specs.Tables.{done, refused, check}
 use Rattle.table_bytes.specs.Lent.{After, leaving}
 use Rattle.exclusion_entries.specs.Exclusions.{Entry, Ruling}
@@ -24,3 +27,7 @@ left (refused n s) = s
 -- a call that leaves the table: 0 or the refusal's number, and the buffer, which was b
 unfoldable pub lent_list : List ℕ → List ℕ → ℕ × List ℕ → ℕ × List ℕ
 lent_list s b o = check (is_map s) (3, b) o
+
+-- the hash that lent bytes are
+unfoldable pub hash_of : List ℕ → Result Byte32 Refusal
+hash_of s = cond (eqb (length s) 32) (Ok (byte32_at s 0)) (Err Refusal.LentBytesUnreadable)

@@ -1,11 +1,12 @@
 -- What a call makes of the entries of a table, and the numbers that one pass over them finds.
-use Rattle.std.specs.Prelude.{ℕ, ◌+◌, ◌*◌, Bool, true, false, not, cond, List, [], ◌∷◌}
+use Rattle.std.specs.Prelude.{ℕ, ◌+◌, ◌*◌, ◌≤◌, Bool, true, false, not, cond, List, [], ◌∷◌, Option, Some, None, Result, Ok, Err}
 use lib.{Dec.eqb, ListN.length}
 use Rattle.arithmetic.specs.LittleEndian.{u64_at}
+use Rattle.error.specs.declared.{Refusal.Refusal}
 use Rattle.out_points.specs.Tables.{keep}
 use Rattle.exclusion_entries.specs.Exclusions.{Entry, has_hash, is_recent}
 use Rattle.exclusion_entries.specs.declared.{Rule.Rule, Words.Words, Survey.Survey}
-use Rattle.exclusion_entries.specs.Entries.{excluded_at, is_map}
+use Rattle.exclusion_entries.specs.Entries.{excluded_at, map_size, is_map}
 
 -- whether the entry is kept, and whether a new one is to take its place
 unfoldable pub keeps : Rule → Entry → Bool
@@ -52,14 +53,13 @@ module _ (f p : Entry → Bool) where
 
 -- an entry with n out points is not kept, is taken, stays
 unfoldable pub lost_one : Survey → Survey
-lost_one v = record { good = v.good; lost = true; taken = v.taken; stays = v.stays; points = v.points; place = v.place; from = v.from; index = v.index }
+lost_one v = record { lost = true; taken = v.taken; stays = v.stays; points = v.points; place = v.place; from = v.from; index = v.index }
 
 unfoldable pub took_one : Survey → Survey
-took_one v = record { good = v.good; lost = v.lost; taken = true; stays = v.stays; points = v.points; place = v.place; from = v.from; index = v.index }
+took_one v = record { lost = v.lost; taken = true; stays = v.stays; points = v.points; place = v.place; from = v.from; index = v.index }
 
 unfoldable pub stayed : ℕ → Survey → Survey
 stayed n v = record {
-  good = v.good;
   lost = v.lost;
   taken = v.taken;
   stays = v.stays + 1;
@@ -77,19 +77,30 @@ sweep f p v [] = v
 sweep f p v (e ∷ l) = sweep f p (turned (f e) (p e) (length e.points) v) l
 
 -- before the first entry
-unfoldable pub start : Bool → Survey
-start good = record { good = good; lost = false; taken = false; stays = 0; points = 0; place = 4; from = 4; index = 0 }
+unfoldable pub start : Survey
+start = record { lost = false; taken = false; stays = 0; points = 0; place = 4; from = 4; index = 0 }
 
--- the first words of the hashes that a rule goes by, and whether it may touch the entry at the start of x
-unfoldable pub words_of : Rule → Words
-words_of Rule.All = record { always = false; old = 0; new = 0 }
-words_of (Rule.Enter h) = record { always = false; old = h.a; new = h.a }
-words_of (Rule.Remove h) = record { always = false; old = h.a; new = h.a }
-words_of (Rule.Migrate o h) = record { always = false; old = o.a; new = h.a }
-words_of (Rule.Truncate tip) = record { always = true; old = 0; new = 0 }
+-- no sum of a pass is too wide: what it has found so far, and the n out points of the next entry
+pub record Small (n : ℕ) (v : Survey) : Type 0 where
+  pub n_small : n ≤ 512
+  pub stays_small : v.stays ≤ 64
+  pub points_small : v.points ≤ 512
+  pub place_small : v.place ≤ map_size
+  pub from_small : v.from ≤ map_size
+  pub index_small : v.index ≤ 64
 
-unfoldable pub may_touch : Words → List ℕ → Bool
-may_touch w x = cond w.always true (cond (eqb (u64_at x 0) w.old) true (eqb (u64_at x 0) w.new))
+-- the first words of the hashes that a rule goes by, if it goes by hashes, and whether it may touch the entry at the start of x
+unfoldable pub words_of : Rule → Option Words
+words_of Rule.All = Some (record { old = 0; new = 0 })
+words_of (Rule.Enter h) = Some (record { old = h.a; new = h.a })
+words_of (Rule.Remove h) = Some (record { old = h.a; new = h.a })
+words_of (Rule.Migrate o h) = Some (record { old = o.a; new = h.a })
+words_of (Rule.Truncate tip) = None
 
-unfoldable pub survey_of : Rule → List ℕ → Survey
-survey_of rule s = cond (is_map s) (sweep (keeps rule) (takes rule) (start true) (excluded_at s)) (start false)
+unfoldable pub may_touch : Option Words → List ℕ → Bool
+may_touch (Some w) x = cond (eqb (u64_at x 0) w.old) true (eqb (u64_at x 0) w.new)
+may_touch None x = true
+
+-- of bytes that are a table
+unfoldable pub survey_of : Rule → List ℕ → Result Survey Refusal
+survey_of rule s = cond (is_map s) (Ok (sweep (keeps rule) (takes rule) start (excluded_at s))) (Err Refusal.LentBytesUnreadable)

@@ -1,14 +1,16 @@
 // The exclusion map as lent bytes: a count of four bytes, then the entries one after the other, each 48 bytes and 36 for each out point: the hash (32), the
 // kind (4: 0 pending, 1 committed), the block (8; 0 while pending), the list of the out points. Here it is read: one entry, and all in one pass.
-#![tactic(auto)]
+#![tactic(auto, using(crate::proofs::Ways::ways))]
 
-ghost use Rattle.std.specs.Prelude.{◌≡◌, true, false, ◌+◌, ◌*◌, ◌≤◌};
+ghost use Rattle.std.specs.Prelude.{◌≡◌, ◌+◌, ◌*◌};
 ghost use Rattle.arithmetic.specs.LittleEndian.{u32_at};
 ghost use Rattle.exclusion_entries.specs.Exclusions.{has_hash, is_recent};
-ghost use Rattle.exclusion_entries.specs.Entries.{entry_of, is_entry, map_size};
-ghost use Rattle.exclusion_entries.specs.Survey.{keeps, takes, stayed, turned, start, words_of, may_touch, survey_of};
+ghost use Rattle.exclusion_entries.specs.Entries.{entry_of, is_entry};
+ghost use Rattle.exclusion_entries.specs.LentMap.{hash_of};
+ghost use Rattle.exclusion_entries.specs.Survey.{Small, keeps, takes, stayed, turned, start, words_of, may_touch, survey_of};
 
 use arithmetic::little_endian;
+use error::Refusal;
 use out_points::Byte32;
 use units::BlockNumber;
 
@@ -24,7 +26,7 @@ pub const MAP_BYTES: usize = 4 + 48 * MOST_ENTRIES + 36 * MOST_OUT_POINTS;
 const KEEP_BLOCK_PERIOD: u64 = 13;
 
 // What a call does to the entries.
-#[derive(Clone, Copy)]
+#[derive(Clone, Copy, Debug, PartialEq, Eq, Hash)]
 pub enum Rule {
     // All stay.
     All,
@@ -38,20 +40,16 @@ pub enum Rule {
     Truncate(BlockNumber),
 }
 
-// By the first word of its hash an entry is told that the rule does not touch.
-#[derive(Clone, Copy)]
+// The first words of the hashes that a rule goes by: it does not touch an entry whose hash begins with neither.
+#[derive(Clone, Copy, Debug, PartialEq, Eq, Hash)]
 struct Words {
-    // The rule does not go by hashes.
-    always: bool,
     old: u64,
     new: u64,
 }
 
 // What a pass over a table finds.
-#[derive(Clone, Copy)]
+#[derive(Clone, Copy, Debug, PartialEq, Eq, Hash)]
 pub struct Survey {
-    // Whether the bytes are a table: the rest is of no use where they are not.
-    pub good: bool,
     // Whether an entry goes, and whether one gives its place.
     pub lost: bool,
     pub taken: bool,
@@ -82,75 +80,78 @@ pub fn entry_size(n: u32) -> usize
 }
 
 // Whether its kind and its block are in form.
+#[tactic(auto, unfolding(crate::specs::Entries::is_entry))]
 fn is_entry(x: &[u8]) -> bool
     ensures { result ≡ is_entry x.now }
 {
     let kind = little_endian::u32_at(x, 32);
     let block = little_endian::u64_at(x, 36);
-    if kind == 0 {
-        return block == 0;
-    }
-    kind == 1
+    (kind == 0 && block == 0) || kind == 1
 }
 
 // Whether it is the transaction `hash`. What follows the first word is read only where that is the same.
+#[tactic(auto, unfolding(crate::specs::Exclusions::has_hash, crate::specs::Entries::entry_of, out_points::specs::OutPoints::eq_hash, out_points::specs::OutPoints::byte32_at))]
 pub fn has_hash(x: &[u8], hash: Byte32) -> bool
     ensures { result ≡ has_hash hash (entry_of x.now) }
 {
-    let a = little_endian::u64_at(x, 0);
-    if a != hash.a {
-        return false;
-    }
-    let h = out_points::byte32_at(x, 0);
-    out_points::same_hash(h, hash)
+    little_endian::u64_at(x, 0) == hash.a
+        && out_points::same_hash(out_points::byte32_at(x, 0), hash)
 }
 
 // Whether it is pending, or was committed after what `truncate` drops at this tip.
+#[tactic(auto, unfolding(crate::specs::Exclusions::is_recent, crate::specs::Entries::entry_of, crate::specs::Entries::state_of))]
 fn is_recent(x: &[u8], tip: BlockNumber) -> bool
     ensures { result ≡ is_recent tip (entry_of x.now).committed }
 {
     let kind = little_endian::u32_at(x, 32);
-    if kind == 0 {
-        return true;
-    }
     let block = BlockNumber(little_endian::u64_at(x, 36));
-    !tip.at_least(block, KEEP_BLOCK_PERIOD)
+    kind == 0 || !tip.at_least(block, KEEP_BLOCK_PERIOD)
 }
 
 // Whether the call keeps it.
+#[tactic(auto, unfolding(crate::specs::Survey::keeps))]
 pub fn keeps(rule: Rule, x: &[u8]) -> bool
     ensures { result ≡ keeps rule (entry_of x.now) }
 {
     match rule {
-        Rule::All => true,
-        Rule::Enter(_) => true,
-        Rule::Remove(h) => !has_hash(x, h),
-        Rule::Migrate(o, _) => !has_hash(x, o),
+        Rule::All | Rule::Enter(_) => true,
+        Rule::Remove(h) | Rule::Migrate(h, _) => !has_hash(x, h),
         Rule::Truncate(tip) => is_recent(x, tip),
     }
 }
 
 // Whether a new entry may take its place.
+#[tactic(auto, unfolding(crate::specs::Survey::takes))]
 pub fn takes(rule: Rule, x: &[u8]) -> bool
     ensures { result ≡ takes rule (entry_of x.now) }
 {
     match rule {
-        Rule::All => false,
-        Rule::Enter(h) => has_hash(x, h),
-        Rule::Remove(_) => false,
-        Rule::Migrate(_, h) => has_hash(x, h),
-        Rule::Truncate(_) => false,
+        Rule::Enter(h) | Rule::Migrate(_, h) => has_hash(x, h),
+        Rule::All | Rule::Remove(_) | Rule::Truncate(_) => false,
     }
+}
+
+// ---- a hash that is lent
+
+// The hash that the bytes are.
+#[tactic(auto, unfolding(crate::specs::LentMap::hash_of))]
+pub fn hash_of(s: &[u8]) -> Result<Byte32, Refusal>
+    ensures { result ≡ hash_of s.now }
+{
+    if s.len() != 32 {
+        return Err(Refusal::LentBytesUnreadable);
+    }
+    Ok(out_points::byte32_at(s, 0))
 }
 
 // ---- the pass
 
 // Before the first entry.
-fn start(good: bool) -> Survey
-    ensures { result ≡ start good }
+#[tactic(auto, unfolding(crate::specs::Survey::start))]
+fn start() -> Survey
+    ensures { result ≡ start }
 {
     Survey {
-        good,
         lost: false,
         taken: false,
         stays: 0,
@@ -162,111 +163,73 @@ fn start(good: bool) -> Survey
 }
 
 // After an entry that stays, with n out points.
+#[tactic(auto, unfolding(crate::specs::Survey::stayed))]
 fn stayed(v: Survey, n: u32) -> Survey
-    requires n_bound { n ≤ 512 }
-    requires stays_bound { v.stays ≤ 64 }
-    requires points_bound { v.points ≤ 512 }
-    requires place_le_map_size { v.place ≤ map_size }
-    requires from_le_map_size { v.from ≤ map_size }
-    requires index_bound { v.index ≤ 64 }
+    requires { Small n v }
     ensures { result ≡ stayed n v }
 {
     let size = entry_size(n);
     let mut r = v;
-    r.stays = v.stays + 1;
-    r.points = v.points + n as usize;
+    r.stays += 1;
+    r.points += n as usize;
     if v.taken {
         return r;
     }
-    r.place = v.place + size;
+    r.place += size;
     if v.lost {
         return r;
     }
-    r.from = v.from + size;
-    r.index = v.index + 1;
+    r.from += size;
+    r.index += 1;
     r
 }
 
 // After an entry with n out points.
+#[tactic(auto, unfolding(crate::specs::Survey::turned, crate::specs::Survey::lost_one, crate::specs::Survey::took_one))]
 fn turned(v: Survey, kept: bool, taken: bool, n: u32) -> Survey
-    requires n_bound { n ≤ 512 }
-    requires stays_bound { v.stays ≤ 64 }
-    requires points_bound { v.points ≤ 512 }
-    requires place_le_map_size { v.place ≤ map_size }
-    requires from_le_map_size { v.from ≤ map_size }
-    requires index_bound { v.index ≤ 64 }
+    requires { Small n v }
     ensures { result ≡ turned kept taken n v }
 {
-    let mut r = v;
     if !kept {
-        r.lost = true;
-        return r;
+        return Survey { lost: true, ..v };
     }
-    if v.taken {
-        return stayed(v, n);
-    }
-    if taken {
-        r.taken = true;
-        return r;
+    if taken && !v.taken {
+        return Survey { taken: true, ..v };
     }
     stayed(v, n)
 }
 
-// The first words of the hashes that the rule goes by.
-fn words_of(rule: Rule) -> Words
+// The first words of the hashes that the rule goes by, if it goes by hashes.
+#[tactic(auto, unfolding(crate::specs::Survey::words_of))]
+fn words_of(rule: Rule) -> Option<Words>
     ensures { result ≡ words_of rule }
 {
     match rule {
-        Rule::All => Words {
-            always: false,
-            old: 0,
-            new: 0,
-        },
-        Rule::Enter(h) => Words {
-            always: false,
-            old: h.a,
-            new: h.a,
-        },
-        Rule::Remove(h) => Words {
-            always: false,
-            old: h.a,
-            new: h.a,
-        },
-        Rule::Migrate(o, h) => Words {
-            always: false,
-            old: o.a,
-            new: h.a,
-        },
-        Rule::Truncate(_) => Words {
-            always: true,
-            old: 0,
-            new: 0,
-        },
+        // Nothing is touched, and an entry that begins with 0 stays all the same.
+        Rule::All => Some(Words { old: 0, new: 0 }),
+        Rule::Enter(h) | Rule::Remove(h) => Some(Words { old: h.a, new: h.a }),
+        Rule::Migrate(o, h) => Some(Words { old: o.a, new: h.a }),
+        Rule::Truncate(_) => None,
     }
 }
 
 // Whether the rule may touch the entry at the start of x.
-fn may_touch(w: Words, x: &[u8]) -> bool
-    ensures { result ≡ may_touch w x.now }
+#[tactic(auto, unfolding(crate::specs::Survey::may_touch))]
+fn may_touch(words: Option<Words>, x: &[u8]) -> bool
+    ensures { result ≡ may_touch words x.now }
 {
-    if w.always {
-        return true;
+    match words {
+        Some(w) => {
+            let a = little_endian::u64_at(x, 0);
+            a == w.old || a == w.new
+        }
+        None => true,
     }
-    let a = little_endian::u64_at(x, 0);
-    if a == w.old {
-        return true;
-    }
-    a == w.new
 }
 
 // After the entry at the start of x, with n out points, that the rule may touch.
 fn touched(v: Survey, rule: Rule, x: &[u8], n: u32) -> Survey
-    requires n_bound { n ≤ 512 }
-    requires stays_bound { v.stays ≤ 64 }
-    requires points_bound { v.points ≤ 512 }
-    requires place_le_map_size { v.place ≤ map_size }
-    requires from_le_map_size { v.from ≤ map_size }
-    requires index_bound { v.index ≤ 64 }
+    requires { Small n v }
     ensures { result ≡ turned (keeps rule (entry_of x.now)) (takes rule (entry_of x.now)) n v }
 {
     let kept = keeps(rule, x);
@@ -275,34 +238,32 @@ fn touched(v: Survey, rule: Rule, x: &[u8], n: u32) -> Survey
 }
 
 // Reads a table, and finds what a call by this rule makes of it.
-pub fn read_map(s: &[u8], rule: Rule) -> Survey
+pub fn read_map(s: &[u8], rule: Rule) -> Result<Survey, Refusal>
     ensures { result ≡ survey_of rule s.now }
 {
     if s.len() != MAP_BYTES {
-        return start(false);
+        return Err(Refusal::LentBytesUnreadable);
     }
     let n = molecule::word(s, 0) as usize;
     if MOST_ENTRIES < n {
-        return start(false);
+        return Err(Refusal::LentBytesUnreadable);
     }
     let w = words_of(rule);
-    let mut v = start(true);
+    let mut v = start();
     let mut at: usize = 4;
     let mut left = MOST_OUT_POINTS as u32;
-    let mut i: usize = 0;
-    while i < n {
-        let x = &s[at..s.len()];
+    for i in 0..n {
+        let x = &s[at..];
         let c = point_count(x);
         if left < c {
-            return start(false);
+            return Err(Refusal::LentBytesUnreadable);
         }
         if !is_entry(x) {
-            return start(false);
+            return Err(Refusal::LentBytesUnreadable);
         }
         let touch = may_touch(w, x);
         left -= c;
         at += entry_size(c);
-        i += 1;
         // What the rule does not touch is passed over with no look at the rule.
         if touch {
             v = touched(v, rule, x, c);
@@ -310,5 +271,5 @@ pub fn read_map(s: &[u8], rule: Rule) -> Survey
             v = stayed(v, c);
         }
     }
-    v
+    Ok(v)
 }

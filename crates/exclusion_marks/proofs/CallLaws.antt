@@ -1,22 +1,23 @@
 -- What `commit` and `apply` come to.
 use mathlib.Core.Path.{◌≡◌, refl, sym, ap, ap₂, ◌∙◌}
 use Prim.Native.Nat.{ℕ, ◌+◌, ◌*◌, ◌≤◌, ◌<◌, min}
-use mathlib.Core.Bool.{true, false, not}
+use mathlib.Core.Bool.{true, false}
 use mathlib.Core.List.{List, ◌++◌, map}
 use native.Mathlib.Omega.{arith}
 use mir.Syntax.{w32}
 use mir.Val.{Fits}
-use borrow.Author.Tests.{le-leb, lt-leb, eq-eqb, ne_eqb}
+use borrow.Author.Tests.{le-leb, lt-leb}
 use lib.ListN.{length}
 use Rattle.arithmetic.specs.LittleEndian.{to_le}
 use Rattle.arithmetic.proofs.LittleEndianLaws.{length-to_le}
-use Rattle.error.specs.declared.{Refusal.Refusal, Answer.Answer}
+use Rattle.std.specs.Prelude.{Ok, Err}
+use Rattle.error.specs.declared.{Refusal.Refusal}
 use Rattle.error.specs.Refusal.{number, answered}
 use Rattle.units.specs.declared.{BlockNumber.BlockNumber}
 use Rattle.molecule.specs.Write.{splice, put_at}
 use Rattle.molecule.proofs.WriteLaws.{put_yes, splice_zero, splice-length}
 use Rattle.out_points.specs.declared.{Byte32.Byte32}
-use Rattle.out_points.specs.OutPoints.{byte32_at, bytes_of, point_list}
+use Rattle.out_points.specs.OutPoints.{bytes_of, point_list}
 use Rattle.out_points.specs.Tables.{done, told, has_room, written}
 use Rattle.out_points.proofs.ListLaws.{length_list, length-bytes}
 use Rattle.table_bytes.specs.Lent.{leaving, with_bytes}
@@ -24,68 +25,67 @@ use Rattle.exclusion_entries.specs.declared.{Rule.Rule, Survey.Survey}
 use Rattle.exclusion_entries.specs.Exclusions.{Entry, committed_at, commit_on, excluded, apply_on}
 use Rattle.exclusion_entries.specs.Entries.{map_bytes, excluded_at, is_map}
 use Rattle.exclusion_entries.specs.Survey.{keeps, takes, stay, survey_of}
-use Rattle.exclusion_entries.specs.LentMap.{lent_map, lent_list}
-use Rattle.exclusion_entries.proofs.LentLaws.{lent-on, stay-keep, keep_all}
+use Rattle.exclusion_entries.specs.LentMap.{lent_map, lent_list, hash_of}
+use Rattle.exclusion_entries.proofs.LentLaws.{lent_unread, lent-on, stay-keep, keep_all, hash_bad, hash_good}
 use Rattle.exclusion_entries.proofs.SpliceLaws.{splice-under}
 use Rattle.exclusion_entries.proofs.StayLaws.{told-points, told_bad, told_good, points-few}
 
 -- ---- commit
 
-module _ (s hash : List ℕ) (rule : Rule) {v : Survey} (ev : v ≡ survey_of rule s) (g : not v.good ≡ false) where
-  pub commit_bad : (block : BlockNumber) → (length hash ≡ 32 → ⊥) → told (with_bytes excluded_at) (Answer.Refused Refusal.LentBytesUnreadable) s ≡ lent_map s (commit_on (excluded_at s) hash block)
-  unfolding told leaving commit_on number
-  commit_bad block n = lent-on s (commit_on (excluded_at s) hash block) (told_good rule s ev g) (rw (ne_eqb (length hash) 32 n))
+pub commit_bad : (s hash : List ℕ) (block : BlockNumber) {e : Refusal} → Err e ≡ hash_of hash → told (with_bytes excluded_at) (Err e) s ≡ lent_map s (commit_on (excluded_at s) hash block)
+unfolding told commit_on number
+commit_bad s hash block h = let (n, k) = hash_bad hash h in rw k (lent_unread s (commit_on (excluded_at s) hash block) (rw n))
 
-  pub commit-done : (block : BlockNumber) {h : Byte32} {o : List ℕ} → length hash ≡ 32 → h ≡ byte32_at hash 0 → excluded_at o ≡ map (committed_at h block) (excluded_at s) → o ≡ put_at s 0 (map_bytes (map (committed_at h block) (excluded_at s)))
-      → told (with_bytes excluded_at) Answer.Done o ≡ lent_map s (commit_on (excluded_at s) hash block)
-  unfolding told leaving with_bytes commit_on
-  commit-done block n eh m e =
-      lent-on s (commit_on (excluded_at s) hash block) (told_good rule s ev g)
-      (rw (eq-eqb (length hash) 32 n, ← eh) (ap₂ (λ (l : List Entry) (x : List ℕ). done (l, x)) m e))
+pub commit-done : (s hash : List ℕ) (rule : Rule) (block : BlockNumber) {v : Survey} {h : Byte32} {o : List ℕ} → Ok v ≡ survey_of rule s → Ok h ≡ hash_of hash
+    → excluded_at o ≡ map (committed_at h block) (excluded_at s) → o ≡ put_at s 0 (map_bytes (map (committed_at h block) (excluded_at s))) → told (with_bytes excluded_at) (Ok tt) o ≡ lent_map s (commit_on (excluded_at s) hash block)
+unfolding told leaving with_bytes commit_on
+commit-done s hash rule block ev eh m e =
+    let (n, k) = hash_good hash eh in
+    lent-on s (commit_on (excluded_at s) hash block) (told_good rule s ev)
+    (rw (n, ← k) (ap₂ (λ (l : List Entry) (x : List ℕ). done (l, x)) m e))
 
 -- ---- apply
 
-pub points-fit : (s : List ℕ) {v : Survey} → v ≡ survey_of Rule.All s → Fits w32 v.points
+pub points-fit : (s : List ℕ) {v : Survey} → Ok v ≡ survey_of Rule.All s → Fits w32 v.points
 points-fit s ev = record { fits = omega (arith, points-few Rule.All s ev) }
 
-module _ (s out : List ℕ) {v : Survey} (ev : v ≡ survey_of Rule.All s) where
-  pub apply_bad : (o : ℕ × List ℕ) → not v.good ≡ true → (answered (Answer.Refused Refusal.LentBytesUnreadable), out) ≡ lent_list s out o
-  unfolding lent_list answered number
-  apply_bad o h = rw (told_bad Rule.All s ev h)
+pub apply_bad : (s out : List ℕ) (o : ℕ × List ℕ) {e : Refusal} → Err e ≡ survey_of Rule.All s → (answered {T = Unit {0}} (Err e), out) ≡ lent_list s out o
+unfolding lent_list answered number
+apply_bad s out o h = let (n, k) = told_bad Rule.All s h in rw (n, k)
 
-  module _ (g : not v.good ≡ false) where
-    is : is_map s ≡ true
-    is = told_good Rule.All s ev g
+module _ (s out : List ℕ) {v : Survey} (ev : Ok v ≡ survey_of Rule.All s) where
+  is : is_map s ≡ true
+  is = told_good Rule.All s ev
 
-    all : stay (keeps Rule.All) (takes Rule.All) false (excluded_at s) ≡ excluded_at s
-    unfolding keeps takes
-    all = stay-keep (keeps Rule.All) (takes Rule.All) (λ e. refl) (excluded_at s) ∙ keep_all (keeps Rule.All) (λ e. refl) (excluded_at s)
+  all : stay (keeps Rule.All) (takes Rule.All) false (excluded_at s) ≡ excluded_at s
+  unfolding keeps takes
+  all = stay-keep (keeps Rule.All) (takes Rule.All) (λ e. refl) (excluded_at s) ∙ keep_all (keeps Rule.All) (λ e. refl) (excluded_at s)
 
-    counted : v.points ≡ length (excluded (excluded_at s))
-    counted = told-points Rule.All s is ev ∙ ap (λ (l : List Entry). length (excluded l)) all
+  counted : v.points ≡ length (excluded (excluded_at s))
+  counted = told-points Rule.All s ev ∙ ap (λ (l : List Entry). length (excluded l)) all
 
-    list_length : length (point_list (excluded (excluded_at s))) ≡ 4 + 36 * v.points
-    list_length = length_list (excluded (excluded_at s)) ∙ ap (λ (k : ℕ). 4 + 36 * k) (sym counted)
+  list_length : length (point_list (excluded (excluded_at s))) ≡ 4 + 36 * v.points
+  list_length = length_list (excluded (excluded_at s)) ∙ ap (λ (k : ℕ). 4 + 36 * k) (sym counted)
 
-    pub apply_short : min (length out) 133116 < 4 + 36 * v.points → (answered (Answer.Refused Refusal.BufferTooShort), out) ≡ lent_list s out (apply_on (excluded_at s) out)
-    unfolding lent_list apply_on answered number has_room
-    apply_short h = rw (is, lt-leb (length (point_list (excluded (excluded_at s)))) (min (length out) 133116) (omega (arith, list_length)))
+  pub apply_short : min (length out) 133116 < 4 + 36 * v.points → (answered {T = Unit {0}} (Err Refusal.BufferTooShort), out) ≡ lent_list s out (apply_on (excluded_at s) out)
+  unfolding lent_list apply_on answered number has_room
+  apply_short h = rw (is, lt-leb (length (point_list (excluded (excluded_at s)))) (min (length out) 133116) (omega (arith, list_length)))
 
-    pub apply-room : 4 + 36 * v.points ≤ min (length out) 133116 → 4 + 36 * length (excluded (excluded_at s)) ≤ length out
-    apply-room h = omega (arith, counted)
+  pub apply-room : 4 + 36 * v.points ≤ min (length out) 133116 → 4 + 36 * length (excluded (excluded_at s)) ≤ length out
+  apply-room h = omega (arith, counted)
 
-    pub apply-done : {o₁ o₂ : List ℕ} → 4 + 36 * v.points ≤ min (length out) 133116 → o₁ ≡ splice out 4 (bytes_of (excluded (excluded_at s))) → o₂ ≡ put_at o₁ 0 (to_le 4 v.points)
-        → (answered Answer.Done, o₂) ≡ lent_list s out (apply_on (excluded_at s) out)
-    unfolding lent_list apply_on answered has_room written point_list
-    apply-done {o₁} {o₂} h e₁ e₂ =
-        let ps = excluded (excluded_at s) in
-        let C = to_le 4 v.points in
-        let lC : length C ≡ 4 = length-to_le 4 v.points in
-        let z : 0 + length C ≡ 4 = omega arith in
-        let lb = length-bytes ps in
-        let c = counted in
-        let l : length o₁ ≡ length out = ap length e₁ ∙ splice-length out 4 (bytes_of ps) (omega arith) in
-        let same : o₂ ≡ splice out 0 (C ++ bytes_of ps) =
-        e₂ ∙ put_yes o₁ 0 C (omega arith) ∙ ap (λ (x : List ℕ). splice x 0 C) (e₁ ∙ ap (λ (j : ℕ). splice out j (bytes_of ps)) (sym z)) ∙ splice-under out 0 C (bytes_of ps) (omega arith) in
-        rw (is, le-leb (length (point_list ps)) (min (length out) 133116) (omega (arith, list_length)))
-        (ap (λ (x : List ℕ). (0, x)) (same ∙ ap (λ (j : ℕ). splice out 0 (to_le 4 j ++ bytes_of ps)) c ∙ splice_zero out (point_list ps)))
+  pub apply-done : {o₁ o₂ : List ℕ} → 4 + 36 * v.points ≤ min (length out) 133116 → o₁ ≡ splice out 4 (bytes_of (excluded (excluded_at s))) → o₂ ≡ put_at o₁ 0 (to_le 4 v.points)
+      → (answered {T = Unit {0}} (Ok tt), o₂) ≡ lent_list s out (apply_on (excluded_at s) out)
+  unfolding lent_list apply_on answered has_room written point_list
+  apply-done {o₁} {o₂} h e₁ e₂ =
+      let ps = excluded (excluded_at s) in
+      let C = to_le 4 v.points in
+      let lC : length C ≡ 4 = length-to_le 4 v.points in
+      let z : 0 + length C ≡ 4 = omega arith in
+      let lb = length-bytes ps in
+      let c = counted in
+      let l : length o₁ ≡ length out = ap length e₁ ∙ splice-length out 4 (bytes_of ps) (omega arith) in
+      let same : o₂ ≡ splice out 0 (C ++ bytes_of ps) =
+      e₂ ∙ put_yes o₁ 0 C (omega arith) ∙ ap (λ (x : List ℕ). splice x 0 C) (e₁ ∙ ap (λ (j : ℕ). splice out j (bytes_of ps)) (sym z)) ∙ splice-under out 0 C (bytes_of ps) (omega arith) in
+      rw (is, le-leb (length (point_list ps)) (min (length out) 133116) (omega (arith, list_length)))
+      (ap (λ (x : List ℕ). (0, x)) (same ∙ ap (λ (j : ℕ). splice out 0 (to_le 4 j ++ bytes_of ps)) c ∙ splice_zero out (point_list ps)))

@@ -1,6 +1,6 @@
 // The calls on a lent exclusion map that leave every entry at its place: `commit`, which gives one its block, and `apply`, which lists the cells of all. Bytes that are no map are refused; a
 // refusal leaves the map's bytes and the buffer as they were.
-#![tactic(auto)]
+#![tactic(auto, using(crate::proofs::Ways::ways))]
 
 ghost use Rattle.std.specs.Prelude.{◌≡◌, true, map, ◌+◌, ◌*◌, ◌≤◌, length, drop};
 ghost use Rattle.arithmetic.specs.LittleEndian.{AllBytes};
@@ -48,10 +48,8 @@ fn mark(s: &mut [u8], hash: Byte32, block: BlockNumber)
 {
     let n = molecule::word(s, 0) as usize;
     let mut at: usize = 4;
-    let mut i: usize = 0;
-    while i < n {
+    for i in 0..n {
         at = commit_one(s, at, hash, block);
-        i += 1;
     }
 }
 
@@ -59,17 +57,11 @@ fn mark(s: &mut [u8], hash: Byte32, block: BlockNumber)
 pub fn commit(map: &mut [u8], hash: &[u8], block: BlockNumber) -> Answer
     ensures { told (with_bytes excluded_at) result map.new ≡ lent_map map.old (commit_on (excluded_at map.old) hash.now block) }
 {
-    let v = exclusion_entries::read_map(map, Rule::All);
-    if !v.good {
-        return Answer::Refused(Refusal::LentBytesUnreadable);
-    }
-    if hash.len() != 32 {
-        return Answer::Refused(Refusal::LentBytesUnreadable);
-    }
+    let h = exclusion_entries::hash_of(hash)?;
+    exclusion_entries::read_map(map, Rule::All)?;
     are_bytes(map);
-    let h = out_points::byte32_at(hash, 0);
     mark(map, h, block);
-    Answer::Done
+    Ok(())
 }
 
 // Puts the out points of all entries from 4 on.
@@ -82,15 +74,13 @@ fn put_excluded(s: &[u8], out: &mut [u8])
     let n = molecule::word(s, 0) as usize;
     let mut to: usize = 4;
     let mut at: usize = 4;
-    let mut i: usize = 0;
-    while i < n {
+    for i in 0..n {
         let x = molecule::part(s, at, s.len());
         let c = exclusion_entries::point_count(x);
         let size = exclusion_entries::entry_size(c);
         let run = molecule::part(x, 48, size);
         to = write::put(out, to, run);
         at += size;
-        i += 1;
     }
 }
 
@@ -98,16 +88,13 @@ fn put_excluded(s: &[u8], out: &mut [u8])
 pub fn apply(map: &[u8], out: &mut [u8]) -> Answer
     ensures { (answered result, out.new) ≡ lent_list map.now out.old (apply_on (excluded_at map.now) out.old) }
 {
-    let v = exclusion_entries::read_map(map, Rule::All);
-    if !v.good {
-        return Answer::Refused(Refusal::LentBytesUnreadable);
-    }
+    let v = exclusion_entries::read_map(map, Rule::All)?;
     let n = v.points as u32;
     if !out_points::fits(n, out.len()) {
-        return Answer::Refused(Refusal::BufferTooShort);
+        return Err(Refusal::BufferTooShort);
     }
     are_bytes(map);
     put_excluded(map, out);
     write::put_u32(out, 0, n);
-    Answer::Done
+    Ok(())
 }

@@ -1,20 +1,14 @@
-use Rattle.exclusion_marks.proofs.Ways.{ways}
+use Rattle.std.proofs.Common.{◌≡◌, ◌+◌, ◌*◌, ◌≤◌, min, length, sym, ◌∙◌, arith}
+use Rattle.std.specs.Prelude.{Ok}
+use Rattle.std.proofs.lemmas.Grind.{common_steps}
+use Rattle.exclusion_entries.specs.declared.Rule.{Rule}
+use Rattle.exclusion_entries.specs.Survey.{survey_of}
+use Rattle.exclusion_marks.proofs.CallLaws.{apply-done}
 use Rattle.exclusion_marks.proofs.apply.Goals as goal
 
-pub returns-then-not-v : goal.returns-then-not-v
-returns-then-not-v c = search ways
-
-pub overflow_cast-n : goal.overflow_cast-n
-overflow_cast-n c = search ways
-
-pub returns-then-not-fits : goal.returns-then-not-fits
-returns-then-not-fits c = search ways
-
-pub put_excluded-requires-clause-s_value : goal.put_excluded-requires-clause-s_value
-put_excluded-requires-clause-s_value c = search ways
-
-pub put_excluded-requires-clause-s_in_bounds : goal.put_excluded-requires-clause-s_in_bounds
-put_excluded-requires-clause-s_in_bounds c = search ways
-
 pub returns : goal.returns
-returns c = search ways
+returns c =
+    let v = c.in_ok-v.v in
+    let read : Ok v ≡ survey_of Rule.All c.args.map.now = sym c.in_ok-v.was ∙ c.read_map.ensures in
+    let room : 4 + 36 * v.points ≤ min (length c.args.out.now) 133116 = grind (arith, common_steps) in
+    apply-done c.args.map.now c.args.out.now read room c.put_excluded.ensures c.put_u32.ensures.out_after
