@@ -1,7 +1,6 @@
 -- All that the rows compute with: a proof that unfolds `computing` unfolds every definition on its line.
 use mathlib.Core.List.{flatten}
 use Rattle.units.specs.Fee.{change_capacity}
-use Rattle.units.specs.Units.{shannon_count}
 use Rattle.transaction.specs.Tx.{args_of}
 use Rattle.funding_cell.specs.FundingCell.{cell_of, cell_of_sums, funding_cell}
 use Rattle.cell_output.specs.CellOutput.{cell_output}
@@ -17,5 +16,5 @@ use Rattle.funding_builder.specs.Base.{packed, base_tx, lists, supplied, with_pi
 use Rattle.known_cases.proofs.Computing.{computing_updates}
 
 unfoldable pub computing : Unit {0}
-unfolding computing_updates flatten change_capacity shannon_count args_of cell_of cell_of_sums funding_cell cell_output plus_cell enough_or pick_from pick_typed bytes_item fix_list item_or later if_any if_positive raw_bytes tx_bytes fits picked_input picked input_list placeholder output_list data_list witness_list pushed push_all cell_deps in_room leaves base.change_capacity packed base_tx lists supplied with_pick with_cell with_request build_base
+unfolding computing_updates flatten change_capacity args_of cell_of cell_of_sums funding_cell cell_output plus_cell enough_or pick_from pick_typed bytes_item fix_list item_or later if_any if_positive raw_bytes tx_bytes fits picked_input picked input_list placeholder output_list data_list witness_list pushed push_all cell_deps in_room leaves base.change_capacity packed base_tx lists supplied with_pick with_cell with_request build_base
 computing = tt

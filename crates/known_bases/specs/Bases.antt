@@ -3,7 +3,6 @@
 use Rattle.std.specs.Prelude.{ℕ, ◌-◌, ◌^◌, List, [], ◌∷◌, ◌++◌, replicate}
 use Rattle.std.proofs.Math.Option.{some}
 use Rattle.arithmetic.specs.LittleEndian.{to_le}
-use Rattle.arithmetic.specs.Amount.{amount_of}
 use Rattle.units.specs.Units.{in_shannons}
 use Rattle.molecule.specs.Molecule.{Value, encode}
 use Rattle.transaction.specs.Ckb.{Script, CellDep, CellDeps, CellInput, TokenCell, TokenCells}
@@ -19,10 +18,10 @@ use Rattle.known_cases.specs.Cases.{plain_script, expected_lock, our_lock, token
 -- so much local, reserve 7; remote 11, reserve 13
 abbrev pub request : ℕ → FundingRequest
 request local = record {
-  local_amount = amount_of local;
-  local_reserved_ckb_amount = in_shannons (amount_of 7);
-  remote_amount = amount_of 11;
-  remote_reserved_ckb_amount = in_shannons (amount_of 13);
+  local_amount = local;
+  local_reserved_ckb_amount = in_shannons 7;
+  remote_amount = 11;
+  remote_reserved_ckb_amount = in_shannons 13;
 }
 
 abbrev dep_list : List (Value CellDep) → List ℕ

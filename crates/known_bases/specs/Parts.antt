@@ -1,7 +1,6 @@
 -- The other calls of our own side, and the writers of a transaction, worked through: lent bytes that reach each of their refusals, and what then stands in the buffer. What they do when they
 -- are not refused is among the known outcomes (crates/known_outcomes), but for figures of the funding cell on which wrong rules answer otherwise. proofs/KnownParts.antt proves all rows at once.
-use Rattle.std.specs.Prelude.{ℕ, ◌-◌, ◌^◌, List, [], ◌∷◌, ◌++◌, replicate}
-use Rattle.arithmetic.specs.Amount.{amount_of}
+use Rattle.std.specs.Prelude.{ℕ, ◌-◌, ◌^◌, List, [], ◌∷◌, ◌++◌, replicate, Result, Ok, Err}
 use Rattle.units.specs.Units.{in_shannons}
 use Rattle.error.specs.declared.{Refusal.Refusal}
 use Rattle.error.specs.Refusal.{number}
@@ -11,7 +10,6 @@ use Rattle.rules.specs.Outcome.{Outcome, fine, refused}
 use Rattle.funding_cell.specs.declared.{FundingRequest.FundingRequest}
 use Rattle.funding_cell.specs.FundingCell.{build_funding_cell}
 use Rattle.udt_cells.specs.Change.{Built, udt_inputs_outputs}
-use Rattle.std.specs.Prelude.{Result, Ok, Err}
 use Rattle.transaction_writer.specs.Written.{tx_bytes, in_form, writes, leaves}
 use Rattle.known_cases.specs.Rows.{Row, ◌gives◌}
 use Rattle.known_cases.specs.Cases.{our_lock, token_type, plain, amount, room, spending, bare, usual, numbers}
@@ -22,10 +20,10 @@ use Rattle.known_bases.specs.Bases.{token_cell, three_cells, no_list}
 -- so much local and so much in reserve, and the same of the remote side
 abbrev sides : ℕ → ℕ → ℕ → ℕ → FundingRequest
 sides local reserve remote remoteReserve = record {
-  local_amount = amount_of local;
-  local_reserved_ckb_amount = in_shannons (amount_of reserve);
-  remote_amount = amount_of remote;
-  remote_reserved_ckb_amount = in_shannons (amount_of remoteReserve);
+  local_amount = local;
+  local_reserved_ckb_amount = in_shannons reserve;
+  remote_amount = remote;
+  remote_reserved_ckb_amount = in_shannons remoteReserve;
 }
 
 -- nothing remote
