@@ -3,8 +3,11 @@ use Rattle.std.proofs.Common.{Err}
 use mathlib.Core.Path.{◌≡◌, refl, sym, ap, ◌∙◌}
 use Prim.Native.Nat.{ℕ, suc, ◌+◌, ◌-◌, ◌*◌, ◌≤◌, ◌<◌}
 use mathlib.Core.Bool.{Bool, true, false}
-use mathlib.Core.List.{List, [], map, flatten}
-use mathlib.Core.Option.{Option, none, some}
+use mathlib.Core.List.{List, [], flatten}
+use Rattle.std.proofs.Math.Option.{Option, none, some, some-injective}
+use Rattle.std.specs.Prelude as rust
+use Rattle.std.specs.Prelude.{Some, None}
+use Rattle.std.proofs.lemmas.Option.{none-some, same_Some}
 use native.Mathlib.Omega.{arith}
 use borrow.Author.Tests.{le-leb, lt-leb}
 use lib.Dec.{eqb}
@@ -21,66 +24,15 @@ use Rattle.molecule.proofs.WriteLaws.{splice_zero}
 use Rattle.rules.specs.Cells.{Cell}
 use Rattle.rules.specs.Outcome.{Outcome}
 use Rattle.rules.specs.Judge.{Figures, judge}
-use Rattle.rules.specs.Told.{Update, told}
+use Rattle.rules.specs.Told.{told}
 use Rattle.verdict_line.specs.VerdictLine.{line_of}
 use Rattle.case_file.specs.declared.items.Places.{Places}
 use Rattle.case_file.specs.declared.record_list.Measured.{Measured}
-use Rattle.case_file.specs.CaseFile.{Read, Case, ◌>>=◌, kind_at, length_at, item_end, body_at, item_at, optional_at, rate_at, records_from, record_bytes, record_list, read_case, case_of, verdict_of, case_line}
+use Rattle.case_file.specs.CaseFile.{Read, Case, ◌>>=◌, kind_at, length_at, body_at, item_at, optional_at, rate_at, records_from, record_list, read_case, case_of, verdict_of, case_line}
 use Rattle.case_file.specs.Walk.{end_of, places_of, optional_body, verdict_at, walk, measured}
+use Rattle.case_file.specs.Walk as places
 use Rattle.case_file.proofs.RecordLaws.{only-some, item-some, walk-bytes}
 use Rattle.case_file.proofs.ListLaws.{length-walk}
-
--- ---- items that are there go by where they end
-
-record Ended (s : List ℕ) (at p : ℕ) : Type 0 where
-  word : at + 4 ≤ length s
-  forth : at + 4 ≤ p
-  within : p ≤ length s
-
-item-ended : (s : List ℕ) (kind at p : ℕ) (o : Option (Read (List ℕ))) → item_at s kind at ≡ o → p ≡ end_of o → p ≤ 65536 → (item_at s kind at ≡ some (record { got = body_at s at; next = p })) × Ended s at p
-unfolding end_of
-item-ended s kind at p none e h k = absurd (omega arith)
-item-ended s kind at p (some r) e h k =
-    let f = item-some s kind at e in
-    let g = f.room in
-    let w = f.word in
-    let n : p ≡ item_end s at = h ∙ ap (λ (x : Read (List ℕ)). x.next) f.gives in
-    (rw n (e ∙ ap some f.gives), record { word = w; forth = omega arith; within = omega arith })
-
-rate-ended : (s : List ℕ) (at p : ℕ) (o : Option (Read (List ℕ))) → rate_at s at ≡ o → p ≡ end_of o → p ≤ 65536 → (rate_at s at ≡ some (record { got = body_at s at; next = p })) × Ended s at p
-unfolding end_of rate_at only
-rate-ended s at p none e h k = absurd (omega arith)
-rate-ended s at p (some r) e h k =
-    let (a, e₁) = only-some (eqb (length_at s at) 8) (item_at s 6 at) e in
-    let (f, g) = item-ended s 6 at p (some r) e₁ h k in
-    (rw a f, g)
-
-optional_ended : (s : List ℕ) (kind at p : ℕ) → p ≡ end_of (optional_at s kind at) → p ≤ length s → length s ≤ 65536
-    → (optional_at s kind at ≡ some (record { got = optional_body s kind at; next = p })) × (at ≤ p)
-unfolding optional_at optional_body pick end_of
-optional_ended s kind at p h k l = go (eqb (kind_at s at) kind) h
-  where
-    go : (b : Bool) → p ≡ end_of (pick b (item_at s kind at) (some (record { got = []; next = at })))
-        → (pick b (item_at s kind at) (some (record { got = []; next = at })) ≡ some (record { got = pick b (body_at s at) []; next = p })) × (at ≤ p)
-    go true h =
-        let (f, g) = item-ended s kind at p (item_at s kind at) refl h (omega arith) in
-        let w = g.forth in
-        (f, omega arith)
-    go false h = (rw h, omega arith)
-
-rate-next : (s : List ℕ) (at : ℕ) {r : Read (List ℕ)} → rate_at s at ≡ some r → r.next ≤ length s
-unfolding rate_at
-rate-next s at {r} e =
-    let (a, e₁) = only-some (eqb (length_at s at) 8) (item_at s 6 at) e in
-    let f = item-some s 6 at e₁ in
-    let g = f.room in
-    let m : r.next ≡ item_end s at = ap (λ (x : Read (List ℕ)). x.next) f.gives in
-    omega arith
-
-rate_bound : (s : List ℕ) (at n : ℕ) (o : Option (Read (List ℕ))) → length s ≤ 65536 → rate_at s at ≡ o → n ≡ end_of o → (n ≡ 65537 → ⊥) → n ≤ 65536
-unfolding end_of
-rate_bound s at n none l e h k = absurd (k h)
-rate_bound s at n (some r) l e h k = let m = rate-next s at e in omega arith
 
 -- ---- the items before the records
 
@@ -96,110 +48,37 @@ case_at s p rs = record {
   records = rs;
 }
 
--- all are there: the file is what its records are
-module _ (s : List ℕ) (short : length s ≤ 65536) (p : Places) (e : p ≡ places_of s) (h : p.records ≡ 65537 → ⊥) where
-  six : p.records ≡ end_of (rate_at s p.rate)
-  unfolding places_of
-  six = rw e
+-- the case of a file with these places
+abbrev case_by : List ℕ → rust.Option Places → Option Case
+case_by s None = none
+case_by s (Some p) = records_from (length s) s p.records >>= λ rs. some (case_at s p rs)
 
-  five : p.rate ≡ end_of (item_at s 5 p.source)
-  unfolding places_of
-  five = rw e
+-- reading goes on where the walk does
+on_by : (s : List ℕ) (o : Option (Read (List ℕ))) (f : Read (List ℕ) → Option Case) (g : ℕ → rust.Option Places) → ((x : Read (List ℕ)) → o ≡ some x → f x ≡ case_by s (g x.next)) → (o >>= f) ≡ case_by s (places.◌>>=◌ (end_of o) g)
+unfolding ◌>>=◌
+on_by s none f g h = refl
+on_by s (some x) f g h = h x refl
 
-  four : p.source ≡ end_of (optional_at s 4 p.udt)
-  unfolding places_of
-  four = rw e
+item-got : (s : List ℕ) (kind at : ℕ) {r : Read (List ℕ)} → item_at s kind at ≡ some r → r.got ≡ body_at s at
+item-got s kind at e = ap (λ (x : Read (List ℕ)). x.got) (item-some s kind at e).gives
 
-  three : p.udt ≡ end_of (item_at s 3 p.lock)
-  unfolding places_of
-  three = rw e
+rate-there : (s : List ℕ) (at : ℕ) {r : Read (List ℕ)} → rate_at s at ≡ some r → item_at s 6 at ≡ some r
+unfolding rate_at
+rate-there s at e = (only-some (eqb (length_at s at) 8) (item_at s 6 at) e).1
 
-  two : p.lock ≡ end_of (item_at s 2 p.peer)
-  unfolding places_of
-  two = rw e
+optional_got : (s : List ℕ) (kind at : ℕ) {r : Read (List ℕ)} → optional_at s kind at ≡ some r → r.got ≡ optional_body s kind at
+unfolding optional_at optional_body pick
+optional_got s kind at {r} e = go (eqb (kind_at s at) kind) e
+  where
+    go : (b : Bool) → pick b (item_at s kind at) (some (record { got = []; next = at })) ≡ some r → r.got ≡ pick b (body_at s at) []
+    go true e = item-got s kind at e
+    go false e = ap (λ (x : Read (List ℕ)). x.got) (sym (some-injective _ _ e))
 
-  one : p.peer ≡ end_of (optional_at s 1 0)
-  unfolding places_of
-  one = rw e
-
-  bound : p.records ≤ 65536
-  bound = rate_bound s p.rate p.records (rate_at s p.rate) short refl six h
-
-  pub places_positive : 0 < p.records
-  places_positive = let (e₆, f₆) = rate-ended s p.rate p.records (rate_at s p.rate) refl six bound in let w = f₆.forth in omega arith
-
-  pub places-within : p.records ≤ length s
-  places-within = let (e₆, f₆) = rate-ended s p.rate p.records (rate_at s p.rate) refl six bound in f₆.within
-
-  head : read_case s ≡ (records_from (length s) s p.records >>= λ rs. some (case_at s p rs))
-  unfolding read_case ◌>>=◌
-  head =
-      let (e₆, f₆) = rate-ended s p.rate p.records (rate_at s p.rate) refl six bound in
-      let w₆ = f₆.word in
-      let (e₅, f₅) = item-ended s 5 p.source p.rate (item_at s 5 p.source) refl five (omega arith) in
-      let w₅ = f₅.word in
-      let (e₄, w₄) = optional_ended s 4 p.udt p.source four (omega arith) short in
-      let (e₃, f₃) = item-ended s 3 p.lock p.udt (item_at s 3 p.lock) refl three (omega arith) in
-      let w₃ = f₃.word in
-      let (e₂, f₂) = item-ended s 2 p.peer p.lock (item_at s 2 p.peer) refl two (omega arith) in
-      let w₂ = f₂.word in
-      let (e₁, w₁) = optional_ended s 1 0 p.peer one (omega arith) short in
-      rw (e₁, e₂, e₃, e₄, e₅, e₆)
-
--- one is not there: no case. Each step ends the reading, or goes on from where it ended.
-module _ (s : List ℕ) where
-  abbrev tail₆ : (a b c d e : Read (List ℕ)) → Option (Read (List ℕ)) → Option Case
-  tail₆ a b c d e o = o >>= λ f. records_from (length s) s f.next >>= λ rs. some (record { ours = a.got; peer = b.got; lock = c.got; type = d.got; source = e.got; rate = u64_at f.got 0; records = rs })
-
-  abbrev tail₅ : (a b c d : Read (List ℕ)) → Option (Read (List ℕ)) → Option Case
-  tail₅ a b c d o = o >>= λ e. tail₆ a b c d e (rate_at s e.next)
-
-  abbrev tail₄ : (a b c : Read (List ℕ)) → Option (Read (List ℕ)) → Option Case
-  tail₄ a b c o = o >>= λ d. tail₅ a b c d (item_at s 5 d.next)
-
-  abbrev tail₃ : (a b : Read (List ℕ)) → Option (Read (List ℕ)) → Option Case
-  tail₃ a b o = o >>= λ c. tail₄ a b c (optional_at s 4 c.next)
-
-  abbrev tail₂ : (a : Read (List ℕ)) → Option (Read (List ℕ)) → Option Case
-  tail₂ a o = o >>= λ b. tail₃ a b (item_at s 3 b.next)
-
-  abbrev tail₁ : Option (Read (List ℕ)) → Option Case
-  tail₁ o = o >>= λ a. tail₂ a (item_at s 2 a.next)
-
-  module _ (short : length s ≤ 65536) where
-    none₆ : (a b c d e : Read (List ℕ)) (at : ℕ) (o : Option (Read (List ℕ))) → rate_at s at ≡ o → end_of o ≡ 65537 → tail₆ a b c d e o ≡ none
-    unfolding ◌>>=◌ end_of
-    none₆ a b c d e at none g h = refl
-    none₆ a b c d e at (some f) g h = let m = rate-next s at g in absurd (omega arith)
-
-    none₅ : (a b c d : Read (List ℕ)) (o : Option (Read (List ℕ))) → end_of (rate_at s (end_of o)) ≡ 65537 → tail₅ a b c d o ≡ none
-    unfolding ◌>>=◌ end_of
-    none₅ a b c d none h = refl
-    none₅ a b c d (some e) h = none₆ a b c d e e.next (rate_at s e.next) refl h
-
-    none₄ : (a b c : Read (List ℕ)) (o : Option (Read (List ℕ))) → end_of (rate_at s (end_of (item_at s 5 (end_of o)))) ≡ 65537 → tail₄ a b c o ≡ none
-    unfolding ◌>>=◌ end_of
-    none₄ a b c none h = refl
-    none₄ a b c (some d) h = none₅ a b c d (item_at s 5 d.next) h
-
-    none₃ : (a b : Read (List ℕ)) (o : Option (Read (List ℕ))) → end_of (rate_at s (end_of (item_at s 5 (end_of (optional_at s 4 (end_of o)))))) ≡ 65537 → tail₃ a b o ≡ none
-    unfolding ◌>>=◌ end_of
-    none₃ a b none h = refl
-    none₃ a b (some c) h = none₄ a b c (optional_at s 4 c.next) h
-
-    none₂ : (a : Read (List ℕ)) (o : Option (Read (List ℕ))) → end_of (rate_at s (end_of (item_at s 5 (end_of (optional_at s 4 (end_of (item_at s 3 (end_of o)))))))) ≡ 65537 → tail₂ a o ≡ none
-    unfolding ◌>>=◌ end_of
-    none₂ a none h = refl
-    none₂ a (some b) h = none₃ a b (item_at s 3 b.next) h
-
-    none₁ : (o : Option (Read (List ℕ))) → end_of (rate_at s (end_of (item_at s 5 (end_of (optional_at s 4 (end_of (item_at s 3 (end_of (item_at s 2 (end_of o)))))))))) ≡ 65537 → tail₁ o ≡ none
-    unfolding ◌>>=◌ end_of
-    none₁ none h = refl
-    none₁ (some a) h = none₂ a (item_at s 2 a.next) h
-
-    no_head : (p : Places) → p ≡ places_of s → p.records ≡ 65537 → read_case s ≡ none
-    unfolding read_case places_of
-    no_head p e h = none₁ (optional_at s 1 0) (sym (ap (λ (q : Places). q.records) e) ∙ h)
+head : (s : List ℕ) → read_case s ≡ case_by s (places_of s)
+unfolding read_case places_of
+head s =
+    on_by s (optional_at s 1 0) _ _ (λ a ea. on_by s (item_at s 2 a.next) _ _ (λ b eb. on_by s (item_at s 3 b.next) _ _ (λ c ec. on_by s (optional_at s 4 c.next) _ _ (λ d ed. on_by s (item_at s 5 d.next) _ _ (λ e ee. on_by s (rate_at s e.next) _ _ (λ f ef.
+    rw (optional_got s 1 0 ea, item-got s 2 a.next eb, item-got s 3 b.next ec, optional_got s 4 c.next ed, item-got s 5 d.next ee, item-got s 6 e.next (rate-there s e.next ef))))))))
 
 -- ---- the ways out of `judge_case`
 
@@ -217,27 +96,24 @@ pub too_long_lem : (s : List ℕ) → 65536 < length s → told (Err Refusal.Len
 unfolding case_of only
 too_long_lem s h = unreadable s (rw (lt-leb (length s) 65536 h))
 
--- the records, if they are in their shape
-data Listed (s : List ℕ) (from : ℕ) (m : Measured) : Type 0 where
-  listed : (rs : List (Option Cell)) → records_from (length s) s from ≡ some rs → m.count ≡ length rs → m.size ≡ length (record_list rs) → Listed s from m
-  unlisted : records_from (length s) s from ≡ none → m.size ≡ 0 → Listed s from m
-
-list_of : (s : List ℕ) (from : ℕ) (m : Measured) (o : Option (List (Option Cell))) → records_from (length s) s from ≡ o → m ≡ measured o → Listed s from m
+-- the records that are measured are those that are read
+count_of : (o : Option (List (Option Cell))) {m : Measured} → measured o ≡ Some m → (rs : List (Option Cell)) × (o ≡ some rs) × (m.count ≡ length rs) × (m.size ≡ length (record_list rs))
 unfolding measured
-list_of s from m none e f = unlisted e (rw f)
-list_of s from m (some rs) e f = listed rs e (rw f) (rw f)
+count_of none {m} e = absurd (none-some m e)
+count_of (some rs) {m} e = let f = same_Some _ _ e in (rs, refl, ap (λ (x : Measured). x.count) (sym f), ap (λ (x : Measured). x.size) (sym f))
+
+none_of : (o : Option (List (Option Cell))) → measured o ≡ None → o ≡ none
+unfolding measured
+none_of none e = refl
+none_of (some rs) e = absurd (none-some _ (sym e))
 
 -- their list is the one that is walked
 list_bytes : (s : List ℕ) (from : ℕ) (m : Measured) (rs : List (Option Cell)) → records_from (length s) s from ≡ some rs → m.count ≡ length rs → join (walk m.count s from) ≡ record_list rs
 list_bytes s from m rs e n = rw (n, ← walk-bytes (length s) s from rs e)
 
-module _ (s : List ℕ) (from : ℕ) {m : Measured} (f : m ≡ measured (records_from (length s) s from)) (k : m.size ≡ 0 → ⊥) where
-  size_of : Listed s from m → m.size ≡ length (join (walk m.count s from))
-  size_of (listed rs e n z) = z ∙ ap length (sym (list_bytes s from m rs e n))
-  size_of (unlisted e z) = absurd (k z)
-
+module _ (s : List ℕ) (from : ℕ) {m : Measured} (f : measured (records_from (length s) s from) ≡ Some m) where
   pub list_size_lem : m.size ≡ length (join (walk m.count s from))
-  list_size_lem = size_of (list_of s from m (records_from (length s) s from) refl f)
+  list_size_lem = let (rs, e, n, z) = count_of (records_from (length s) s from) f in z ∙ ap length (sym (list_bytes s from m rs e n))
 
   pub list_header : 4 * m.count + 4 ≤ m.size
   list_header =
@@ -245,32 +121,25 @@ module _ (s : List ℕ) (from : ℕ) {m : Measured} (f : m ≡ measured (records
       omega arith
 
 module _ (s : List ℕ) (short : length s ≤ 65536) where
-  case-is : case_of s ≡ read_case s
+  case-is : case_of s ≡ case_by s (places_of s)
   unfolding case_of only
-  case-is = rw (le-leb (length s) 65536 short)
+  case-is = rw (le-leb (length s) 65536 short) (head s)
 
-  module _ {p : Places} (e : p ≡ places_of s) where
-    pub no_shape : p.records ≡ 65537 → told (Err Refusal.LentBytesUnreadable) ≡ verdict_of (case_of s)
-    no_shape h = unreadable s (case-is ∙ no_head s short p e h)
+  pub no_shape : None ≡ places_of s → told (Err Refusal.LentBytesUnreadable) ≡ verdict_of (case_of s)
+  no_shape h = unreadable s (case-is ∙ rw (sym h))
 
-    module _ (h : p.records ≡ 65537 → ⊥) {m : Measured} (f : m ≡ measured (records_from (length s) s p.records)) where
-      no_list_lem : m.size ≡ 0 → Listed s p.records m → case_of s ≡ none
-      unfolding ◌>>=◌
-      no_list_lem z (listed rs g n y) = let l = length-join (map record_bytes rs) in absurd (omega arith)
-      no_list_lem z (unlisted g y) = case-is ∙ head s short p e h ∙ rw g
+  module _ {p : Places} (e : Some p ≡ places_of s) where
+    pub no_records : None ≡ measured (records_from (length s) s p.records) → told (Err Refusal.LentBytesUnreadable) ≡ verdict_of (case_of s)
+    unfolding ◌>>=◌
+    no_records h = unreadable s (case-is ∙ rw (sym e, none_of (records_from (length s) s p.records) (sym h)))
 
-      pub no_records : m.size ≡ 0 → told (Err Refusal.LentBytesUnreadable) ≡ verdict_of (case_of s)
-      no_records z = unreadable s (no_list_lem z (list_of s p.records m (records_from (length s) s p.records) refl f))
-
-      a_case : (m.size ≡ 0 → ⊥) → Listed s p.records m → verdict_at s p (join (walk m.count s p.records)) ≡ verdict_of (case_of s)
+    module _ {m : Measured} (f : Some m ≡ measured (records_from (length s) s p.records)) where
+      a_case : verdict_at s p (join (walk m.count s p.records)) ≡ verdict_of (case_of s)
       unfolding verdict_at verdict_of ◌>>=◌
-      a_case k (listed rs g n y) = rw (case-is, head s short p e h, g, list_bytes s p.records m rs g n)
-      a_case k (unlisted g y) = absurd (k y)
+      a_case = let (rs, g, n, y) = count_of (records_from (length s) s p.records) (sym f) in rw (case-is, sym e, g, list_bytes s p.records m rs g n)
 
-      pub judged : {v : Outcome Figures} {out after : List ℕ} {n : ℕ} → (m.size ≡ 0 → ⊥) → Put out 0 (join (walk m.count s p.records)) after n → v ≡ verdict_at s p (take (n - 0) (drop 0 after))
-          → v ≡ verdict_of (case_of s)
-      judged {after = after} {n = n} k q t =
-          t ∙ rw (written q) (a_case k (list_of s p.records m (records_from (length s) s p.records) refl f))
+      pub judged : {v : Outcome Figures} {out after : List ℕ} {n : ℕ} → Put out 0 (join (walk m.count s p.records)) after n → v ≡ verdict_at s p (take (n - 0) (drop 0 after)) → v ≡ verdict_of (case_of s)
+      judged {after = after} {n = n} q t = t ∙ rw (written q) a_case
 
 -- ---- the way out of `judge_at`, and of the entry
 

@@ -1,9 +1,10 @@
 -- What the functions put, one after the other, is the list of the records: one law for each way out.
 use mathlib.Core.Path.{◌≡◌, refl, sym, ap, ◌∙◌}
+use Rattle.std.proofs.Common.{true, false}
 use Prim.Native.Nat.{ℕ, zero, suc, ◌+◌, ◌-◌, ◌*◌, ◌^◌, ◌≤◌, ◌<◌}
 use mathlib.Core.List.{List, [], ◌∷◌, ◌++◌, flatten, append_assoc, append-nil}
 use native.Mathlib.Omega.{arith}
-use borrow.Author.Tests.{eq-eqb, ne_eqb}
+use lib.Dec.{eqb}
 use lib.ListN.{length, length-append}
 use Rattle.arithmetic.specs.LittleEndian.{to_le}
 use Rattle.arithmetic.proofs.LittleEndianLaws.{length-to_le}
@@ -12,8 +13,8 @@ use Rattle.molecule.specs.Items.{join, unwords, offsets, header}
 use Rattle.molecule.specs.Write.{put_at, put_end, Put}
 use Rattle.molecule.proofs.ItemsLaws.{length-join, length-unwords, length-offsets, length_flatten}
 use Rattle.molecule.proofs.WriteLaws.{did, none, then, and_put, as_bytes, length-kept}
-use Rattle.case_file.specs.CaseFile.{kind_at, body_at, item_at, record_at}
-use Rattle.case_file.specs.Walk.{end_of, entry_at, cell_bytes, walk}
+use Rattle.case_file.specs.CaseFile.{kind_at, body_at, item_at}
+use Rattle.case_file.specs.Walk.{end_of, body_there, entry_at, next_at, cell_bytes, walk}
 use Rattle.case_file.proofs.RecordLaws.{cell-length}
 
 -- ---- a cell
@@ -48,15 +49,21 @@ module _ (out : List ℕ) (at : ℕ) (o d : List ℕ) {o₁ o₂ o₃ o₄ : Lis
 
 -- ---- a record
 
-module _ (s : List ℕ) (at : ℕ) {k : ℕ} (e : k ≡ kind_at s at) (out : List ℕ) (to : ℕ) (h : (length s ≤ 65536) × (to + length (entry_at s at) ≤ length out)) where
-  pub entry-none : k ≡ 9 → Put out to (entry_at s at) out to
-  unfolding entry_at pick
-  entry-none z = rw (eq-eqb (kind_at s at) 9 (sym e ∙ z)) (none out to (omega arith))
+pub entry-none : (s : List ℕ) (at : ℕ) → eqb (kind_at s at) 9 ≡ true → entry_at s at ≡ []
+unfolding entry_at pick
+entry-none s at h = rw h
 
-  module _ {p : ℕ} {o d : List ℕ} (z : k ≡ 9 → ⊥) (a : p ≡ end_of (item_at s 7 at)) (b : o ≡ body_at s at) (c : d ≡ body_at s p) where
+pub entry-cell : (s : List ℕ) (at : ℕ) → eqb (kind_at s at) 9 ≡ false → entry_at s at ≡ cell_bytes (body_at s at) (body_there s (end_of (item_at s 7 at)))
+unfolding entry_at pick
+entry-cell s at h = rw h
+
+module _ (s : List ℕ) (at : ℕ) (out : List ℕ) (to : ℕ) (h : (length s ≤ 65536) × (to + length (entry_at s at) ≤ length out)) where
+  pub entry_none-put : eqb (kind_at s at) 9 ≡ true → Put out to (entry_at s at) out to
+  entry_none-put z = rw (entry-none s at z) (none out to (omega arith))
+
+  module _ (z : eqb (kind_at s at) 9 ≡ false) {o d : List ℕ} (b : o ≡ body_at s at) (c : d ≡ body_there s (end_of (item_at s 7 at))) where
     entry-is : cell_bytes o d ≡ entry_at s at
-    unfolding entry_at pick
-    entry-is = rw (ne_eqb (kind_at s at) 9 (λ y. z (e ∙ y)), b, c, a)
+    entry-is = rw (b, c) (sym (entry-cell s at z))
 
     pub entry-room : to + (16 + length o + length d) ≤ length out
     entry-room =
@@ -69,7 +76,7 @@ module _ (s : List ℕ) (at : ℕ) {k : ℕ} (e : k ≡ kind_at s at) (out : Lis
 
 -- ---- the loop that puts the offsets
 
-walk_more : (s : List ℕ) (at left : ℕ) → 0 < left → walk left s at ≡ entry_at s at ∷ walk (left - 1) s (end_of (record_at s at))
+walk_more : (s : List ℕ) (at left : ℕ) → 0 < left → walk left s at ≡ entry_at s at ∷ walk (left - 1) s (next_at s at)
 unfolding walk
 walk_more s at zero h = absurd (omega arith)
 walk_more s at (suc n) h = let j : suc n - 1 ≡ n = omega arith in rw j
@@ -77,7 +84,7 @@ walk_more s at (suc n) h = let j : suc n - 1 ≡ n = omega arith in rw j
 pub length-walk : (n : ℕ) (s : List ℕ) (at : ℕ) → length (walk n s at) ≡ n
 unfolding walk
 length-walk zero s at = refl
-length-walk (suc n) s at = ap suc (length-walk n s (end_of (record_at s at)))
+length-walk (suc n) s at = ap suc (length-walk n s (next_at s at))
 
 length-words : (first n : ℕ) (s : List ℕ) (from : ℕ) → length (unwords (offsets first (walk n s from))) ≡ 4 * n
 length-words first n s from = length-unwords (offsets first (walk n s from)) ∙ rw (length-offsets, length-walk)
@@ -99,19 +106,19 @@ offset_none out to s from n first h =
     record { short = h.0; long = refl; small = h.2; room = omega arith; written = []; so_far = none out to (omega arith); rest = refl }
 
 module _ {whole out₀ : List ℕ} {to : ℕ} {s out : List ℕ} {end at left offset : ℕ} (c : Offsetting whole out₀ to s out end at left offset) where
-  rest_more : 0 < left → whole ≡ c.written ++ to_le 4 offset ++ unwords (offsets (offset + length (entry_at s at)) (walk (left - 1) s (end_of (record_at s at))))
+  rest_more : 0 < left → whole ≡ c.written ++ to_le 4 offset ++ unwords (offsets (offset + length (entry_at s at)) (walk (left - 1) s (next_at s at)))
   unfolding unwords offsets
   rest_more h = c.rest ∙ rw (walk_more s at left h, append_assoc)
 
-  pub offset_more : {next e n₁ : ℕ} {o₁ : List ℕ} → 0 < left → o₁ ≡ put_at out end (to_le 4 offset) → n₁ ≡ put_end out end (to_le 4 offset) → e ≡ length (entry_at s at) → next ≡ end_of (record_at s at)
-      → Offsetting whole out₀ to s o₁ n₁ next (left - 1) (offset + e)
-  offset_more {next} {e} h g f l k =
+  pub offset_more : {next e n₁ : ℕ} {o₁ : List ℕ} → 0 < left → o₁ ≡ put_at out end (to_le 4 offset) → n₁ ≡ put_end out end (to_le 4 offset) → e ≡ length (entry_at s at) → next ≡ next_at s at
+      → {left' : ℕ} → left' ≡ left - 1 → Offsetting whole out₀ to s o₁ n₁ next left' (offset + e)
+  offset_more {next} {e} h g f l k j =
       let w = rest_more h in
       let a = length-to_le 4 offset in
       let m = rw (length-append, length-append) at (ap length w) in
       let p = and_put (to_le 4 offset) c.so_far g f (omega arith) in
-      let t : length (flatten (walk left s at)) ≡ length (entry_at s at) + length (flatten (walk (left - 1) s (end_of (record_at s at)))) = ap (λ (ws : List (List ℕ)). length (flatten ws)) (walk_more s at left h) ∙ length_flatten (entry_at s at) (walk (left - 1) s (end_of (record_at s at))) in
-      rw (k, l) (record {
+      let t : length (flatten (walk left s at)) ≡ length (entry_at s at) + length (flatten (walk (left - 1) s (next_at s at))) = ap (λ (ws : List (List ℕ)). length (flatten ws)) (walk_more s at left h) ∙ length_flatten (entry_at s at) (walk (left - 1) s (next_at s at)) in
+      rw (k, l, j) (record {
         short = c.short;
         long = length-kept p;
         small = omega arith;
@@ -140,7 +147,7 @@ pub enter_none : (out : List ℕ) (to : ℕ) (s : List ℕ) (from n : ℕ) → (
 enter_none out to s from n h = record { short = h.0; long = refl; room = h.1; written = []; so_far = none out to (omega arith); rest = refl }
 
 module _ {whole out₀ : List ℕ} {to : ℕ} {s out : List ℕ} {end at left : ℕ} (c : Entering whole out₀ to s out end at left) where
-  left-more : 0 < left → whole ≡ c.written ++ entry_at s at ++ flatten (walk (left - 1) s (end_of (record_at s at)))
+  left-more : 0 < left → whole ≡ c.written ++ entry_at s at ++ flatten (walk (left - 1) s (next_at s at))
   unfolding flatten
   left-more h = c.rest ∙ rw (walk_more s at left h, append_assoc)
 
@@ -151,9 +158,9 @@ module _ {whole out₀ : List ℕ} {to : ℕ} {s out : List ℕ} {end at left : 
       let l = rw (length-append, length-append) at m in
       omega arith
 
-  pub enter_more : {next n₁ : ℕ} {o₁ : List ℕ} → 0 < left → Put out end (entry_at s at) o₁ n₁ → next ≡ end_of (record_at s at) → Entering whole out₀ to s o₁ n₁ next (left - 1)
-  enter_more h q k =
-      rw k (record {
+  pub enter_more : {next n₁ : ℕ} {o₁ : List ℕ} → 0 < left → Put out end (entry_at s at) o₁ n₁ → next ≡ next_at s at → {left' : ℕ} → left' ≡ left - 1 → Entering whole out₀ to s o₁ n₁ next left'
+  enter_more h q k j =
+      rw (k, j) (record {
         short = c.short;
         long = length-kept q ∙ c.long;
         room = c.room;

@@ -3,10 +3,13 @@ use mathlib.Core.Path.{◌≡◌, refl, sym, ap, ◌∙◌}
 use Prim.Native.Nat.{ℕ, zero, suc, ◌+◌, ◌-◌, ◌*◌, ◌≤◌, ◌<◌}
 use mathlib.Core.Bool.{Bool, true, false}
 use mathlib.Core.List.{List, [], ◌∷◌, ◌++◌, map, flatten}
-use mathlib.Core.Option.{Option, none, some, none-ne-some, some-injective}
+use Rattle.std.proofs.Math.Option.{Option, none, some, none-ne-some, some-injective}
+use Rattle.std.specs.Prelude as rust
+use Rattle.std.specs.Prelude.{Some, None}
+use Rattle.std.proofs.lemmas.Option.{none-some, same_Some}
 use native.Mathlib.Nat.{add-zero, zero-add}
 use native.Mathlib.Omega.{arith}
-use borrow.Author.Tests.{lt-leb, eq-eqb, ne_eqb, leb-true, eqb-true}
+use borrow.Author.Tests.{eq-eqb, ne_eqb, leb-true, eqb-true}
 use lib.Dec.{leb, eqb}
 use lib.ListN.{length, length-append, length-take, length-map}
 use Rattle.arithmetic.specs.LittleEndian.{to_le}
@@ -18,7 +21,6 @@ use Rattle.rules.specs.Cells.{Cell}
 use Rattle.case_file.specs.declared.record_list.Measured.{Measured}
 use Rattle.case_file.specs.CaseFile.{Read, ◌>>=◌, kind_at, length_at, body_end, item_end, body_at, all_zero, item_at, dead_at, cell_at, record_at, records_from, record_bytes, record_list}
 use Rattle.case_file.specs.Walk.{end_of, entry_at, cell_bytes, walk, measured}
-use Rattle.case_file.proofs.ItemLaws.{no_word}
 
 -- ---- what is known where something is found
 
@@ -48,10 +50,6 @@ item-some s kind at e =
     let (d, e₄) = only-some (all_zero (part s (body_end s at) (item_end s at))) _ e₃ in
     record { word = leb-true (at + 4) (length s) a; is_kind = eqb-true (kind_at s at) kind b; room = leb-true (item_end s at) (length s) c; gives = sym (some-injective _ _ e₄) }
 
--- no item stands past the end of every file
-pub item_nowhere : (s : List ℕ) (kind : ℕ) → length s ≤ 65536 → item_at s kind 65537 ≡ none
-item_nowhere s kind h = no_word s kind 65537 (lt-leb (65537 + 4) (length s) (omega arith))
-
 body_length : (s : List ℕ) (at : ℕ) → length (body_at s at) ≤ length_at s at
 unfolding part
 body_length s at = rw length-take (omega arith)
@@ -60,53 +58,41 @@ pub cell-length : (o d : List ℕ) → length (cell_bytes o d) ≡ 16 + length o
 unfolding cell_bytes flatten
 cell-length o d = length-join (o ∷ (to_le 4 (length d) ++ d) ∷ []) ∙ simp (length-append, length-to_le) (omega arith)
 
+-- where something ends it is there
+pub ended_at : {A : Type 0} (o : Option (Read A)) {n : ℕ} → Some n ≡ end_of o → (r : Read A) × (o ≡ some r) × (n ≡ r.next)
+ended_at none {n} h = absurd (none-some n (sym h))
+ended_at (some r) {n} h = (r, refl, same_Some n r.next h)
+
+pub nothing_at : {A : Type 0} (o : Option (Read A)) → None ≡ end_of o → o ≡ none
+nothing_at none h = refl
+nothing_at (some r) h = absurd (none-some r.next h)
+
 -- ---- the ways out of the functions that find the end of a record
 
 -- what is read changes, the place after it does not
 same_end : {A : Type 0} (g : List ℕ → A) (o : Option (Read (List ℕ))) → end_of (o >>= λ x. some (record { got = g x.got; next = x.next })) ≡ end_of o
-unfolding end_of ◌>>=◌
+unfolding ◌>>=◌
 same_end g none = refl
 same_end g (some x) = refl
 
-pub dead_other : (s : List ℕ) (at : ℕ) {n : ℕ} → n ≡ length_at s at → (n ≡ 0 → ⊥) → 65537 ≡ end_of (dead_at s at)
-unfolding dead_at only end_of
-dead_other s at e h = rw (ne_eqb (length_at s at) 0 (λ z. h (e ∙ z)))
-
-pub dead_is : (s : List ℕ) (at : ℕ) {n r : ℕ} → n ≡ length_at s at → n ≡ 0 → r ≡ end_of (item_at s 9 at) → r ≡ end_of (dead_at s at)
+pub dead_is : (s : List ℕ) (at : ℕ) → length_at s at ≡ 0 → end_of (dead_at s at) ≡ end_of (item_at s 9 at)
 unfolding dead_at only
-dead_is s at e h f = f ∙ rw (eq-eqb (length_at s at) 0 (sym e ∙ h)) (sym (same_end (λ _. none) (item_at s 9 at)))
+dead_is s at h = rw (eq-eqb (length_at s at) 0 h) (same_end (λ _. none) (item_at s 9 at))
 
 abbrev cell_of : Read (List ℕ) → List ℕ → Option Cell
 cell_of output content = some (record { output = output.got; cell_data = content })
 
--- item 8 after item 7, which may not be there
-second_end : (s : List ℕ) → length s ≤ 65536 → (o : Option (Read (List ℕ)))
-    → end_of (item_at s 8 (end_of o)) ≡ end_of {A = Option Cell} (o >>= λ x. item_at s 8 x.next >>= λ y. some (record { got = cell_of x y.got; next = y.next }))
-unfolding end_of ◌>>=◌
-second_end s h none = ap end_of (item_nowhere s 8 h)
-second_end s h (some x) = sym (same_end (cell_of x) (item_at s 8 x.next))
+-- item 8 after item 7
+pub no_cell : (s : List ℕ) (at : ℕ) → None ≡ end_of (item_at s 7 at) → end_of (cell_at s at) ≡ None
+unfolding cell_at ◌>>=◌
+no_cell s at h = rw (nothing_at (item_at s 7 at) h)
 
-pub cell-is : (s : List ℕ) (at : ℕ) {p r : ℕ} → length s ≤ 65536 → p ≡ end_of (item_at s 7 at) → r ≡ end_of (item_at s 8 p) → r ≡ end_of (cell_at s at)
-unfolding cell_at
-cell-is s at h e f = f ∙ rw e (second_end s h (item_at s 7 at))
+second_end : (s : List ℕ) (at p : ℕ) (x : Read (List ℕ)) → item_at s 7 at ≡ some x → p ≡ x.next → end_of (cell_at s at) ≡ end_of (item_at s 8 p)
+unfolding cell_at ◌>>=◌
+second_end s at p x e n = rw (e, n) (same_end (cell_of x) (item_at s 8 x.next))
 
-module _ (s : List ℕ) (at : ℕ) {k : ℕ} (e : k ≡ kind_at s at) where
-  pub record_dead : {r : ℕ} → k ≡ 9 → r ≡ end_of (dead_at s at) → r ≡ end_of (record_at s at)
-  unfolding record_at pick
-  record_dead h f = f ∙ rw (eq-eqb (kind_at s at) 9 (sym e ∙ h))
-
-  pub record_cell_lem : {r : ℕ} → (k ≡ 9 → ⊥) → r ≡ end_of (cell_at s at) → r ≡ end_of (record_at s at)
-  unfolding record_at pick
-  record_cell_lem h f = f ∙ rw (ne_eqb (kind_at s at) 9 (λ z. h (e ∙ z)))
-
-  -- and those of the function that tells its length in the list
-  pub entry_dead : k ≡ 9 → 0 ≡ length (entry_at s at)
-  unfolding entry_at pick
-  entry_dead h = rw (eq-eqb (kind_at s at) 9 (sym e ∙ h))
-
-  pub entry-cell : {p : ℕ} {o d : List ℕ} → (k ≡ 9 → ⊥) → p ≡ end_of (item_at s 7 at) → o ≡ body_at s at → d ≡ body_at s p → 16 + length o + length d ≡ length (entry_at s at)
-  unfolding entry_at pick
-  entry-cell h a b c = rw (ne_eqb (kind_at s at) 9 (λ z. h (e ∙ z)), b, c, a) (sym (cell-length (body_at s at) (body_at s (end_of (item_at s 7 at)))))
+pub cell-is : (s : List ℕ) (at : ℕ) {p : ℕ} → Some p ≡ end_of (item_at s 7 at) → end_of (cell_at s at) ≡ end_of (item_at s 8 p)
+cell-is s at {p} h = let (x, e, n) = ended_at (item_at s 7 at) h in second_end s at p x e n
 
 -- ---- a record that is found: the bytes that it has in the list, and how many more they may be than in the file
 
@@ -146,7 +132,7 @@ dead_entry s at {r} k e =
     }
 
 live-bytes : (s : List ℕ) (at : ℕ) {x : Read (List ℕ)} → eqb (kind_at s at) 9 ≡ false → item_at s 7 at ≡ some x → entry_at s at ≡ cell_bytes (body_at s at) (body_at s x.next)
-unfolding entry_at pick end_of
+unfolding entry_at pick
 live-bytes s at k e = rw (k, e)
 
 two_items : (s : List ℕ) (at : ℕ) {r : Read (Option Cell)} (x y : Read (List ℕ)) → eqb (kind_at s at) 9 ≡ false → item_at s 7 at ≡ some x → item_at s 8 x.next ≡ some y
@@ -192,7 +178,7 @@ record_some s at e = picked s at (eqb (kind_at s at) 9) refl e
 -- one more, before others
 walk_cons : (s : List ℕ) (at : ℕ) (r : Read (Option Cell)) (rs ws : List (Option Cell)) → record_at s at ≡ some r → map record_bytes ws ≡ walk (length ws) s r.next → some (r.got ∷ ws) ≡ some rs
     → map record_bytes rs ≡ walk (length rs) s at
-unfolding walk end_of
+unfolding walk
 walk_cons s at r rs ws e h g = rw (sym (some-injective _ _ g), e, (record_some s at e).bytes, h)
 
 walk_step : (k : ℕ) (s : List ℕ) (at : ℕ) (rs : List (Option Cell)) (b : Bool)
@@ -216,9 +202,9 @@ walk-bytes (suc k) s at rs e = walk_step k s at rs (eqb at (length s)) (λ to ws
 unfoldable pub weight : List (Option Cell) → ℕ
 weight rs = 4 * length rs + length (flatten (map record_bytes rs))
 
-unfoldable pub more : ℕ → ℕ → Option (List (Option Cell)) → Measured
-more count size none = record { count = 0; size = 0 }
-more count size (some rs) = record { count = count + length rs; size = size + weight rs }
+unfoldable pub more : ℕ → ℕ → Option (List (Option Cell)) → rust.Option Measured
+more count size none = None
+more count size (some rs) = Some (record { count = count + length rs; size = size + weight rs })
 
 pub record Scanning (s : List ℕ) (from at count size : ℕ) : Type 0 where
   pub short : length s ≤ 65536
@@ -259,7 +245,7 @@ count-one g count size (some rs) =
     rw (a, b)
 
 -- a turn from at, of which k more are allowed
-module _ (s : List ℕ) (at count size : ℕ) {m : Measured} where
+module _ (s : List ℕ) (at count size : ℕ) {m : rust.Option Measured} where
   turn_found : (k : ℕ) (r : Read (Option Cell)) → at < length s → length s < at + k → record_at s at ≡ some r → m ≡ more count size (records_from k s at)
       → m ≡ more (count + 1) (size + 4 + length (record_bytes r.got)) (records_from (k - 1) s r.next)
   unfolding records_from pick ◌>>=◌
@@ -268,39 +254,26 @@ module _ (s : List ℕ) (at count size : ℕ) {m : Measured} where
       let j : suc k - 1 ≡ k = omega arith in
       rw j (g ∙ rw (ne_eqb at (length s) (omega arith), e) (count-one r.got count size (records_from k s r.next)))
 
-  turn_none : (k : ℕ) → at < length s → length s < at + k → record_at s at ≡ none → m ≡ more count size (records_from k s at) → m ≡ record { count = 0; size = 0 }
+  turn_none : (k : ℕ) → at < length s → length s < at + k → record_at s at ≡ none → m ≡ more count size (records_from k s at) → m ≡ None
   unfolding records_from pick ◌>>=◌ more
   turn_none zero h f e g = absurd (omega arith)
   turn_none (suc k) h f e g = g ∙ rw (ne_eqb at (length s) (omega arith), e)
 
-  turn_end : (k : ℕ) → at ≡ length s → length s < at + k → m ≡ more count size (records_from k s at) → m ≡ record { count = count; size = size }
+  turn_end : (k : ℕ) → at ≡ length s → length s < at + k → m ≡ more count size (records_from k s at) → m ≡ Some (record { count = count; size = size })
   unfolding records_from pick more weight flatten
   turn_end zero h f g = absurd (omega arith)
   turn_end (suc k) h f g = g ∙ rw (eq-eqb at (length s) h) (rw (add-zero count, add-zero size))
 
--- whether there is a record goes by where it ends
-data Ending (s : List ℕ) (at : ℕ) (next : ℕ) : Type 0 where
-  ended : (r : Read (Option Cell)) → record_at s at ≡ some r → next ≡ r.next → Ending s at next
-  nothing : record_at s at ≡ none → next ≡ 65537 → Ending s at next
-
-ending : (s : List ℕ) (at : ℕ) {next : ℕ} (o : Option (Read (Option Cell))) → record_at s at ≡ o → next ≡ end_of o → Ending s at next
-unfolding end_of
-ending s at none e h = nothing e h
-ending s at (some r) e h = ended r e h
-
 module _ {s : List ℕ} {from at count size : ℕ} (c : Scanning s from at count size) where
-  stop : {next : ℕ} → at < length s → Ending s at next → next ≡ 65537 → ◌≡◌ {A = Measured} (record { count = 0; size = 0 }) (measured (records_from (length s) s from))
-  stop h (ended r e g) k = let f = record_some s at e in absurd (omega arith)
-  stop h (nothing e g) k = sym (turn_none s at count size c.fuel h c.enough e c.ahead)
+  pub scan_stop : at < length s → None ≡ end_of (record_at s at) → None ≡ measured (records_from (length s) s from)
+  scan_stop h e = sym (turn_none s at count size c.fuel h c.enough (nothing_at (record_at s at) e) c.ahead)
 
-  pub scan_stop : {next : ℕ} → at < length s → next ≡ end_of (record_at s at) → next ≡ 65537 → ◌≡◌ {A = Measured} (record { count = 0; size = 0 }) (measured (records_from (length s) s from))
-  scan_stop h e k = stop h (ending s at (record_at s at) refl e) k
-
-  go_on : {next n : ℕ} → at < length s → Ending s at next → (next ≡ 65537 → ⊥) → n ≡ length (entry_at s at) → Scanning s from next (count + 1) (size + 4 + n)
-  go_on h (nothing e g) k l = absurd (k g)
-  go_on {next} {n} h (ended r e g) k l =
-      let f = record_some s at e in
-      let b : n ≡ length (record_bytes r.got) = l ∙ sym (ap length f.bytes) in
+  pub scan_more : {next n : ℕ} → at < length s → Some next ≡ end_of (record_at s at) → n ≡ length (entry_at s at) → Scanning s from next (count + 1) (size + (4 + n))
+  scan_more {next} {n} h e l =
+      let (r, f, g) = ended_at (record_at s at) e in
+      let i = record_some s at f in
+      let b : n ≡ length (record_bytes r.got) = l ∙ sym (ap length i.bytes) in
+      let w : size + (4 + n) ≡ size + 4 + n = omega arith in
       record {
         short = c.short;
         within = omega arith;
@@ -308,21 +281,14 @@ module _ {s : List ℕ} {from at count size : ℕ} (c : Scanning s from at count
         light = omega arith;
         fuel = c.fuel - 1;
         enough = omega arith;
-        ahead = rw (g, b) (turn_found s at count size c.fuel r h c.enough e c.ahead);
+        ahead = rw (w, g, b) (turn_found s at count size c.fuel r h c.enough f c.ahead);
       }
 
-  pub scan_more : {next n : ℕ} → at < length s → next ≡ end_of (record_at s at) → (next ≡ 65537 → ⊥) → n ≡ length (entry_at s at) → Scanning s from next (count + 1) (size + 4 + n)
-  scan_more h e k l = go_on h (ending s at (record_at s at) refl e) k l
-
-  pub scan_end : length s ≤ at → ◌≡◌ {A = Measured} (record { count = count; size = size }) (measured (records_from (length s) s from))
+  pub scan_end : length s ≤ at → Some (record { count = count; size = size }) ≡ measured (records_from (length s) s from)
   scan_end h = sym (turn_end s at count size c.fuel (omega arith) c.enough c.ahead)
 
   pub scan_fits : size ≤ 163844
   scan_fits = omega arith
 
-  less : {next : ℕ} → at < length s → Ending s at next → (next ≡ 65537 → ⊥) → length s - next < length s - at
-  less h (nothing e g) k = absurd (k g)
-  less h (ended r e g) k = let f = record_some s at e in omega arith
-
-  pub scan_less : {next : ℕ} → at < length s → next ≡ end_of (record_at s at) → (next ≡ 65537 → ⊥) → length s - next < length s - at
-  scan_less h e k = less h (ending s at (record_at s at) refl e) k
+  pub scan_less : {next : ℕ} → at < length s → Some next ≡ end_of (record_at s at) → length s - next < length s - at
+  scan_less h e = let (r, f, g) = ended_at (record_at s at) e in let i = record_some s at f in omega arith

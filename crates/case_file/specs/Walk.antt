@@ -1,30 +1,50 @@
--- How the code walks a case file: by places, with an answer at every place. Where no item stands the place after it is past the end of every file.
-use Rattle.std.specs.Prelude.{ℕ, zero, suc, List, [], ◌∷◌, ◌++◌, length, eqb}
-use Rattle.std.proofs.Math.Option.{Option, none, some}
+-- How the code walks a case file: by places. Where nothing is found there is no place after it.
+use Rattle.std.specs.Prelude.{ℕ, zero, suc, List, [], ◌∷◌, ◌++◌, length, eqb, Option, Some, None, unwrap_or, option_and_then}
+use Rattle.std.proofs.Math.Option as maybe
+use Rattle.std.proofs.Math.Option.{none, some}
 use Rattle.arithmetic.specs.LittleEndian.{to_le, u64_at}
 use Rattle.molecule.specs.Partial.{pick}
 use Rattle.molecule.specs.Items.{join}
 use Rattle.rules.specs.Cells.{Cell}
 use Rattle.rules.specs.Outcome.{Outcome}
 use Rattle.rules.specs.Judge.{Figures, judge}
+use Rattle.case_file.specs.declared.items.Kind.{Kind}
+use Rattle.case_file.specs.declared.items.Kind.TheVariants.{Ours, Peer, Lock, Udt, Source, Rate, Output, Data, NotLive}
 use Rattle.case_file.specs.declared.items.Places.{Places}
 use Rattle.case_file.specs.declared.record_list.Measured.{Measured}
 use Rattle.case_file.specs.CaseFile.{Read, kind_at, body_at, item_at, optional_at, rate_at, record_at, record_list}
 
-unfoldable pub end_of : {A : Type 0} → Option (Read A) → ℕ
-end_of none = 65537
-end_of (some r) = r.next
+abbrev pub number_of : Kind → ℕ
+number_of Ours = 1
+number_of Peer = 2
+number_of Lock = 3
+number_of Udt = 4
+number_of Source = 5
+number_of Rate = 6
+number_of Output = 7
+number_of Data = 8
+number_of NotLive = 9
+
+abbrev pub end_of : {A : Type 0} → maybe.Option (Read A) → Option ℕ
+end_of none = None
+end_of (some r) = Some r.next
 
 -- ---- the items before the records
 
-unfoldable pub places_of : List ℕ → Places
-places_of s =
-    let peer = end_of (optional_at s 1 0) in
-    let lock = end_of (item_at s 2 peer) in
-    let udt = end_of (item_at s 3 lock) in
-    let source = end_of (optional_at s 4 udt) in
-    let rate = end_of (item_at s 5 source) in
-    record { peer = peer; lock = lock; udt = udt; source = source; rate = rate; records = end_of (rate_at s rate) }
+-- a step that finds nothing ends the walk
+infixl 10 ◌>>=◌
+abbrev pub ◌>>=◌ : {A B : Type 0} → Option A → (A → Option B) → Option B
+◌>>=◌ o f = option_and_then f o
+
+unfoldable pub places_of : List ℕ → Option Places
+places_of s = do
+  peer ← end_of (optional_at s 1 0)
+  lock ← end_of (item_at s 2 peer)
+  udt ← end_of (item_at s 3 lock)
+  source ← end_of (optional_at s 4 udt)
+  rate ← end_of (item_at s 5 source)
+  records ← end_of (rate_at s rate)
+  Some (record { peer = peer; lock = lock; udt = udt; source = source; rate = rate; records = records })
 
 unfoldable pub optional_body : List ℕ → ℕ → ℕ → List ℕ
 optional_body s kind at = pick (eqb (kind_at s at) kind) (body_at s at) []
@@ -41,16 +61,25 @@ verdict_at s p records =
 unfoldable pub cell_bytes : List ℕ → List ℕ → List ℕ
 cell_bytes output content = join (output ∷ (to_le 4 (length content) ++ content) ∷ [])
 
+-- the body of the item at a place, if there is one
+abbrev pub body_there : List ℕ → Option ℕ → List ℕ
+body_there s None = []
+body_there s (Some at) = body_at s at
+
 -- the record at a place, as it is lent
 unfoldable pub entry_at : List ℕ → ℕ → List ℕ
-entry_at s at = pick (eqb (kind_at s at) 9) [] (cell_bytes (body_at s at) (body_at s (end_of (item_at s 7 at))))
+entry_at s at = pick (eqb (kind_at s at) 9) [] (cell_bytes (body_at s at) (body_there s (end_of (item_at s 7 at))))
+
+-- where the next record stands: where there is none, at the end
+abbrev pub next_at : List ℕ → ℕ → ℕ
+next_at s at = unwrap_or (end_of (record_at s at)) (length s)
 
 -- n records from a place on
 unfoldable pub walk : ℕ → List ℕ → ℕ → List (List ℕ)
 walk zero s at = []
-walk (suc n) s at = entry_at s at ∷ walk n s (end_of (record_at s at))
+walk (suc n) s at = entry_at s at ∷ walk n s (next_at s at)
 
--- how many records there are, and how long their list is; 0 where they are not in their shape
-unfoldable pub measured : Option (List (Option Cell)) → Measured
-measured none = record { count = 0; size = 0 }
-measured (some rs) = record { count = length rs; size = length (record_list rs) }
+-- how many records there are, and how long their list is
+unfoldable pub measured : maybe.Option (List (maybe.Option Cell)) → Option Measured
+measured none = None
+measured (some rs) = Some (record { count = length rs; size = length (record_list rs) })

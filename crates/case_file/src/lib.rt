@@ -1,5 +1,5 @@
 // Judges the update that a case file holds, and writes the verdict line.
-#![tactic(auto)]
+#![tactic(auto, using(crate::proofs::Ways::ways), unfolding(crate::specs::CaseFile::optional_at, crate::specs::CaseFile::rate_at, crate::specs::CaseFile::record_at, crate::specs::CaseFile::dead_at, crate::specs::Walk::places_of, crate::specs::Walk::optional_body, crate::specs::Walk::verdict_at, molecule::specs::Partial::only, molecule::specs::Partial::pick))]
 
 mod items;
 mod record_list;
@@ -12,7 +12,7 @@ ghost use Rattle.case_file.specs.Walk.{verdict_at};
 
 use arithmetic::little_endian;
 use error::Refusal;
-use items::Places;
+use items::{Kind, Places};
 use rules::Update;
 
 // The longest case file.
@@ -26,10 +26,10 @@ fn judge_at(s: &[u8], places: Places, records: &[u8]) -> Update
     requires { length s.now ≤ 65536 }
     ensures { told result ≡ verdict_at s.now places records.now }
 {
-    let ours = items::optional_body(s, items::OURS, 0);
+    let ours = items::optional_body(s, Kind::Ours, 0);
     let peer = items::body(s, places.peer);
     let lock = items::body(s, places.lock);
-    let udt = items::optional_body(s, items::UDT, places.udt);
+    let udt = items::optional_body(s, Kind::Udt, places.udt);
     let source = items::body(s, places.source);
     let rate = little_endian::u64_at(items::body(s, places.rate), 0);
     funding_tx::update_for_peer(ours, peer, lock, udt, source, rate, records)
@@ -43,16 +43,9 @@ fn judge_case(s: &[u8], records: &mut [u8]) -> Update
     if s.len() > FILE_BYTES {
         return Err(Refusal::LentBytesUnreadable);
     }
-    let places = items::find_places(s);
-    let from = places.records;
-    if from == items::NOWHERE {
-        return Err(Refusal::LentBytesUnreadable);
-    }
-    let list = record_list::measure(s, from);
-    if list.size == 0 {
-        return Err(Refusal::LentBytesUnreadable);
-    }
-    let n = record_list::put_list(records, s, from, list.count, list.size);
+    let places = items::find_places(s).ok_or(Refusal::LentBytesUnreadable)?;
+    let list = record_list::measure(s, places.records).ok_or(Refusal::LentBytesUnreadable)?;
+    let n = record_list::put_list(records, s, places.records, list);
     judge_at(s, places, &records[0..n])
 }
 

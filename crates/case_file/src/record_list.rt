@@ -1,49 +1,67 @@
 // The records of a case file, written as the list that `update_for_peer` is lent.
-ghost use Rattle.std.specs.Prelude.{◌≡◌, ◌+◌, ◌≤◌, ◌<◌, ◌^◌, ◌*◌, length};
+ghost use Rattle.std.specs.Prelude.{◌≡◌, ◌+◌, ◌≤◌, ◌<◌, ◌^◌, ◌*◌, length, IfSome};
 ghost use mathlib.Core.List.{[], ◌∷◌, flatten};
 ghost use Rattle.molecule.specs.Items.{join, unwords, offsets};
 ghost use Rattle.molecule.specs.Write.{Put};
-ghost use Rattle.case_file.specs.CaseFile.{dead_at, cell_at, record_at, records_from};
-ghost use Rattle.case_file.specs.Walk.{end_of, entry_at, cell_bytes, walk, measured};
+ghost use Rattle.case_file.specs.CaseFile.{item_at, dead_at, cell_at, record_at, records_from};
+ghost use Rattle.case_file.specs.Walk.{end_of, body_there, entry_at, next_at, cell_bytes, walk, measured};
 
-use crate::items;
+use crate::items::{self, Kind};
 use molecule::write;
 
-// How many records there are, and how long their list is; 0 where they are not in their shape.
-#[derive(Clone, Copy)]
+// How many records there are, and how long their list is.
+#[derive(Clone, Copy, Debug, PartialEq, Eq, Hash)]
 pub struct Measured {
     pub count: usize,
     pub size: usize,
 }
 
 // The place after a record that is not live: an item of length 0.
-fn dead_end(s: &[u8], at: usize) -> usize
+fn dead_end(s: &[u8], at: usize) -> Option<usize>
     ensures { result ≡ end_of (dead_at s.now at) }
 {
     if items::length_at(s, at) != 0 {
-        return items::NOWHERE;
+        return None;
     }
-    items::item_end(s, items::NOT_LIVE, at)
+    items::item_end(s, Kind::NotLive, at)
 }
 
 // The place after a cell: its output and its data.
-fn cell_end(s: &[u8], at: usize) -> usize
-    requires { length s.now ≤ 65536 }
+fn cell_end(s: &[u8], at: usize) -> Option<usize>
     ensures { result ≡ end_of (cell_at s.now at) }
 {
-    let second = items::item_end(s, items::OUTPUT, at);
-    items::item_end(s, items::DATA, second)
+    let second = items::item_end(s, Kind::Output, at)?;
+    items::item_end(s, Kind::Data, second)
 }
 
 // The place after the record at a place.
-fn record_end(s: &[u8], at: usize) -> usize
-    requires { length s.now ≤ 65536 }
+fn record_end(s: &[u8], at: usize) -> Option<usize>
     ensures { result ≡ end_of (record_at s.now at) }
 {
-    if items::kind_at(s, at) == items::NOT_LIVE {
-        return dead_end(s, at);
+    if items::is_kind(s, Kind::NotLive, at) {
+        dead_end(s, at)
+    } else {
+        cell_end(s, at)
     }
-    cell_end(s, at)
+}
+
+// Where the record stands that follows the one at a place; where there is none, at the end.
+fn next_place(s: &[u8], at: usize) -> usize
+    ensures { result ≡ next_at s.now at }
+{
+    record_end(s, at).unwrap_or(s.len())
+}
+
+// The data of the cell at a place, which stands behind its output.
+fn content(s: &[u8], at: usize) -> &[u8]
+    requires { length s.now ≤ 65536 }
+    ensures value { result.now ≡ body_there s.now (end_of (item_at s.now 7 at)) }
+    ensures upper_bound { length result.now ≤ 65536 }
+{
+    match items::item_end(s, Kind::Output, at) {
+        Some(second) => items::body(s, second),
+        None => molecule::part(s, 0, 0),
+    }
 }
 
 // How many bytes the record at a place has in the list.
@@ -52,34 +70,28 @@ fn entry_len(s: &[u8], at: usize) -> usize
     ensures value { result ≡ length (entry_at s.now at) }
     ensures upper_bound { result ≤ 131088 }
 {
-    if items::kind_at(s, at) == items::NOT_LIVE {
+    if items::is_kind(s, Kind::NotLive, at) {
         return 0;
     }
-    let second = items::item_end(s, items::OUTPUT, at);
-    let output = items::body(s, at);
-    let content = items::body(s, second);
-    16 + output.len() + content.len()
+    16 + items::body(s, at).len() + content(s, at).len()
 }
 
-// Measures the records from a place up to the end of the file. Each takes up at most 5 bytes in the list for 2 in the file.
-pub(crate) fn measure(s: &[u8], from: usize) -> Measured
+// Measures the records from a place up to the end of the file, if they are in their shape. Each takes up at most 5 bytes in the list for 2 in the file.
+pub(crate) fn measure(s: &[u8], from: usize) -> Option<Measured>
     requires { (length s.now ≤ 65536) × (0 < from) × (from ≤ length s.now) }
     ensures value { result ≡ measured (records_from (length s.now) s.now from) }
-    ensures size_bound { result.size ≤ 163844 }
+    ensures size_bound { IfSome result (λ m. m.size ≤ 163844) }
 {
     let mut at = from;
     let mut count = 0;
     let mut size = 4;
     while at < s.len() {
-        let next = record_end(s, at);
-        if next == items::NOWHERE {
-            return Measured { count: 0, size: 0 };
-        }
-        size = size + 4 + entry_len(s, at);
+        let next = record_end(s, at)?;
+        size += 4 + entry_len(s, at);
         count += 1;
         at = next;
     }
-    Measured { count, size }
+    Some(Measured { count, size })
 }
 
 // Puts the three words of a table of two fields.
@@ -110,13 +122,10 @@ fn put_entry(out: &mut [u8], to: usize, s: &[u8], at: usize) -> usize
     requires { (length s.now ≤ 65536) × (to + length (entry_at s.now at) ≤ length out.old) }
     ensures { Put out.old to (entry_at s.now at) out.new result }
 {
-    if items::kind_at(s, at) == items::NOT_LIVE {
+    if items::is_kind(s, Kind::NotLive, at) {
         return to;
     }
-    let second = items::item_end(s, items::OUTPUT, at);
-    let output = items::body(s, at);
-    let content = items::body(s, second);
-    put_cell(out, to, output, content)
+    put_cell(out, to, items::body(s, at), content(s, at))
 }
 
 // Puts the offsets of n records, the first of which starts at `first` in the list.
@@ -126,13 +135,11 @@ fn put_offsets(out: &mut [u8], to: usize, s: &[u8], from: usize, n: usize, first
 {
     let mut end = to;
     let mut at = from;
-    let mut left = n;
     let mut offset = first;
-    while left > 0 {
+    for i in 0..n {
         end = write::put_u32(out, end, offset as u32);
-        offset = offset + entry_len(s, at);
-        at = record_end(s, at);
-        left -= 1;
+        offset += entry_len(s, at);
+        at = next_place(s, at);
     }
     end
 }
@@ -144,22 +151,20 @@ fn put_entries(out: &mut [u8], to: usize, s: &[u8], from: usize, n: usize) -> us
 {
     let mut end = to;
     let mut at = from;
-    let mut left = n;
-    while left > 0 {
+    for i in 0..n {
         end = put_entry(out, end, s, at);
-        at = record_end(s, at);
-        left -= 1;
+        at = next_place(s, at);
     }
     end
 }
 
-// Puts the list of n records at the start of out.
-pub(crate) fn put_list(out: &mut [u8], s: &[u8], from: usize, n: usize, size: usize) -> usize
-    requires { (length s.now ≤ 65536) × (size ≡ length (join (walk n s.now from))) × (4 * n + 4 ≤ size) × (size ≤ length out.old) × (size < 2 ^ 32) }
-    ensures { Put out.old 0 (join (walk n s.now from)) out.new result }
+// Puts the list of the records from a place on at the start of out.
+pub(crate) fn put_list(out: &mut [u8], s: &[u8], from: usize, list: Measured) -> usize
+    requires { (length s.now ≤ 65536) × (list.size ≡ length (join (walk list.count s.now from))) × (4 * list.count + 4 ≤ list.size) × (list.size ≤ length out.old) × (list.size < 2 ^ 32) }
+    ensures { Put out.old 0 (join (walk list.count s.now from)) out.new result }
 {
-    let first = 4 * n + 4;
+    let Measured { count, size } = list;
     let at = write::put_u32(out, 0, size as u32);
-    let at = put_offsets(out, at, s, from, n, first);
-    put_entries(out, at, s, from, n)
+    let at = put_offsets(out, at, s, from, count, 4 * count + 4);
+    put_entries(out, at, s, from, count)
 }

@@ -1,17 +1,13 @@
-use Rattle.case_file.proofs.Ways.{ways}
+use Rattle.std.proofs.Common.{arith}
+use Rattle.std.proofs.lemmas.Grind.{common_steps}
+use Rattle.case_file.proofs.RecordLaws.{scan_stop, scan_end, scan_less}
 use Rattle.case_file.proofs.record_list.measure.Goals as goal
 
-pub loop-at-init : goal.loop-at-init
-loop-at-init c = search ways
-
-pub returns-then-next-eq-NOWHERE-clause-value : goal.returns-then-next-eq-NOWHERE-clause-value
-returns-then-next-eq-NOWHERE-clause-value c = search ways
+pub returns-in_err-next-clause-value : goal.returns-in_err-next-clause-value
+returns-in_err-next-clause-value c = grind (arith, common_steps, scan_stop c.loop-at.invariant c.loop-at-test.true)
 
 pub loop-at-smaller : goal.loop-at-smaller
-loop-at-smaller c = search ways
-
-pub loop-at-preserved : goal.loop-at-preserved
-loop-at-preserved c = search ways
+loop-at-smaller c = scan_less c.loop-at.invariant c.loop-at-test.true c.in_ok-next.ensures
 
 pub returns-clause-value : goal.returns-clause-value
-returns-clause-value c = search ways
+returns-clause-value c = scan_end c.loop-at.invariant c.loop-at-test.false

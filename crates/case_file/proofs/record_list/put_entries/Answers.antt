@@ -1,14 +1,9 @@
-use Rattle.case_file.proofs.Ways.{ways}
+use Rattle.std.proofs.Common.{arith}
+use Rattle.case_file.proofs.ListLaws.{enter_room, enter_end}
 use Rattle.case_file.proofs.record_list.put_entries.Goals as goal
 
-pub loop-left-init : goal.loop-left-init
-loop-left-init c = search ways
-
 pub put_entry-end-requires : goal.put_entry-end-requires
-put_entry-end-requires c = search ways
-
-pub loop-left-preserved : goal.loop-left-preserved
-loop-left-preserved c = search ways
+put_entry-end-requires c = (c.loop-i.invariant.short, enter_room c.loop-i.invariant (omega arith))
 
 pub returns : goal.returns
-returns c = search ways
+returns c = enter_end c.loop-i.invariant (omega arith)
