@@ -3,15 +3,13 @@ use mathlib.Core.Path.{◌≡◌, sym, ap, ◌∙◌}
 use Prim.Native.Nat.{◌≤◌, ◌<◌}
 use borrow.Author.Tests.{le-leb, lt-leb}
 use mathlib.Core.List.{List}
+use Rattle.std.proofs.Common.{Ok, Err}
 use lib.ListN.{length}
-use Rattle.error.specs.declared.{Refusal.Refusal, Answer.Answer}
+use Rattle.error.specs.declared.{Refusal.Refusal}
 use Rattle.error.specs.Refusal.{number}
-use Rattle.out_points.specs.Tables.{Outcome, done, refused, told}
+use Rattle.out_points.specs.Tables.{done, refused}
 use Rattle.hold_records.specs.declared.{Hold.Hold, Held.Held}
-use Rattle.hold_records.specs.Holds.{records_of, at_most_256}
-
-abbrev pub After : Type 0
-After = Outcome Held (List Hold)
+use Rattle.hold_records.specs.Holds.{records_of, at_most_256, outcome_on}
 
 pub over : (h : Held) (l : List Hold) → 256 < length l → at_most_256 h l ≡ refused 14 h
 unfolding at_most_256
@@ -21,10 +19,10 @@ pub under : (h : Held) (l : List Hold) → length l ≤ 256 → at_most_256 h l 
 unfolding at_most_256
 under h l b = rw (le-leb (length l) 256 b)
 
-pub over-is : (h : Held) (l : List Hold) {o : After} → 256 < length l → o ≡ told records_of (Answer.Refused Refusal.TooManyHolds) h → o ≡ at_most_256 h l
-unfolding told number
-over-is h l b e = e ∙ sym (over h l b)
+pub over-is : (h : Held) (l : List Hold) → 256 < length l → outcome_on h (Err Refusal.TooManyHolds) ≡ at_most_256 h l
+unfolding outcome_on number
+over-is h l b = sym (over h l b)
 
-pub under-is : (h g : Held) (l : List Hold) {o : After} → length l ≤ 256 → records_of g ≡ l → o ≡ told records_of Answer.Done g → o ≡ at_most_256 h l
-unfolding told
-under-is h g l b eg e = e ∙ ap done eg ∙ sym (under h l b)
+pub under-is : (h g : Held) (l : List Hold) → length l ≤ 256 → records_of g ≡ l → outcome_on h (Ok g) ≡ at_most_256 h l
+unfolding outcome_on
+under-is h g l b eg = ap done eg ∙ sym (under h l b)

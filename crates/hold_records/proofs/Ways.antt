@@ -2,8 +2,7 @@
 use borrow.Author.Rules.{rules}
 use Rattle.out_points.proofs.ListLaws.{fits_not, fits_both, fits-room}
 use Rattle.hold_records.proofs.ListLaws.{length_mapped}
-use Rattle.hold_records.proofs.TestLaws.{lives_funding, not_funding, lives_tower, not_tower, kept-live, kept_not}
 use Rattle.hold_records.proofs.LoopLaws.{none_stand, empty-is, keep-none, keep_yes, keep_no, keep-end, keep_most}
 use Rattle.hold_records.proofs.WriteLaws.{cells-start, cells-more, cells-end, cells-fitting, cells-long, cells_short, cells-kept, cells_fit, cells-room, cells-written, fits-point, all_kept, all_short, all_room, all_put, all_listed}
 
-pub ruleset ways = (rules, fits_not, fits_both, fits-room, length_mapped, lives_funding, not_funding, lives_tower, not_tower, kept-live, kept_not, none_stand, empty-is, keep-none, keep_yes, keep_no, keep-end, keep_most, cells-start, cells-more, cells-end, cells-fitting, cells-long, cells_short, cells-kept, cells_fit, cells-room, cells-written, fits-point, all_kept, all_short, all_room, all_put, all_listed)
+pub ruleset ways = (rules, fits_not, fits_both, fits-room, length_mapped, none_stand, empty-is, keep-none, keep_yes, keep_no, keep-end, keep_most, cells-start, cells-more, cells-end, cells-fitting, cells-long, cells_short, cells-kept, cells_fit, cells-room, cells-written, fits-point, all_kept, all_short, all_room, all_put, all_listed)

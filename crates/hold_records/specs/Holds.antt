@@ -1,7 +1,8 @@
 -- Holds on cells (docs/RULES.md, "Holds and exclusions"): a table means the list of its records, and each call is a definition on such lists.
-use Rattle.std.specs.Prelude.{ℕ, ◌+◌, Bool, true, false, not, cond, List, [], ◌∷◌, ◌++◌, map}
+use Rattle.std.specs.Prelude.{ℕ, ◌+◌, Bool, true, false, not, cond, List, [], ◌∷◌, ◌++◌, map, Result, Ok, Err}
 use lib.{Dec.leb, Dec.eqb, ListN.length, ListN.take, ListN.replicate}
 use Rattle.units.specs.{declared.Millis.Millis, Units.later, Units.is_before}
+use Rattle.error.specs.{declared.Refusal.Refusal, Refusal.number}
 use Rattle.molecule.specs.Molecule.{readable}
 use Rattle.transaction.specs.Ckb.{OutPoints}
 use Rattle.out_points.specs.{declared.Byte32.Byte32, declared.OutPoint.OutPoint, OutPoints.eq_point, OutPoints.has, OutPoints.points}
@@ -24,6 +25,11 @@ unfoldable pub empty_table : Held
 empty_table =
     let hash : Byte32 = record { a = 0; b = 0; c = 0; d = 0 } in
     record { records = replicate 256 (record { point = record { hash = hash; index = 0 }; owner = Owner.Funding 0 }); count = 0 }
+
+-- what a call on h answers: what the table means that it leaves, or the number of its refusal and the very table that was handed in
+unfoldable pub outcome_on : Held → Result Held Refusal → Outcome Held (List Hold)
+outcome_on h (Ok g) = done (records_of g)
+outcome_on h (Err why) = refused (number why) h
 
 -- a test by the holder, or by the end
 unfoldable pub by_owner : (ℕ → Bool) → (Millis → Bool) → Owner → Bool

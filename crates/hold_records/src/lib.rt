@@ -1,60 +1,50 @@
 // Records of holds on cells, and what works on them alone: the table goes in by value and comes back by value.
-#![tactic(auto)]
+#![tactic(auto, using(crate::proofs::Ways::ways), unfolding(crate::specs::Holds::is_live, crate::specs::Holds::is_not_of, crate::specs::Holds::by_owner, crate::specs::Rules::is_kept))]
 
 ghost use Rattle.std.specs.Prelude.{◌≡◌, true, false, [], ◌+◌, ◌-◌, ◌*◌, ◌≤◌, min, length, drop};
-ghost use Rattle.error.specs.declared.{Answer.Answer};
 ghost use Rattle.molecule.specs.Partial.{All};
 ghost use Rattle.molecule.specs.Write.{Put};
 ghost use Rattle.out_points.specs.OutPoints.{Fit, points, bytes_of};
-ghost use Rattle.out_points.specs.Tables.{keep, told, has_room};
+ghost use Rattle.out_points.specs.Tables.{keep, has_room};
 ghost use Rattle.hold_records.specs.Rules.{is_kept, put_if};
 ghost use Rattle.hold_records.specs.Holds.{records_of, cells_of, empty_table, is_not_of, is_live};
 
-use arithmetic::sizes;
-use error::{Answer, Refusal};
 use molecule::write;
-use out_points::{Byte32, OutPoint};
+use out_points::OutPoint;
 use units::Millis;
 
 // The most records that a table holds.
 pub const MOST_RECORDS: usize = 256;
 
 // Who holds a cell: an opening's funding, by its holder, or the watchtower, until an end.
-#[derive(Clone, Copy)]
+#[derive(Clone, Copy, Debug, PartialEq, Eq, Hash)]
 pub enum Owner {
     Funding(u64),
     Watchtower(Millis),
 }
 
-#[derive(Clone, Copy)]
+#[derive(Clone, Copy, Debug, PartialEq, Eq, Hash)]
 pub struct Hold {
     pub point: OutPoint,
     pub owner: Owner,
 }
 
 // Who takes cells: the chain actor that builds an opening's funding, by its holder, or the watchtower.
-#[derive(Clone, Copy)]
+#[derive(Clone, Copy, Debug, PartialEq, Eq, Hash)]
 pub enum Taker {
     Funding(u64),
     Watchtower,
 }
 
-// The first `count` records stand; where `count` is beyond the array, all of it.
+// The first `count` records stand; where `count` is beyond the array, all of it. No ==: what is behind them is of no account.
 #[derive(Clone, Copy)]
 pub struct Held {
     pub records: [Hold; 256],
     pub count: usize,
 }
 
-// What a call answers, and the table after it.
-#[derive(Clone, Copy)]
-pub struct HeldAnswer {
-    pub held: Held,
-    pub answer: Answer,
-}
-
 // Which records a table is to keep.
-#[derive(Clone, Copy)]
+#[derive(Clone, Copy, Debug, PartialEq, Eq, Hash)]
 pub enum Rule {
     // All but the watchtower records that have ended.
     Live(Millis),
@@ -67,15 +57,10 @@ pub fn empty() -> Held
     ensures result_value { records_of result ≡ [] }
     ensures value { result ≡ empty_table }
 {
-    let hash = Byte32 {
-        a: 0,
-        b: 0,
-        c: 0,
-        d: 0,
+    let nobody = Hold {
+        point: OutPoint::default(),
+        owner: Owner::Funding(0),
     };
-    let point = OutPoint { hash, index: 0 };
-    let owner = Owner::Funding(0);
-    let nobody = Hold { point, owner };
     Held {
         records: [nobody; 256],
         count: 0,
@@ -86,20 +71,16 @@ pub fn empty() -> Held
 pub fn used(count: usize) -> usize
     ensures { result ≡ min count 256 }
 {
-    if count < MOST_RECORDS {
-        return count;
-    }
-    MOST_RECORDS
+    count.min(MOST_RECORDS)
 }
 
 // Whether a record still holds at `now`: funding always, a watchtower until its end.
 fn lives(r: Hold, now: Millis) -> bool
     ensures { result ≡ is_live now r }
 {
-    let owner = r.owner;
-    match owner {
+    match r.owner {
         Owner::Funding(_) => true,
-        Owner::Watchtower(end) => now.before(end),
+        Owner::Watchtower(end) => now < end,
     }
 }
 
@@ -107,8 +88,7 @@ fn lives(r: Hold, now: Millis) -> bool
 fn not_of(r: Hold, holder: u64) -> bool
     ensures { result ≡ is_not_of holder r }
 {
-    let owner = r.owner;
-    match owner {
+    match r.owner {
         Owner::Funding(n) => n != holder,
         Owner::Watchtower(_) => true,
     }
@@ -132,10 +112,8 @@ pub fn keep(h: Held, rule: Rule) -> Held
     let n = used(h.count);
     let mut g = h;
     let mut to: usize = 0;
-    let mut i: usize = 0;
-    while i < n {
+    for i in 0..n {
         let x = h.records[i];
-        i += 1;
         if kept(x, rule) {
             g.records[to] = x;
             to += 1;
@@ -145,7 +123,7 @@ pub fn keep(h: Held, rule: Rule) -> Held
     g
 }
 
-// The record's cell. Of a parameter it is known that its numbers fit their types.
+// The record's cell. A function: of a parameter it is known that its numbers fit their types, and not of an array's element.
 fn cell_of(r: Hold) -> OutPoint
     ensures value { result ≡ r.point }
     ensures fit { Fit result }
@@ -161,12 +139,8 @@ fn put_points(h: Held, from: usize, out: &mut [u8], at: usize) -> usize
 {
     let n = used(h.count);
     let mut to = at;
-    let mut i = from;
-    while i < n {
-        let x = h.records[i];
-        let p = cell_of(x);
-        to = out_points::put_out_point(out, to, p);
-        i += 1;
+    for i in from..n {
+        to = out_points::put_out_point(out, to, cell_of(h.records[i]));
     }
     to
 }
@@ -176,7 +150,7 @@ pub fn put_cells(h: Held, from: usize, out: &mut [u8]) -> bool
     ensures value { result ≡ has_room (cells_of (drop from (records_of h))) out.old }
     ensures out_after { out.new ≡ put_if (cells_of (drop from (records_of h))) out.old }
 {
-    let n = sizes::saturating_sub(used(h.count), from) as u32;
+    let n = used(h.count).saturating_sub(from) as u32;
     if !out_points::fits(n, out.len()) {
         return false;
     }
@@ -196,22 +170,4 @@ pub fn list_cells(h: Held, out: &mut [u8])
     }
     let at = write::put_u32(out, 0, n);
     put_points(h, 0, out, at);
-}
-
-pub fn done(held: Held) -> HeldAnswer
-    ensures held_value { told records_of result.answer result.held ≡ told records_of Answer.Done held }
-    ensures value { result ≡ record { held = held; answer = Answer.Done } }
-{
-    HeldAnswer {
-        held,
-        answer: Answer::Done,
-    }
-}
-
-pub fn refuse(held: Held, why: Refusal) -> HeldAnswer
-    ensures held_value { told records_of result.answer result.held ≡ told records_of (Answer.Refused why) held }
-    ensures value { result ≡ record { held = held; answer = Answer.Refused why } }
-{
-    let answer = Answer::Refused(why);
-    HeldAnswer { held, answer }
 }

@@ -20,7 +20,7 @@ pub data Outcome (T M : Type 0) : Type 0 where
   refused : ℕ → T → Outcome T M
 
 -- a call's answer with the table that it returns, where a table t means `means t`
-unfoldable pub told : {T M : Type 0} → (T → M) → Result (Unit {0}) Refusal → T → Outcome T M
+unfoldable pub told : {T M : Type 0} → (T → M) → Result Unit Refusal → T → Outcome T M
 told means (Ok _) t = done (means t)
 told means (Err why) t = refused (number why) t
 

@@ -1,6 +1,6 @@
 // Out points: an output of a transaction, by the transaction's hash and the output's index. Lists of them are lent and written as Molecule
 // writes them: the count, then 36 bytes for each.
-#![tactic(auto)]
+#![tactic(auto, using(crate::proofs::Ways::ways), unfolding(crate::specs::OutPoints::eq_hash, crate::specs::OutPoints::eq_point, crate::specs::OutPoints::slot_of, crate::specs::OutPoints::byte32_at, crate::specs::OutPoints::out_point_at))]
 
 ghost use Rattle.std.specs.Prelude.{◌≡◌, ◌+◌, ◌*◌, ◌<◌, ◌≤◌, min, ◌++◌, length, nat_le};
 ghost use Rattle.arithmetic.specs.LittleEndian.{to_le};
@@ -15,7 +15,7 @@ use molecule::write;
 const OUT_POINT_BYTES: u32 = 36;
 
 // A hash, in words of eight bytes, so that two are compared in four steps.
-#[derive(Clone, Copy, Debug, PartialEq, Eq, Hash)]
+#[derive(Clone, Copy, Debug, Default, PartialEq, Eq, Hash)]
 pub struct Byte32 {
     pub a: u64,
     pub b: u64,
@@ -23,7 +23,7 @@ pub struct Byte32 {
     pub d: u64,
 }
 
-#[derive(Clone, Copy, Debug, PartialEq, Eq, Hash)]
+#[derive(Clone, Copy, Debug, Default, PartialEq, Eq, Hash)]
 pub struct OutPoint {
     pub hash: Byte32,
     pub index: u32,
@@ -33,28 +33,14 @@ pub struct OutPoint {
 pub fn same_hash(x: Byte32, y: Byte32) -> bool
     ensures { result ≡ eq_hash x y }
 {
-    if x.a != y.a {
-        return false;
-    }
-    if x.b != y.b {
-        return false;
-    }
-    if x.c != y.c {
-        return false;
-    }
-    x.d == y.d
+    x == y
 }
 
 // Whether the two name the same output. Hashes tell most of them apart by their first word.
 pub fn same_point(p: OutPoint, q: OutPoint) -> bool
     ensures { result ≡ eq_point p q }
 {
-    let x = p.hash;
-    let y = q.hash;
-    if !same_hash(x, y) {
-        return false;
-    }
-    p.index == q.index
+    p == q
 }
 
 // How many slots there are for marks and hints by which a search is spared.
@@ -66,10 +52,12 @@ pub fn slot(p: OutPoint) -> usize
     ensures upper_bound { result < 4093 }
 {
     let hash = p.hash;
-    let ab = std::num::wrapping_add_u64(hash.a, hash.b);
-    let abc = std::num::wrapping_add_u64(ab, hash.c);
-    let abcd = std::num::wrapping_add_u64(abc, hash.d);
-    let sum = std::num::wrapping_add_u64(abcd, p.index as u64);
+    let sum = hash
+        .a
+        .wrapping_add(hash.b)
+        .wrapping_add(hash.c)
+        .wrapping_add(hash.d)
+        .wrapping_add(u64::from(p.index));
     sum as usize % SLOTS
 }
 
@@ -78,12 +66,7 @@ pub fn byte32_at(s: &[u8], at: usize) -> Byte32
     ensures { result ≡ byte32_at s.now at }
 {
     if s.len() <= at {
-        return Byte32 {
-            a: 0,
-            b: 0,
-            c: 0,
-            d: 0,
-        };
+        return Byte32::default();
     }
     let a = little_endian::u64_at(s, at);
     let b = little_endian::u64_at(s, at + 8);
@@ -118,11 +101,7 @@ fn list_size(n: u32) -> usize
 pub fn fits(n: u32, room: usize) -> bool
     ensures { result ≡ nat_le (4 + 36 * n) (min room 133116) }
 {
-    let size = list_size(n);
-    if MAX_BYTES < size {
-        return false;
-    }
-    size <= room
+    list_size(n) <= room.min(MAX_BYTES)
 }
 
 // Item i of a lent list.
@@ -133,85 +112,34 @@ pub fn point_of(s: &[u8], i: usize) -> OutPoint
     out_point_at(x, 0)
 }
 
-// The first word of item i, and 0 where the list has no such item.
-fn first_word(s: &[u8], i: usize) -> u64
-    ensures { result ≡ (point_of s.now i).hash.a }
-{
-    let n = molecule::word(s, 0) as usize;
-    if n <= i {
-        return 0;
-    }
-    little_endian::u64_at(s, 4 + 36 * i)
-}
-
-// Whether item i of a lent list is p. What follows the first word is read only where that is the same.
-fn same_item(s: &[u8], i: usize, p: OutPoint) -> bool
-    ensures { result ≡ eq_point p (point_of s.now i) }
-{
-    let hash = p.hash;
-    let a = first_word(s, i);
-    if hash.a != a {
-        return false;
-    }
-    let q = point_of(s, i);
-    same_point(p, q)
-}
-
-// The same of an item that the list has whole: no more than that is tested for each.
+// Whether item i of a lent list, which has it whole, is p. What follows the first word is read only where that is the same.
 fn same_within(s: &[u8], i: usize, p: OutPoint) -> bool
     requires { (i < fix_count s.now) × (40 + 36 * i ≤ length s.now) }
     ensures { result ≡ eq_point p (point_of s.now i) }
 {
     let x = &s[4 + 36 * i..40 + 36 * i];
-    let hash = p.hash;
-    let a = little_endian::u64_at(x, 0);
-    if hash.a != a {
+    p.hash.a == little_endian::u64_at(x, 0) && p == out_point_at(x, 0)
+}
+
+// Whether p is among the first n items. Where the bytes end before the last of them, what is missing is read as zeros.
+fn has_among(s: &[u8], n: usize, p: OutPoint) -> bool
+    requires { (n ≤ fix_count s.now) × (n < 4294967296) }
+    ensures { result ≡ has p (span (point_of s.now) 0 n) }
+{
+    if 4 + 36 * n <= s.len() {
+        for i in 0..n {
+            if same_within(s, i, p) {
+                return true;
+            }
+        }
         return false;
     }
-    let q = out_point_at(x, 0);
-    same_point(p, q)
-}
-
-// Whether p is among the first n items, which the list has whole.
-fn has_within(s: &[u8], n: usize, p: OutPoint) -> bool
-    requires { (n ≤ fix_count s.now) × (4 + 36 * n ≤ length s.now) }
-    ensures { result ≡ has p (span (point_of s.now) 0 n) }
-{
-    let mut i = 0;
-    while i < n {
-        if same_within(s, i, p) {
+    for j in 0..n {
+        if same_point(p, point_of(s, j)) {
             return true;
         }
-        i += 1;
     }
     false
-}
-
-// Whether p is among the first n items, read as zeros where the list has none.
-fn has_loosely(s: &[u8], n: usize, p: OutPoint) -> bool
-    ensures { result ≡ has p (span (point_of s.now) 0 n) }
-{
-    let mut i = 0;
-    while i < n {
-        if same_item(s, i, p) {
-            return true;
-        }
-        i += 1;
-    }
-    false
-}
-
-fn has_among(s: &[u8], n: usize, p: OutPoint) -> bool
-    ensures { result ≡ has p (span (point_of s.now) 0 n) }
-{
-    let count = molecule::fix_count(s) as usize;
-    if count < n {
-        return has_loosely(s, n, p);
-    }
-    if s.len() < 4 + 36 * n {
-        return has_loosely(s, n, p);
-    }
-    has_within(s, n, p)
 }
 
 // Whether p is among the first n items of the lent list, or among all where it has fewer.
@@ -219,10 +147,7 @@ pub fn has_before(s: &[u8], n: usize, p: OutPoint) -> bool
     ensures { result ≡ has p (span (point_of s.now) 0 (min n (fix_count s.now))) }
 {
     let count = molecule::fix_count(s) as usize;
-    if n < count {
-        return has_among(s, n, p);
-    }
-    has_among(s, count, p)
+    has_among(s, n.min(count), p)
 }
 
 // Whether the lent list has p.
@@ -248,10 +173,7 @@ pub fn put_byte32(out: &mut [u8], at: usize, h: Byte32) -> usize
     ensures out_after { out.new ≡ put_at out.old at (hash_bytes h) }
     ensures value { result ≡ put_end out.old at (hash_bytes h) }
 {
-    if out.len() < at {
-        return at;
-    }
-    if out.len() - at < 32 {
+    if out.len().saturating_sub(at) < 32 {
         return at;
     }
     let at = put_words(out, at, h.a, h.b);
@@ -263,10 +185,7 @@ pub fn put_out_point(out: &mut [u8], at: usize, p: OutPoint) -> usize
     ensures out_after { out.new ≡ put_at out.old at (point_bytes p) }
     ensures value { result ≡ put_end out.old at (point_bytes p) }
 {
-    if out.len() < at {
-        return at;
-    }
-    if out.len() - at < 36 {
+    if out.len().saturating_sub(at) < 36 {
         return at;
     }
     let hash = p.hash;

@@ -1,9 +1,8 @@
 // What each pick is to the calls on holds: a repeat of an earlier pick, or the first on its cell, and then free or busy. The picks are indexed, and the cells that
 // are held and those that are spent go through the index once, so that the time goes by (picks + held + spent) log picks comparisons whatever the bytes.
-#![tactic(auto)]
+#![tactic(auto, using(crate::proofs::Ways::ways))]
 
 ghost use Rattle.std.specs.Prelude.{◌≡◌, true, ◌≤◌, ◌<◌, min, length, set};
-ghost use Rattle.arithmetic.specs.LittleEndian.{AllBytes};
 ghost use Rattle.molecule.specs.Layout.{fix_count};
 ghost use Rattle.out_points.specs.OutPoints.{point_of, points};
 ghost use Rattle.pick_kinds.specs.Kinds.{is_among, none_is, kind_of, Kinds};
@@ -18,43 +17,24 @@ pub const MOST_PICKS: usize = 7394;
 // So many are indexed in less room, which is sooner cleared.
 const SOME_PICKS: usize = 1024;
 
-// What stands for a pick: an earlier one is the same; it is the first on its cell and free; it is the first and busy.
-const AGAIN: u8 = 0;
+// What stands for a pick, in numbers: they are read from lent room that is cleared at once, and the laws of a list's places are of numbers. An earlier one is the same; it is the first on its cell and free; it is the first and busy.
+pub const AGAIN: u8 = 0;
 
-const FREE: u8 = 1;
+pub const FREE: u8 = 1;
 
-const BUSY: u8 = 2;
-
-// That each byte is below 256 is known where one is read.
-fn are_bytes(s: &[u8])
-    requires { 0 < length s.now }
-    ensures { AllBytes s.now }
-{
-    let _byte = s[0];
-}
+pub const BUSY: u8 = 2;
 
 // Whether the list has all its items whole.
 fn is_whole(s: &[u8]) -> bool
     ensures { result ≡ true → Whole s.now }
 {
-    let n = molecule::fix_count(s) as usize;
-    if s.len() < 4 + 36 * n {
-        return false;
-    }
-    are_bytes(s);
-    true
+    4 + 36 * molecule::fix_count(s) as usize <= s.len()
 }
 
 fn are_whole(cells: &[u8], picked: &[u8], spent: &[u8]) -> bool
     ensures { result ≡ true → AllWhole cells.now picked.now spent.now }
 {
-    if !is_whole(cells) {
-        return false;
-    }
-    if !is_whole(picked) {
-        return false;
-    }
-    is_whole(spent)
+    is_whole(cells) && is_whole(picked) && is_whole(spent)
 }
 
 // The first of n picks that is item k of the list, and n where none is.
@@ -75,10 +55,7 @@ fn kind_of(picked: &[u8], s: &[u32], n: u32, i: usize) -> u8
     ensures { result ≡ kind_of none_is (point_of picked.now) i }
 {
     let at = first_place(picked, s, n, picked, i);
-    if at == i {
-        return FREE;
-    }
-    AGAIN
+    if at == i { FREE } else { AGAIN }
 }
 
 fn set_kinds(picked: &[u8], s: &[u32], n: u32, kinds: &mut [u8])
@@ -86,21 +63,17 @@ fn set_kinds(picked: &[u8], s: &[u32], n: u32, kinds: &mut [u8])
     requires n_in_bounds { n ≤ length kinds.old }
     ensures { Kinds none_is (point_of picked.now) n kinds.new }
 {
-    let m = n as usize;
-    let mut i = 0;
-    while i < m {
+    for i in 0..n as usize {
         kinds[i] = kind_of(picked, s, n, i);
-        i += 1;
     }
 }
 
 fn set_busy(kinds: &mut [u8], at: usize)
     ensures { kinds.new ≡ set kinds.old at 2 }
 {
-    if kinds.len() <= at {
-        return;
+    if at < kinds.len() {
+        kinds[at] = BUSY;
     }
-    kinds[at] = BUSY;
 }
 
 // The list's cells are busy too.
@@ -110,11 +83,8 @@ fn mark_busy(picked: &[u8], s: &[u32], n: u32, list: &[u8], kinds: &mut [u8])
     ensures { Adds (point_of picked.now) n (points list.now) kinds.old kinds.new }
 {
     let m = molecule::fix_count(list) as usize;
-    let mut k = 0;
-    while k < m {
-        let at = first_place(picked, s, n, list, k);
-        set_busy(kinds, at);
-        k += 1;
+    for k in 0..m {
+        set_busy(kinds, first_place(picked, s, n, list, k));
     }
 }
 
@@ -151,27 +121,23 @@ fn index_kinds(
     put_kinds(cells, picked, spent, s, n, kinds);
 }
 
-fn some_kinds(cells: &[u8], picked: &[u8], spent: &[u8], n: u32, kinds: &mut [u8])
+// The same in room for so many picks.
+fn kinds_in<const ROOM: usize>(
+    cells: &[u8],
+    picked: &[u8],
+    spent: &[u8],
+    n: u32,
+    kinds: &mut [u8],
+)
     requires all_whole { AllWhole cells.now picked.now spent.now }
     requires n_bound { n ≤ fix_count picked.now }
-    requires n_bound_2 { n ≤ 1024 }
+    requires n_bound_2 { n ≤ ROOM }
+    requires room { ROOM ≤ 7394 }
     requires n_in_bounds { n ≤ length kinds.old }
     ensures { Kinds (is_among (points cells.now) (points spent.now)) (point_of picked.now) n kinds.new }
 {
-    let mut s = [0u32; SOME_PICKS];
-    let mut t = [0u32; SOME_PICKS];
-    index_kinds(cells, picked, spent, n, &mut s, &mut t, kinds);
-}
-
-fn many_kinds(cells: &[u8], picked: &[u8], spent: &[u8], n: u32, kinds: &mut [u8])
-    requires all_whole { AllWhole cells.now picked.now spent.now }
-    requires n_bound { n ≤ fix_count picked.now }
-    requires n_bound_2 { n ≤ 7394 }
-    requires n_in_bounds { n ≤ length kinds.old }
-    ensures { Kinds (is_among (points cells.now) (points spent.now)) (point_of picked.now) n kinds.new }
-{
-    let mut s = [0u32; MOST_PICKS];
-    let mut t = [0u32; MOST_PICKS];
+    let mut s = [0u32; ROOM];
+    let mut t = [0u32; ROOM];
     index_kinds(cells, picked, spent, n, &mut s, &mut t, kinds);
 }
 
@@ -179,11 +145,7 @@ fn many_kinds(cells: &[u8], picked: &[u8], spent: &[u8], n: u32, kinds: &mut [u8
 fn indexed(picked: &[u8]) -> u32
     ensures { result ≡ min (fix_count picked.now) 7394 }
 {
-    let n = molecule::fix_count(picked);
-    if n as usize <= MOST_PICKS {
-        return n;
-    }
-    MOST_PICKS as u32
+    molecule::fix_count(picked).min(MOST_PICKS as u32)
 }
 
 // Puts what each pick is, where the cells that are held and those that are spent are busy, and answers for how many picks it does so: for the first 7,394, and for
@@ -200,9 +162,9 @@ pub fn sort_out(cells: &[u8], picked: &[u8], spent: &[u8], kinds: &mut [u8]) -> 
         return 0;
     }
     if m <= SOME_PICKS {
-        some_kinds(cells, picked, spent, n, kinds);
+        kinds_in::<SOME_PICKS>(cells, picked, spent, n, kinds);
         return m;
     }
-    many_kinds(cells, picked, spent, n, kinds);
+    kinds_in::<MOST_PICKS>(cells, picked, spent, n, kinds);
     m
 }

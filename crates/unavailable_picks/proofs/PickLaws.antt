@@ -3,7 +3,6 @@ use mathlib.Core.Path.{◌≡◌, refl, sym, ap, ◌∙◌}
 use Prim.Native.Nat.{ℕ, suc, ◌+◌, ◌-◌, ◌*◌, ◌≤◌, ◌<◌, min}
 use native.Mathlib.Nat.{zero-add}
 use native.Mathlib.Omega.{arith}
-use borrow.Author.Tests.{not-true, not-false}
 use mathlib.Core.Bool.{Bool, true, false, not, cond}
 use mathlib.Core.List.{List, [], ◌∷◌}
 use lib.Dec.{eqb}
@@ -33,14 +32,13 @@ module _ (cells spent : List OutPoint) (p : OutPoint) {a : Bool} (e : a ≡ has 
   busy_spent t h = rw (← e, t) h
 
 module _ (f : OutPoint → Bool) (g : ℕ → OutPoint) (i : ℕ) {p : OutPoint} (ep : p ≡ g i) where
-  module _ {a : Bool} (ea : a ≡ f p) where
-    pub first_no : not a ≡ true → false ≡ is_first f g i
-    unfolding is_first
-    first_no t = rw (← ep, ← ea, not-true a t)
+  pub first_no : {a : Bool} → a ≡ f p → a ≡ false → a ≡ is_first f g i
+  unfolding is_first
+  first_no {a} ea t = rw (← ep, ← ea, t)
 
-    pub first_yes : {b : Bool} {m : ℕ} → i < m → not a ≡ false → b ≡ has p (span g 0 (min i m)) → not b ≡ is_first f g i
-    unfolding is_first
-    first_yes {b} {m} l t e = let k : min i m ≡ i = omega arith in rw (← ep, ← ea, not-false a t, e, k)
+  pub first_yes : {a b : Bool} {m : ℕ} → a ≡ f p → i < m → a ≡ true → b ≡ has p (span g 0 (min i m)) → not b ≡ is_first f g i
+  unfolding is_first
+  first_yes {a} {b} {m} ea l t e = let k : min i m ≡ i = omega arith in rw (← ep, ← ea, t, e, k)
 
   module _ {b : Bool} {m : ℕ} (l : i < m) (eb : b ≡ has p (span g 0 (min i m))) where
     before-is : has (g i) (span g 0 i) ≡ b
@@ -112,11 +110,8 @@ module _ {f : OutPoint → Bool} {g : ℕ → OutPoint} {n i : ℕ} {m₀ m : Li
   pub fill_more : {v : ℕ} → i < length m → v ≡ kind_of f g i → Filling f g n (i + 1) m₀ (set m i v)
   fill_more {v} l e = record { long = length-set m i v ∙ k.long; kinds = kind_put f g l e k.kinds }
 
-  pub fill_out : (c : ℕ) → length m ≤ i → Kinds f g (min c (length m)) m
-  fill_out c l = kinds_fewer f g (omega arith) k.kinds
-
-  pub fill_end : (c : ℕ) → n ≡ c → n ≤ i → Kinds f g (min c (length m)) m
-  fill_end c e l = kinds_fewer f g (omega arith) k.kinds
+  pub fill_end : (c : ℕ) → n ≡ min (length m₀) c → n ≤ i → Kinds f g (min c (length m)) m
+  fill_end c e l = let z = k.long in kinds_fewer f g (omega arith) k.kinds
 
 -- ---- what `select` picks out
 

@@ -1,5 +1,5 @@
 // Picks against a list of held cells and one of spent cells: what each pick is, and which are unavailable.
-#![tactic(auto)]
+#![tactic(auto, using(crate::proofs::Ways::ways))]
 
 ghost use Rattle.std.specs.Prelude.{◌≡◌, [], ◌+◌, ◌*◌, ◌≤◌, ◌<◌, min, length, set};
 ghost use Rattle.molecule.specs.Layout.{fix_count};
@@ -14,7 +14,7 @@ ghost use Rattle.unavailable_picks.specs.Unavailable.{marked, Marks, Looked, is_
 use hold_records::{Held, MOST_RECORDS};
 use molecule::write;
 use out_points::{OutPoint, SLOTS};
-use pick_kinds::MOST_PICKS;
+use pick_kinds::{AGAIN, BUSY, FREE, MOST_PICKS};
 
 // How many bytes the list of a table's cells has at most.
 pub const CELLS_BYTES: usize = 4 + 36 * MOST_RECORDS;
@@ -27,10 +27,9 @@ fn mark(marks: &mut [u8], p: OutPoint)
     ensures { marks.new ≡ set marks.old (slot_of p) 1 }
 {
     let at = out_points::slot(p);
-    if marks.len() <= at {
-        return;
+    if at < marks.len() {
+        marks[at] = 1;
     }
-    marks[at] = 1;
 }
 
 // Sets the marks of the list's out points.
@@ -38,11 +37,8 @@ fn mark_list(s: &[u8], marks: &mut [u8])
     ensures { marks.new ≡ marked (points s.now) marks.old }
 {
     let n = molecule::fix_count(s) as usize;
-    let mut i: usize = 0;
-    while i < n {
-        let p = out_points::point_of(s, i);
-        mark(marks, p);
-        i += 1;
+    for i in 0..n {
+        mark(marks, out_points::point_of(s, i));
     }
 }
 
@@ -59,14 +55,8 @@ fn busy(cells: &[u8], spent: &[u8], marks: &[u8], p: OutPoint) -> bool
     requires { Marks (points cells.now) (points spent.now) marks.now }
     ensures { result ≡ is_among (points cells.now) (points spent.now) p }
 {
-    let at = out_points::slot(p);
-    if marks[at] == 0 {
-        return false;
-    }
-    if out_points::has_point(cells, p) {
-        return true;
-    }
-    out_points::has_point(spent, p)
+    marks[out_points::slot(p)] != 0
+        && (out_points::has_point(cells, p) || out_points::has_point(spent, p))
 }
 
 // What pick i is, looked up.
@@ -77,12 +67,12 @@ fn kind_at(cells: &[u8], picked: &[u8], spent: &[u8], marks: &[u8], i: usize) ->
 {
     let p = out_points::point_of(picked, i);
     if out_points::has_before(picked, i, p) {
-        return 0;
+        return AGAIN;
     }
     if busy(cells, spent, marks, p) {
-        return 2;
+        return BUSY;
     }
-    1
+    FREE
 }
 
 // Puts what the picks from `from` on are, as far as kinds goes.
@@ -97,15 +87,9 @@ fn look_up_from(
     requires { Looked cells.now picked.now spent.now marks.now kinds.old from }
     ensures { Kinds (is_among (points cells.now) (points spent.now)) (point_of picked.now) (min (fix_count picked.now) (length kinds.new)) kinds.new }
 {
-    let n = molecule::fix_count(picked) as usize;
-    let mut i = from;
-    while i < n {
-        if kinds.len() <= i {
-            return;
-        }
-        let kind = kind_at(cells, picked, spent, marks, i);
-        kinds[i] = kind;
-        i += 1;
+    let n = kinds.len().min(molecule::fix_count(picked) as usize);
+    for i in from..n {
+        kinds[i] = kind_at(cells, picked, spent, marks, i);
     }
 }
 
@@ -137,10 +121,7 @@ fn look_up(cells: &[u8], picked: &[u8], spent: &[u8], marks: &[u8], i: usize) ->
     ensures { result ≡ is_first (is_among (points cells.now) (points spent.now)) (point_of picked.now) i }
 {
     let p = out_points::point_of(picked, i);
-    if !busy(cells, spent, marks, p) {
-        return false;
-    }
-    !out_points::has_before(picked, i, p)
+    busy(cells, spent, marks, p) && !out_points::has_before(picked, i, p)
 }
 
 // The same. What the first `known` picks are has been sorted out.
@@ -158,7 +139,7 @@ fn is_first(
     ensures { result ≡ is_first (is_among (points cells.now) (points spent.now)) (point_of picked.now) i }
 {
     if i < known {
-        return kinds[i] == 2;
+        return kinds[i] == BUSY;
     }
     look_up(cells, picked, spent, marks, i)
 }
@@ -177,11 +158,8 @@ fn count_busy(
 {
     let n = molecule::fix_count(picked) as usize;
     let mut count: u32 = 0;
-    let mut i: usize = 0;
-    while i < n {
-        let k = i;
-        i += 1;
-        if is_first(cells, picked, spent, marks, kinds, known, k) {
+    for i in 0..n {
+        if is_first(cells, picked, spent, marks, kinds, known, i) {
             count += 1;
         }
     }
@@ -205,12 +183,9 @@ fn put_busy(
 {
     let n = molecule::fix_count(picked) as usize;
     let mut to = at;
-    let mut i: usize = 0;
-    while i < n {
-        let k = i;
-        i += 1;
-        if is_first(cells, picked, spent, marks, kinds, known, k) {
-            let p = out_points::point_of(picked, k);
+    for i in 0..n {
+        if is_first(cells, picked, spent, marks, kinds, known, i) {
+            let p = out_points::point_of(picked, i);
             to = out_points::put_out_point(out, to, p);
         }
     }

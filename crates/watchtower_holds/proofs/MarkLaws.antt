@@ -248,6 +248,20 @@ module _ {s : List ℕ} {h : Held} {hm : List ℕ} {c n : ℕ} {p : OutPoint} {i
         marks_enough : c ≤ length m
         marks_enough = let a = k.most in let w = k.room in omega arith
 
+  -- no others
+  pub free_next : (p' : OutPoint) → c ≤ j → Releasing s h hm c n p' i c m₀ m
+  free_next p' q = record {
+    most = k.most;
+    whole = k.whole;
+    hints = k.hints;
+    all = k.all;
+    within = k.within;
+    start = k.start;
+    room = k.room;
+    before = λ y d u v. k.before y d u (omega arith);
+    after = λ y d u v. absurd (omega arith);
+  }
+
   pub free_end : c ≤ j → n ≤ i → Marks (points s) h.records (min h.count 256) m
   free_end q l =
       let a = k.most in

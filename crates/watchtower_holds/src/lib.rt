@@ -1,17 +1,16 @@
-// The watchtower's holds on cells: the table of holds goes in by value and comes back by value, and a refused call hands back the very table that it got.
-#![tactic(auto)]
+// The watchtower's holds on cells: the table of holds goes in by value and comes back by value, and the caller of a refused call still has the very table that it lent.
+#![tactic(auto, using(crate::proofs::Ways::ways))]
 
-ghost use Rattle.std.specs.Prelude.{◌≡◌, true, false, [], ◌+◌, ◌-◌, ◌*◌, ◌<◌, ◌≤◌, min, eqb, length, get_or, set};
-ghost use Rattle.error.specs.declared.{Answer.Answer};
+ghost use Rattle.std.specs.Prelude.{◌≡◌, [], ◌+◌, ◌-◌, ◌*◌, ◌<◌, ◌≤◌, min, nat_eq, length, get_or, set, IfOk};
 ghost use Rattle.out_points.specs.OutPoints.{points, slot_of};
-ghost use Rattle.out_points.specs.Tables.{keep, told};
-ghost use Rattle.hold_records.specs.declared.{Owner.Owner};
-ghost use Rattle.hold_records.specs.Holds.{records_of, is_unnamed, is_tower_on, renew_all, at_most_256, release_for_watchtower, hold_for_watchtower};
+ghost use Rattle.out_points.specs.Tables.{keep};
+ghost use Rattle.hold_records.specs.declared.{Owner.Owner, Held.Held};
+ghost use Rattle.hold_records.specs.Holds.{records_of, outcome_on, is_unnamed, is_tower_on, renew_all, at_most_256, release_for_watchtower, hold_for_watchtower};
 ghost use Rattle.watchtower_holds.specs.Places.{place_of, noted, Hints, marked, Marks};
 
 use arithmetic::little_endian;
 use error::Refusal;
-use hold_records::{Held, HeldAnswer, Hold, MOST_RECORDS, Owner};
+use hold_records::{Held, Hold, MOST_RECORDS, Owner};
 use out_points::{OutPoint, SLOTS};
 use units::Millis;
 
@@ -43,10 +42,7 @@ fn note_other(hints: &mut [u8], at: usize, place: usize)
     requires { (at < length hints.old) × (0 < place) × (place < 256) }
     ensures { hints.new ≡ set hints.old at (min (get_or hints.old at 0) (place - 1)) }
 {
-    let k = little_endian::byte(hints, at) as usize;
-    if place <= k {
-        hints[at] = (place - 1) as u8;
-    }
+    hints[at] = hints[at].min((place - 1) as u8);
 }
 
 // Notes that a record of the watchtower's in the slot of p stands at `place`.
@@ -55,7 +51,7 @@ fn note(hints: &mut [u8], p: OutPoint, place: usize)
     ensures { hints.new ≡ noted hints.old (slot_of p) place }
 {
     let at = 2 * out_points::slot(p);
-    let k = little_endian::byte(hints, at) as usize;
+    let k = usize::from(hints[at]);
     if place < k {
         hints[at] = place as u8;
         return;
@@ -69,8 +65,7 @@ fn note(hints: &mut [u8], p: OutPoint, place: usize)
 fn is_tower(r: Hold) -> bool
     ensures { result ≡ is_tower_on r.point r }
 {
-    let owner = r.owner;
-    match owner {
+    match r.owner {
         Owner::Funding(_) => false,
         Owner::Watchtower(_) => true,
     }
@@ -82,14 +77,10 @@ fn note_all(h: Held, hints: &mut [u8])
     ensures { Hints hints.new h.records (min h.count 256) }
 {
     let n = hold_records::used(h.count);
-    let mut i: usize = 0;
-    while i < n {
-        let at = i;
+    for i in 0..n {
         let x = h.records[i];
-        i += 1;
         if is_tower(x) {
-            let p = x.point;
-            note(hints, p, at);
+            note(hints, x.point, i);
         }
     }
 }
@@ -98,13 +89,9 @@ fn note_all(h: Held, hints: &mut [u8])
 fn tower_on(r: Hold, p: OutPoint) -> bool
     ensures { result ≡ is_tower_on p r }
 {
-    let owner = r.owner;
-    match owner {
+    match r.owner {
         Owner::Funding(_) => false,
-        Owner::Watchtower(_) => {
-            let q = r.point;
-            out_points::same_point(p, q)
-        }
+        Owner::Watchtower(_) => out_points::same_point(p, r.point),
     }
 }
 
@@ -114,13 +101,10 @@ fn tower_place(h: Held, p: OutPoint, from: usize) -> usize
     ensures { result ≡ place_of p (records_of h) }
 {
     let n = hold_records::used(h.count);
-    let mut i = from;
-    while i < n {
-        let x = h.records[i];
-        if tower_on(x, p) {
+    for i in from..n {
+        if tower_on(h.records[i], p) {
             return i;
         }
-        i += 1;
     }
     n
 }
@@ -140,63 +124,56 @@ fn counted(count: usize, at: usize) -> usize
     requires { at < 256 }
     ensures { result ≡ count + (at + 1 - count) }
 {
-    if count <= at {
-        return at + 1;
-    }
-    count
+    count.max(at + 1)
 }
 
 // The watchtower's record on each of the cells lasts until `end`: in its place, or last. More than one record is looked at only where a slot has more than one.
-// `from` has the records of h, which a refusal hands back.
-fn renew_from(h: Held, from: Held, cells: &[u8], end: Millis, hints: &mut [u8]) -> HeldAnswer
-    requires { (records_of from ≡ records_of h) × (from.count ≤ 256) × Hints hints.old from.records (min from.count 256) }
-    ensures held_value { told records_of result.answer result.held ≡ at_most_256 h (renew_all end (records_of h) (points cells.now)) }
-    ensures count_bound { result.answer ≡ Answer.Done → result.held.count ≤ 256 }
+fn renew_from(from: Held, cells: &[u8], end: Millis, hints: &mut [u8]) -> Result<Held, Refusal>
+    requires { (from.count ≤ 256) × Hints hints.old from.records (min from.count 256) }
+    ensures held_value { (h : Held) → outcome_on h result ≡ at_most_256 h (renew_all end (records_of from) (points cells.now)) }
+    ensures count_bound { IfOk result (λ g. g.count ≤ 256) }
 {
     let n = molecule::fix_count(cells) as usize;
     let mut g = from;
-    let mut i: usize = 0;
-    while i < n {
+    for i in 0..n {
         let point = out_points::point_of(cells, i);
         let owner = Owner::Watchtower(end);
         let hold = Hold { point, owner };
         let last = g.count;
         let k = first(hints, point);
-        i += 1;
         if last <= k {
             if MOST_RECORDS <= last {
-                return hold_records::refuse(h, Refusal::TooManyHolds);
+                return Err(Refusal::TooManyHolds);
             }
             g.records[last] = hold;
             g.count = last + 1;
             note(hints, point, last);
-        } else {
-            let x = g.records[k];
-            if tower_on(x, point) {
-                g.records[k] = hold;
-            } else {
-                let others = next(hints, point);
-                let at = tower_place(g, point, others);
-                if MOST_RECORDS <= at {
-                    return hold_records::refuse(h, Refusal::TooManyHolds);
-                }
-                g.records[at] = hold;
-                g.count = counted(last, at);
-                note(hints, point, at);
-            }
+            continue;
         }
+        if tower_on(g.records[k], point) {
+            g.records[k] = hold;
+            continue;
+        }
+        let others = next(hints, point);
+        let at = tower_place(g, point, others);
+        if MOST_RECORDS <= at {
+            return Err(Refusal::TooManyHolds);
+        }
+        g.records[at] = hold;
+        g.count = counted(last, at);
+        note(hints, point, at);
     }
-    hold_records::done(g)
+    Ok(g)
 }
 
-fn renew_all(h: Held, cells: &[u8], end: Millis) -> HeldAnswer
-    ensures held_value { told records_of result.answer result.held ≡ at_most_256 h (renew_all end (records_of h) (points cells.now)) }
-    ensures count_bound { result.answer ≡ Answer.Done → result.held.count ≤ 256 }
+fn renew_all(h: Held, cells: &[u8], end: Millis) -> Result<Held, Refusal>
+    ensures held_value { outcome_on h result ≡ at_most_256 h (renew_all end (records_of h) (points cells.now)) }
+    ensures count_bound { IfOk result (λ g. g.count ≤ 256) }
 {
     let g = trimmed(h);
     let mut hints = [255u8; HINTS];
     note_all(g, &mut hints);
-    renew_from(h, g, cells, end, &mut hints)
+    renew_from(g, cells, end, &mut hints)
 }
 
 // Marks the record at `at`, if it is `on` a cell.
@@ -209,44 +186,30 @@ fn mark(marks: &mut [u8], at: usize, on: bool)
     }
 }
 
-// Marks the watchtower's records on the cells: for each cell the first of its slot, and from j on the others, which are looked at only where a slot has more than
-// one. It is one loop, since a function for the others would be handed a copy of the table for each cell.
+// Marks the watchtower's records on the cells: for each cell the first of its slot, and the others, which are looked at only where a slot has more than one.
 fn mark_all(h: Held, cells: &[u8], hints: &[u8], marks: &mut [u8])
     requires { Hints hints.now h.records (min h.count 256) × Marks [] h.records (min h.count 256) marks.old }
     ensures { Marks (points cells.now) h.records (min h.count 256) marks.new }
 {
     let count = hold_records::used(h.count);
     let n = molecule::fix_count(cells) as usize;
-    let mut p = out_points::point_of(cells, 0);
-    let mut i: usize = 0;
-    let mut j = count;
-    loop {
-        if j < count {
-            let x = h.records[j];
-            let on = tower_on(x, p);
-            mark(marks, j, on);
-            j += 1;
-        } else {
-            if n <= i {
-                return;
-            }
-            p = out_points::point_of(cells, i);
-            i += 1;
-            let k = first(hints, p);
-            if k < count {
-                let x = h.records[k];
-                let on = tower_on(x, p);
-                mark(marks, k, on);
-                let others = next(hints, p);
-                j = others;
-            }
+    for i in 0..n {
+        let p = out_points::point_of(cells, i);
+        let k = first(hints, p);
+        if count <= k {
+            continue;
+        }
+        mark(marks, k, tower_on(h.records[k], p));
+        let others = next(hints, p);
+        for j in others..count {
+            mark(marks, j, tower_on(h.records[j], p));
         }
     }
 }
 
 // Whether the record at `at` has no mark.
 fn is_unmarked(marks: &[u8], at: usize) -> bool
-    ensures { result ≡ eqb (get_or marks.now at 0) 0 }
+    ensures { result ≡ nat_eq (get_or marks.now at 0) 0 }
 {
     little_endian::byte(marks, at) == 0
 }
@@ -262,13 +225,10 @@ fn without(h: Held, cells: &[u8], hints: &[u8]) -> Held
     let n = hold_records::used(h.count);
     let mut g = h;
     let mut to: usize = 0;
-    let mut i: usize = 0;
-    while i < n {
-        let x = h.records[i];
+    for i in 0..n {
         let stays = is_unmarked(&marks, i);
-        i += 1;
         if stays {
-            g.records[to] = x;
+            g.records[to] = h.records[i];
             to += 1;
         }
     }
@@ -277,26 +237,25 @@ fn without(h: Held, cells: &[u8], hints: &[u8]) -> Held
 }
 
 // The cells of a transaction that the watchtower could not send are free again.
-pub fn release_for_watchtower(held: Held, cells: &[u8]) -> HeldAnswer
-    ensures held_value { told records_of result.answer result.held ≡ release_for_watchtower held cells.now }
-    ensures count_bound { result.answer ≡ Answer.Done → result.held.count ≤ 256 }
+pub fn release_for_watchtower(held: Held, cells: &[u8]) -> Result<Held, Refusal>
+    ensures held_value { outcome_on held result ≡ release_for_watchtower held cells.now }
+    ensures count_bound { IfOk result (λ g. g.count ≤ 256) }
 {
     if !transaction::is_out_points(cells) {
-        return hold_records::refuse(held, Refusal::LentBytesUnreadable);
+        return Err(Refusal::LentBytesUnreadable);
     }
     let mut hints = [255u8; HINTS];
     note_all(held, &mut hints);
-    let g = without(held, cells, &hints);
-    hold_records::done(g)
+    Ok(without(held, cells, &hints))
 }
 
 // The cells of a transaction that the watchtower sent are held until `WATCHTOWER_HOLD_MS` after `time`.
-pub fn hold_for_watchtower(held: Held, cells: &[u8], time: Millis) -> HeldAnswer
-    ensures held_value { told records_of result.answer result.held ≡ hold_for_watchtower held cells.now time }
-    ensures count_bound { result.answer ≡ Answer.Done → result.held.count ≤ 256 }
+pub fn hold_for_watchtower(held: Held, cells: &[u8], time: Millis) -> Result<Held, Refusal>
+    ensures held_value { outcome_on held result ≡ hold_for_watchtower held cells.now time }
+    ensures count_bound { IfOk result (λ g. g.count ≤ 256) }
 {
     if !transaction::is_out_points(cells) {
-        return hold_records::refuse(held, Refusal::LentBytesUnreadable);
+        return Err(Refusal::LentBytesUnreadable);
     }
     let wait = Millis(WATCHTOWER_HOLD_MS);
     let end = time.saturating_add(wait);

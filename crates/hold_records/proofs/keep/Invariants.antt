@@ -1,10 +1,6 @@
-use Rattle.std.proofs.Common.{◌-◌}
 use Rattle.hold_records.specs.Rules.{is_kept}
 use Rattle.hold_records.proofs.LoopLaws.{Keeping}
 use Rattle.hold_records.proofs.keep.Given as goal
 
 abbrev pub invariant-loop-i : goal.invariant-loop-i
 invariant-loop-i l = Keeping (is_kept l.rule) l.h l.g l.n l.to l.i
-
-abbrev pub decreases-loop-i : goal.decreases-loop-i
-decreases-loop-i l = l.n - l.i

@@ -1,17 +1,5 @@
 use Rattle.hold_records.proofs.Ways.{ways}
 use Rattle.hold_records.proofs.put_cells.Goals as goal
 
-pub returns-then-not-fits-clause-value : goal.returns-then-not-fits-clause-value
-returns-then-not-fits-clause-value c = search ways
-
-pub returns-then-not-fits-clause-out_after : goal.returns-then-not-fits-clause-out_after
-returns-then-not-fits-clause-out_after c = search ways
-
-pub put_points-requires : goal.put_points-requires
-put_points-requires c = search ways
-
-pub returns-clause-value : goal.returns-clause-value
-returns-clause-value c = search ways
-
 pub returns-clause-out_after : goal.returns-clause-out_after
 returns-clause-out_after c = search ways

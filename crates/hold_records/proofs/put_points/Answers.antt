@@ -1,9 +1,6 @@
 use Rattle.hold_records.proofs.Ways.{ways}
 use Rattle.hold_records.proofs.put_points.Goals as goal
 
-pub loop-i-init : goal.loop-i-init
-loop-i-init c = search ways
-
 pub loop-i-preserved : goal.loop-i-preserved
 loop-i-preserved c = search ways
 

@@ -3,6 +3,3 @@ use Rattle.out_points.proofs.put_words.Goals as goal
 
 pub returns-clause-put : goal.returns-clause-put
 returns-clause-put c = search ways
-
-pub returns-clause-value : goal.returns-clause-value
-returns-clause-value c = search ways

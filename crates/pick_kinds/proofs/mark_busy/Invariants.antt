@@ -1,10 +1,6 @@
-use Rattle.std.proofs.Common.{◌-◌}
 use Rattle.out_points.specs.OutPoints.{point_of}
 use Rattle.pick_kinds.proofs.KindLaws.{Marking}
 use Rattle.pick_kinds.proofs.mark_busy.Given as goal
 
 abbrev pub invariant-loop-k : goal.invariant-loop-k
 invariant-loop-k l = Marking (point_of l.picked) l.n l.list l.m l.k l.initial.kinds l.kinds
-
-abbrev pub decreases-loop-k : goal.decreases-loop-k
-decreases-loop-k l = l.m - l.k

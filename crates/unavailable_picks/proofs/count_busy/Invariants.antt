@@ -1,4 +1,3 @@
-use Rattle.std.proofs.Common.{◌-◌}
 use Rattle.std.proofs.Common.{length}
 use Rattle.out_points.specs.OutPoints.{point_of, points}
 use Rattle.pick_kinds.specs.Kinds.{is_among}
@@ -8,6 +7,3 @@ use Rattle.unavailable_picks.proofs.count_busy.Given as goal
 
 abbrev pub invariant-loop-i : goal.invariant-loop-i
 invariant-loop-i l = Counting (is_first (is_among (points l.cells) (points l.spent)) (point_of l.picked)) (point_of l.picked) l.n l.i l.count (length (named l.cells l.picked l.spent))
-
-abbrev pub decreases-loop-i : goal.decreases-loop-i
-decreases-loop-i l = l.n - l.i

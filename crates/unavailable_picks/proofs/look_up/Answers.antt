@@ -1,8 +1,8 @@
 use Rattle.unavailable_picks.proofs.Ways.{ways}
 use Rattle.unavailable_picks.proofs.look_up.Goals as goal
 
-pub returns-then-not-busy : goal.returns-then-not-busy
-returns-then-not-busy c = search ways
+pub returns-then-busy : goal.returns-then-busy
+returns-then-busy c = search ways
 
-pub returns : goal.returns
-returns c = search ways
+pub returns-else-busy : goal.returns-else-busy
+returns-else-busy c = search ways

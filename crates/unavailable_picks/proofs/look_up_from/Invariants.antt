@@ -1,4 +1,3 @@
-use Rattle.std.proofs.Common.{◌-◌}
 use Rattle.out_points.specs.OutPoints.{point_of, points}
 use Rattle.pick_kinds.specs.Kinds.{is_among}
 use Rattle.unavailable_picks.proofs.PickLaws.{Filling}
@@ -6,6 +5,3 @@ use Rattle.unavailable_picks.proofs.look_up_from.Given as goal
 
 abbrev pub invariant-loop-i : goal.invariant-loop-i
 invariant-loop-i l = Filling (is_among (points l.cells) (points l.spent)) (point_of l.picked) l.n l.i l.initial.kinds l.kinds
-
-abbrev pub decreases-loop-i : goal.decreases-loop-i
-decreases-loop-i l = l.n - l.i

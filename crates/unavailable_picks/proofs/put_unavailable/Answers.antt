@@ -3,9 +3,6 @@ use Rattle.unavailable_picks.proofs.PickLaws.{held_put}
 use Rattle.unavailable_picks.proofs.Ways.{ways}
 use Rattle.unavailable_picks.proofs.put_unavailable.Goals as goal
 
-pub put_among-requires : goal.put_among-requires
-put_among-requires c = search ways
-
 pub returns-clause-value : goal.returns-clause-value
 returns-clause-value c = search ways
 

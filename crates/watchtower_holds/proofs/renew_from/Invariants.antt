@@ -1,9 +1,5 @@
-use Rattle.std.proofs.Common.{◌-◌}
 use Rattle.watchtower_holds.proofs.HintLaws.{Going}
 use Rattle.watchtower_holds.proofs.renew_from.Given as goal
 
 abbrev pub invariant-loop-i : goal.invariant-loop-i
-invariant-loop-i l = Going l.end l.cells l.h l.g l.n l.i l.initial.hints l.hints
-
-abbrev pub decreases-loop-i : goal.decreases-loop-i
-decreases-loop-i l = l.n - l.i
+invariant-loop-i l = Going l.end l.cells l.initial.g l.g l.n l.i l.initial.hints l.hints

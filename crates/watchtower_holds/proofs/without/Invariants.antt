@@ -1,4 +1,3 @@
-use Rattle.std.proofs.Common.{◌-◌}
 use Rattle.out_points.specs.OutPoints.{points}
 use Rattle.hold_records.specs.Holds.{is_unnamed}
 use Rattle.hold_records.proofs.LoopLaws.{Keeping}
@@ -6,6 +5,3 @@ use Rattle.watchtower_holds.proofs.without.Given as goal
 
 abbrev pub invariant-loop-i : goal.invariant-loop-i
 invariant-loop-i l = Keeping (is_unnamed (points l.cells)) l.h l.g l.n l.to l.i
-
-abbrev pub decreases-loop-i : goal.decreases-loop-i
-decreases-loop-i l = l.n - l.i
