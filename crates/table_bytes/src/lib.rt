@@ -1,6 +1,6 @@
 // Tables of cells as lent bytes: a count of four bytes, then places of 48: an out point (36), a kind (4), a number (8). This is the list of sized
 // items of RFC 0008, with bytes behind it that mean nothing.
-#![tactic(auto)]
+#![tactic(auto, using(crate::proofs::Ways::ways))]
 
 ghost use Rattle.std.specs.Prelude.{◌≡◌};
 ghost use Rattle.molecule.specs.Write.{put_at, put_end};
@@ -13,7 +13,7 @@ use out_points::OutPoint;
 // How many bytes a place has.
 const PLACE_BYTES: u32 = 48;
 
-#[derive(Clone, Copy)]
+#[derive(Clone, Copy, Debug, PartialEq, Eq, Hash)]
 pub struct Place {
     pub point: OutPoint,
     pub kind: u32,
@@ -40,14 +40,10 @@ pub fn put_place(out: &mut [u8], at: usize, p: Place) -> usize
     ensures out_after { out.new ≡ put_at out.old at (place_bytes p) }
     ensures value { result ≡ put_end out.old at (place_bytes p) }
 {
-    if out.len() < at {
+    if out.len().saturating_sub(at) < 48 {
         return at;
     }
-    if out.len() - at < 48 {
-        return at;
-    }
-    let point = p.point;
-    let at = out_points::put_out_point(out, at, point);
+    let at = out_points::put_out_point(out, at, p.point);
     let at = write::put_u32(out, at, p.kind);
     write::put_u64(out, at, p.number)
 }
