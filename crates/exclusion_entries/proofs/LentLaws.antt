@@ -10,7 +10,7 @@ use Rattle.error.specs.Refusal.{number}
 use Rattle.out_points.specs.{declared.Byte32.Byte32, OutPoints.byte32_at}
 use Rattle.out_points.specs.Tables.{refused, told, keep}
 use Rattle.table_bytes.specs.Lent.{After, leaving, with_bytes}
-use Rattle.exclusion_entries.specs.declared.{Rule.Rule, Survey.Survey}
+use Rattle.exclusion_entries.specs.declared.{Rule.Rule}
 use Rattle.exclusion_entries.specs.Exclusions.{Entry, Ruling}
 use Rattle.exclusion_entries.specs.Entries.{map_bytes, excluded_at, is_map}
 use Rattle.exclusion_entries.specs.Survey.{stay, survey_of}

@@ -5,9 +5,11 @@ use mathlib.Core.Bool.{Bool, true, false, not, cond}
 use mathlib.Core.List.{List, [], ◌∷◌}
 use native.Mathlib.Omega.{arith}
 use borrow.Author.Tests.{eq-eqb, ne_eqb, not-true, not-false}
+use lib.Dec.{eqb}
 use lib.ListN.{length}
 use Rattle.arithmetic.specs.LittleEndian.{AllBytes}
-use Rattle.error.specs.declared.{Refusal.Refusal, Answer.Answer}
+use Rattle.std.specs.Prelude.{Ok, Err}
+use Rattle.error.specs.declared.{Refusal.Refusal}
 use Rattle.error.specs.Refusal.{number}
 use Rattle.units.specs.declared.{BlockNumber.BlockNumber}
 use Rattle.molecule.specs.Molecule.{readable, option}
@@ -16,7 +18,7 @@ use Rattle.molecule.proofs.WriteLaws.{put_yes}
 use Rattle.transaction.specs.Ckb.{Transaction}
 use Rattle.out_points.specs.declared.{Byte32.Byte32}
 use Rattle.out_points.specs.OutPoints.{byte32_at}
-use Rattle.out_points.specs.Tables.{done, told, keep, renew}
+use Rattle.out_points.specs.Tables.{done, refused, told, keep, renew}
 use Rattle.exclusion_entries.specs.Exclusions.{Entry, Ruling, has_hash, without, remove_on, truncated, truncate_on, pending, fitting, entering, add_on, entered, migrate_on}
 use Rattle.table_bytes.specs.Lent.{After, leaving, with_bytes}
 use Rattle.exclusion_entries.specs.declared.{Rule.Rule, Survey.Survey}
@@ -25,13 +27,13 @@ use Rattle.exclusion_entries.specs.Survey.{keeps, takes, stay, loses, survey_of}
 use Rattle.exclusion_entries.proofs.EntryLaws.{entries-size}
 use Rattle.exclusion_entries.proofs.MapLaws.{map-long, map-few, map-count, map-points, map_same, map-fits, map-size, splice-back}
 use Rattle.exclusion_entries.proofs.StayLaws.{stay-size, stay_all, told_lost, told_good}
-use Rattle.exclusion_entries.specs.LentMap.{lent_map, lent_tx}
-use Rattle.exclusion_entries.proofs.LentLaws.{lent-on, stay-keep, keep_all}
+use Rattle.exclusion_entries.specs.LentMap.{lent_map, lent_tx, hash_of}
+use Rattle.exclusion_entries.proofs.LentLaws.{lent_unread, lent-on, stay-keep, keep_all, hash_bad, hash_good}
 
 -- ---- a transaction that can't be read, and one that can
 
 module _ (s tx : List ℕ) (o : Ruling) {r : Bool} (er : r ≡ readable (option Transaction) tx) where
-  pub tx_bad : not r ≡ true → told (with_bytes excluded_at) (Answer.Refused Refusal.OurTransactionUnreadable) s ≡ lent_tx tx s o
+  pub tx_bad : not r ≡ true → told (with_bytes excluded_at) (Err Refusal.OurTransactionUnreadable) s ≡ lent_tx tx s o
   unfolding lent_tx told number
   tx_bad h = rw (← er, not-true r h)
 
@@ -41,7 +43,7 @@ module _ (s tx : List ℕ) (o : Ruling) {r : Bool} (er : r ≡ readable (option 
 
 -- ---- a table that stays as it was
 
-same_left : (s : List ℕ) → is_map s ≡ true → AllBytes s → told (with_bytes excluded_at) Answer.Done s ≡ leaving {T = Unit {0}} map_bytes s (done (excluded_at s))
+same_left : (s : List ℕ) → is_map s ≡ true → AllBytes s → told (with_bytes excluded_at) (Ok tt) s ≡ leaving {T = Unit {0}} map_bytes s (done (excluded_at s))
 unfolding told leaving with_bytes
 same_left s g b =
     let L = excluded_at s in
@@ -51,7 +53,7 @@ same_left s g b =
 -- ---- only entries that stay
 
 kept-left : (rule : Rule) (s : List ℕ) {o : List ℕ} → is_map s ≡ true → AllBytes s → o ≡ splice s 0 (map_bytes (stay (keeps rule) (takes rule) false (excluded_at s)))
-    → told (with_bytes excluded_at) Answer.Done o ≡ leaving {T = Unit {0}} map_bytes s (done (stay (keeps rule) (takes rule) false (excluded_at s)))
+    → told (with_bytes excluded_at) (Ok tt) o ≡ leaving {T = Unit {0}} map_bytes s (done (stay (keeps rule) (takes rule) false (excluded_at s)))
 unfolding told leaving with_bytes
 kept-left rule s {o} g b e =
     let L = excluded_at s in
@@ -76,54 +78,49 @@ entering-some : (l : List Entry) (hash : Byte32) (tx : List ℕ) → (length tx 
 unfolding entering
 entering-some l hash tx z = rw (ne_eqb (length tx) 0 z)
 
-module _ (s hash tx : List ℕ) (rule : Rule) {v : Survey} (ev : v ≡ survey_of rule s) (g : not v.good ≡ false) where
-  abbrev added : Ruling
-  added = add_on (excluded_at s) hash tx
+pub add_bad : (s hash tx : List ℕ) {e : Refusal} → Err e ≡ hash_of hash → told (with_bytes excluded_at) (Err e) s ≡ lent_map s (add_on (excluded_at s) hash tx)
+unfolding told add_on number
+add_bad s hash tx h = let (n, k) = hash_bad hash h in rw k (lent_unread s (add_on (excluded_at s) hash tx) (rw n))
 
-  pub add_bad : (length hash ≡ 32 → ⊥) → told (with_bytes excluded_at) (Answer.Refused Refusal.LentBytesUnreadable) s ≡ lent_map s (add_on (excluded_at s) hash tx)
-  unfolding told leaving add_on number
-  add_bad n = lent-on s added (told_good rule s ev g) (rw (ne_eqb (length hash) 32 n))
+module _ (s hash tx : List ℕ) {h : Byte32} (eh : Ok h ≡ hash_of hash) where
+  enters : entering (excluded_at s) h tx ≡ add_on (excluded_at s) hash tx
+  unfolding add_on
+  enters = let (n, k) = hash_good hash eh in rw (n, k)
 
-  module _ (n : length hash ≡ 32) where
-    enters : entering (excluded_at s) (byte32_at hash 0) tx ≡ added
-    unfolding add_on
-    enters = rw (eq-eqb (length hash) 32 n)
+  pub add_none : (rule : Rule) {v : Survey} → Ok v ≡ survey_of rule s → AllBytes s → length tx ≡ 0 → told (with_bytes excluded_at) (Ok tt) s ≡ lent_map s (add_on (excluded_at s) hash tx)
+  unfolding entering
+  add_none rule ev b z =
+      let i = told_good rule s ev in
+      lent-on s (add_on (excluded_at s) hash tx) i (same_left s i b ∙ ap (leaving map_bytes s) (sym (rw (eq-eqb (length tx) 0 z)) ∙ enters))
 
-    pub add_none : AllBytes s → length tx ≡ 0 → told (with_bytes excluded_at) Answer.Done s ≡ lent_map s (add_on (excluded_at s) hash tx)
-    unfolding entering
-    add_none b z =
-        let i = told_good rule s ev g in
-        lent-on s added i (same_left s i b ∙ ap (leaving map_bytes s) (sym (rw (eq-eqb (length tx) 0 z)) ∙ enters))
-
-pub add_done : (s hash tx : List ℕ) (h : Byte32) {v : Survey} {a : After (List Entry)} → v ≡ survey_of (Rule.Enter h) s → not v.good ≡ false → length hash ≡ 32 → (length tx ≡ 0 → ⊥) → h ≡ byte32_at hash 0
-    → a ≡ leaving map_bytes s (fitting (renew (takes (Rule.Enter h)) (pending h tx) (keep (keeps (Rule.Enter h)) (excluded_at s)))) → a ≡ lent_map s (add_on (excluded_at s) hash tx)
-unfolding keeps takes
-add_done s hash tx h ev g n z eh e =
-    lent-on s (add_on (excluded_at s) hash tx) (told_good (Rule.Enter h) s ev g)
-    (e ∙ ap (leaving map_bytes s)
-    (ap (λ (l : List Entry). fitting (renew (has_hash h) (pending h tx) l)) (keep_all (λ e. true) (λ e. refl) (excluded_at s)) ∙ entering-some (excluded_at s) h tx z ∙ ap (λ (b : Byte32). entering (excluded_at s) b tx) eh
-    ∙ enters s hash tx (Rule.Enter h) ev g n))
+  pub add_done : {v : Survey} {a : After (List Entry)} → Ok v ≡ survey_of (Rule.Enter h) s → (length tx ≡ 0 → ⊥)
+      → a ≡ leaving map_bytes s (fitting (renew (takes (Rule.Enter h)) (pending h tx) (keep (keeps (Rule.Enter h)) (excluded_at s)))) → a ≡ lent_map s (add_on (excluded_at s) hash tx)
+  unfolding keeps takes
+  add_done ev z e =
+      lent-on s (add_on (excluded_at s) hash tx) (told_good (Rule.Enter h) s ev)
+      (e ∙ ap (leaving map_bytes s)
+      (ap (λ (l : List Entry). fitting (renew (has_hash h) (pending h tx) l)) (keep_all (λ e. true) (λ e. refl) (excluded_at s)) ∙ entering-some (excluded_at s) h tx z ∙ enters))
 
 -- ---- remove, truncate
 
-module _ (s hash : List ℕ) (rule : Rule) {v : Survey} (ev : v ≡ survey_of rule s) (g : not v.good ≡ false) where
-  pub remove_bad : (length hash ≡ 32 → ⊥) → told (with_bytes excluded_at) (Answer.Refused Refusal.LentBytesUnreadable) s ≡ lent_map s (remove_on (excluded_at s) hash)
-  unfolding told leaving remove_on number
-  remove_bad n = lent-on s (remove_on (excluded_at s) hash) (told_good rule s ev g) (rw (ne_eqb (length hash) 32 n))
+pub remove_bad : (s hash : List ℕ) {e : Refusal} → Err e ≡ hash_of hash → told (with_bytes excluded_at) (Err e) s ≡ lent_map s (remove_on (excluded_at s) hash)
+unfolding told remove_on number
+remove_bad s hash h = let (n, k) = hash_bad hash h in rw k (lent_unread s (remove_on (excluded_at s) hash) (rw n))
 
-pub remove-done : (s hash : List ℕ) (h : Byte32) {v : Survey} {o : List ℕ} → v ≡ survey_of (Rule.Remove h) s → not v.good ≡ false → AllBytes s → length hash ≡ 32 → h ≡ byte32_at hash 0
-    → o ≡ splice s 0 (map_bytes (stay (keeps (Rule.Remove h)) (takes (Rule.Remove h)) false (excluded_at s))) → told (with_bytes excluded_at) Answer.Done o ≡ lent_map s (remove_on (excluded_at s) hash)
+pub remove-done : (s hash : List ℕ) {h : Byte32} {v : Survey} {o : List ℕ} → Ok h ≡ hash_of hash → Ok v ≡ survey_of (Rule.Remove h) s → AllBytes s
+    → o ≡ splice s 0 (map_bytes (stay (keeps (Rule.Remove h)) (takes (Rule.Remove h)) false (excluded_at s))) → told (with_bytes excluded_at) (Ok tt) o ≡ lent_map s (remove_on (excluded_at s) hash)
 unfolding remove_on
-remove-done s hash h ev g b n eh e =
-    let i = told_good (Rule.Remove h) s ev g in
+remove-done s hash {h} eh ev b e =
+    let i = told_good (Rule.Remove h) s ev in
+    let (n, k) = hash_good hash eh in
     lent-on s (remove_on (excluded_at s) hash) i
-    (kept-left (Rule.Remove h) s i b e ∙ ap (leaving map_bytes s) (sym (rw (eq-eqb (length hash) 32 n, ← eh) (ap done (sym (stay-removed h (excluded_at s)))))))
+    (kept-left (Rule.Remove h) s i b e ∙ ap (leaving map_bytes s) (sym (rw (n, ← k) (ap done (sym (stay-removed h (excluded_at s)))))))
 
-pub truncate-done : (s : List ℕ) (tip : BlockNumber) {v : Survey} {o : List ℕ} → v ≡ survey_of (Rule.Truncate tip) s → not v.good ≡ false → AllBytes s
-    → o ≡ splice s 0 (map_bytes (stay (keeps (Rule.Truncate tip)) (takes (Rule.Truncate tip)) false (excluded_at s))) → told (with_bytes excluded_at) Answer.Done o ≡ lent_map s (truncate_on (excluded_at s) tip)
+pub truncate-done : (s : List ℕ) (tip : BlockNumber) {v : Survey} {o : List ℕ} → Ok v ≡ survey_of (Rule.Truncate tip) s → AllBytes s
+    → o ≡ splice s 0 (map_bytes (stay (keeps (Rule.Truncate tip)) (takes (Rule.Truncate tip)) false (excluded_at s))) → told (with_bytes excluded_at) (Ok tt) o ≡ lent_map s (truncate_on (excluded_at s) tip)
 unfolding truncate_on
-truncate-done s tip ev g b e =
-    let i = told_good (Rule.Truncate tip) s ev g in
+truncate-done s tip ev b e =
+    let i = told_good (Rule.Truncate tip) s ev in
     lent-on s (truncate_on (excluded_at s) tip) i (kept-left (Rule.Truncate tip) s i b e ∙ ap (λ (l : List Entry). leaving {T = Unit {0}} map_bytes s (done l)) (stay-truncated tip (excluded_at s)))
 
 -- ---- migrate
@@ -147,54 +144,52 @@ without-none o (x ∷ l) e = by (without-none o l) (has_hash o x) e
     by r true f = absurd (let z : ◌≡◌ {A = ℕ} 0 1 = cc in omega arith)
     by r false f = ap (λ (k : List Entry). x ∷ k) (r f)
 
-module _ (s old new tx : List ℕ) where
-  abbrev moved : Ruling
-  moved = migrate_on (excluded_at s) old new tx
+pub migrate_bad_old : (s old new tx : List ℕ) {e : Refusal} → Err e ≡ hash_of old → told (with_bytes excluded_at) (Err e) s ≡ lent_map s (migrate_on (excluded_at s) old new tx)
+unfolding told migrate_on number
+migrate_bad_old s old new tx h = let (n, k) = hash_bad old h in rw k (lent_unread s (migrate_on (excluded_at s) old new tx) (rw n))
 
-  module _ (rule : Rule) {v : Survey} (ev : v ≡ survey_of rule s) (g : not v.good ≡ false) where
-    pub migrate_bad_old : (length old ≡ 32 → ⊥) → told (with_bytes excluded_at) (Answer.Refused Refusal.LentBytesUnreadable) s ≡ lent_map s (migrate_on (excluded_at s) old new tx)
-    unfolding told leaving migrate_on number
-    migrate_bad_old n = lent-on s moved (told_good rule s ev g) (rw (ne_eqb (length old) 32 n))
+-- whatever the old hash is
+pub migrate_bad_new : (s old new tx : List ℕ) {e : Refusal} → Err e ≡ hash_of new → told (with_bytes excluded_at) (Err e) s ≡ lent_map s (migrate_on (excluded_at s) old new tx)
+unfolding told migrate_on number
+migrate_bad_new s old new tx h = let (n, k) = hash_bad new h in rw k (lent_unread s (migrate_on (excluded_at s) old new tx) (rw n (by (eqb (length old) 32))))
+  where
+    by : (t : Bool) → ◌≡◌ {A = Ruling} (cond t (refused 3 tt) (refused 3 tt)) (refused 3 tt)
+    by true = refl
+    by false = refl
 
-    pub migrate_bad_new : length old ≡ 32 → (length new ≡ 32 → ⊥) → told (with_bytes excluded_at) (Answer.Refused Refusal.LentBytesUnreadable) s ≡ lent_map s (migrate_on (excluded_at s) old new tx)
-    unfolding told leaving migrate_on number
-    migrate_bad_new m n = lent-on s moved (told_good rule s ev g) (rw (eq-eqb (length old) 32 m, ne_eqb (length new) 32 n))
+-- by none, the old one is removed
+moved_none : (l : List Entry) (old new tx : List ℕ) {h : Byte32} → Ok h ≡ hash_of new → length tx ≡ 0 → remove_on l old ≡ migrate_on l old new tx
+unfolding remove_on migrate_on entering
+moved_none l old new tx eh z =
+    let (n, k) = hash_good new eh in
+    rw (n, eq-eqb (length tx) 0 z) (ap (λ (r : Ruling). cond (eqb (length old) 32) r (refused 3 tt)) (by (entered (byte32_at old 0) l) refl))
+  where
+    by : (t : Bool) → entered (byte32_at old 0) l ≡ t → ◌≡◌ {A = Ruling} (done (without (byte32_at old 0) l)) (cond (entered (byte32_at old 0) l) (done (without (byte32_at old 0) l)) (done l))
+    by true k = rw k
+    by false k = rw k (ap done (without-none (byte32_at old 0) l k))
 
-  module _ (m : length old ≡ 32) (n : length new ≡ 32) {o : Byte32} (eo : o ≡ byte32_at old 0) where
-    goes : cond (entered o (excluded_at s)) (entering (without o (excluded_at s)) (byte32_at new 0) tx) (done (excluded_at s)) ≡ moved
-    unfolding migrate_on
-    goes = rw (eq-eqb (length old) 32 m, eq-eqb (length new) 32 n, eo)
+pub none_done : (s old new tx : List ℕ) {h : Byte32} {a : After (List Entry)} → Ok h ≡ hash_of new → length tx ≡ 0 → a ≡ lent_map s (remove_on (excluded_at s) old) → a ≡ lent_map s (migrate_on (excluded_at s) old new tx)
+none_done s old new tx eh z e = e ∙ ap (lent_map s) (moved_none (excluded_at s) old new tx eh z)
 
-    pub none_done : {v : Survey} {a : List ℕ} → length tx ≡ 0 → v ≡ survey_of (Rule.Remove o) s → not v.good ≡ false → AllBytes s
-        → a ≡ splice s 0 (map_bytes (stay (keeps (Rule.Remove o)) (takes (Rule.Remove o)) false (excluded_at s))) → told (with_bytes excluded_at) Answer.Done a ≡ lent_map s (migrate_on (excluded_at s) old new tx)
-    unfolding entering
-    none_done z ev g b e =
-        let i = told_good (Rule.Remove o) s ev g in
-        let L = excluded_at s in
-        lent-on s moved i
-        (kept-left (Rule.Remove o) s i b e
-        ∙ ap (leaving map_bytes s) (ap done (stay-removed o L) ∙ by (entered o L) refl ∙ goes))
-      where
-        by : (t : Bool) → entered o (excluded_at s) ≡ t
-            → ◌≡◌ {A = Ruling} (done (without o (excluded_at s))) (cond (entered o (excluded_at s)) (entering (without o (excluded_at s)) (byte32_at new 0) tx) (done (excluded_at s)))
-        by true k = rw (k, eq-eqb (length tx) 0 z)
-        by false k = rw k (ap done (without-none o (excluded_at s) k))
+module _ (s old new tx : List ℕ) {o h : Byte32} (eo : Ok o ≡ hash_of old) (eh : Ok h ≡ hash_of new) {v : Survey} (ev : Ok v ≡ survey_of (Rule.Migrate o h) s) where
+  goes : cond (entered o (excluded_at s)) (entering (without o (excluded_at s)) h tx) (done (excluded_at s)) ≡ migrate_on (excluded_at s) old new tx
+  unfolding migrate_on
+  goes = let (m, k) = hash_good old eo in let (n, j) = hash_good new eh in rw (m, n, k, j)
 
-    module _ (h : Byte32) {v : Survey} (ev : v ≡ survey_of (Rule.Migrate o h) s) (g : not v.good ≡ false) where
-      is-entered : v.lost ≡ entered o (excluded_at s)
-      is-entered = told_lost (Rule.Migrate o h) s (told_good (Rule.Migrate o h) s ev g) ev ∙ lost_entered o h (excluded_at s)
+  is-entered : v.lost ≡ entered o (excluded_at s)
+  is-entered = told_lost (Rule.Migrate o h) s ev ∙ lost_entered o h (excluded_at s)
 
-      pub migrate_unknown : AllBytes s → not v.lost ≡ true → told (with_bytes excluded_at) Answer.Done s ≡ lent_map s (migrate_on (excluded_at s) old new tx)
-      migrate_unknown b u =
-          let i = told_good (Rule.Migrate o h) s ev g in
-          let q : entered o (excluded_at s) ≡ false = sym is-entered ∙ not-true v.lost u in
-          lent-on s moved i (same_left s i b ∙ ap (leaving map_bytes s) (rw q at goes))
+  pub migrate_unknown : AllBytes s → v.lost ≡ false → told (with_bytes excluded_at) (Ok tt) s ≡ lent_map s (migrate_on (excluded_at s) old new tx)
+  migrate_unknown b u =
+      let i = told_good (Rule.Migrate o h) s ev in
+      let q : entered o (excluded_at s) ≡ false = sym is-entered ∙ u in
+      lent-on s (migrate_on (excluded_at s) old new tx) i (same_left s i b ∙ ap (leaving map_bytes s) (rw q at goes))
 
-      pub migrate-done : {a : After (List Entry)} → not v.lost ≡ false → (length tx ≡ 0 → ⊥) → h ≡ byte32_at new 0
-          → a ≡ leaving map_bytes s (fitting (renew (takes (Rule.Migrate o h)) (pending h tx) (keep (keeps (Rule.Migrate o h)) (excluded_at s)))) → a ≡ lent_map s (migrate_on (excluded_at s) old new tx)
-      unfolding keeps takes without
-      migrate-done u z eh e =
-          let i = told_good (Rule.Migrate o h) s ev g in
-          let q : entered o (excluded_at s) ≡ true = sym is-entered ∙ not-false v.lost u in
-          lent-on s moved i
-          (e ∙ ap (leaving map_bytes s) (entering-some (without o (excluded_at s)) h tx z ∙ ap (λ (b : Byte32). entering (without o (excluded_at s)) b tx) eh ∙ (rw q at goes)))
+  pub migrate-done : {a : After (List Entry)} → v.lost ≡ true → (length tx ≡ 0 → ⊥)
+      → a ≡ leaving map_bytes s (fitting (renew (takes (Rule.Migrate o h)) (pending h tx) (keep (keeps (Rule.Migrate o h)) (excluded_at s)))) → a ≡ lent_map s (migrate_on (excluded_at s) old new tx)
+  unfolding keeps takes without
+  migrate-done u z e =
+      let i = told_good (Rule.Migrate o h) s ev in
+      let q : entered o (excluded_at s) ≡ true = sym is-entered ∙ u in
+      lent-on s (migrate_on (excluded_at s) old new tx) i
+      (e ∙ ap (leaving map_bytes s) (entering-some (without o (excluded_at s)) h tx z ∙ (rw q at goes)))

@@ -8,7 +8,8 @@ use borrow.Author.Tests.{le-leb, lt-leb, eqb-true, not-false, ne_eqb}
 use lib.Dec.{eqb, leb, ltb}
 use lib.ListN.{length, take, drop, length-append}
 use Rattle.arithmetic.specs.LittleEndian.{AllBytes}
-use Rattle.error.specs.declared.{Refusal.Refusal, Answer.Answer}
+use Rattle.std.specs.Prelude.{Ok, Err}
+use Rattle.error.specs.declared.{Refusal.Refusal}
 use Rattle.error.specs.Refusal.{number}
 use Rattle.molecule.specs.Layout.{part, span, field_of, fix_count, fix_item}
 use Rattle.molecule.specs.Partial.{All}
@@ -98,7 +99,7 @@ all_between : (P : Entry → Type 0) (l r : List Entry) (x : Entry) → All P (l
 all_between P [] r x a p = (p, a)
 all_between P (e ∷ l) r x a p = (a.0, all_between P l r x a.1 p)
 
-module _ (rule : Rule) (s : List ℕ) (hash : Byte32) (tx : List ℕ) {v : Survey} (g : is_map s ≡ true) (ev : v ≡ survey_of rule s) {n : ℕ} (en : n ≡ fix_count (raw_field tx 3)) where
+module _ (rule : Rule) (s : List ℕ) (hash : Byte32) (tx : List ℕ) {v : Survey} (g : is_map s ≡ true) (ev : Ok v ≡ survey_of rule s) {n : ℕ} (en : n ≡ fix_count (raw_field tx 3)) where
   abbrev after : List Entry
   after = renew (takes rule) (pending hash tx) (keep (keeps rule) (excluded_at s))
 
@@ -115,7 +116,7 @@ module _ (rule : Rule) (s : List ℕ) (hash : Byte32) (tx : List ℕ) {v : Surve
   split = stay-split (keeps rule) (takes rule) (excluded_at s)
 
   after-count : length after ≡ v.stays + 1
-  after-count = ap length after_is ∙ length-append A (pending hash tx ∷ B) ∙ omega (arith, told_stays rule s g ev, ap length split, length-append A B)
+  after-count = ap length after_is ∙ length-append A (pending hash tx ∷ B) ∙ omega (arith, told_stays rule s ev, ap length split, length-append A B)
 
   after-points : length (excluded after) ≡ v.points + n
   unfolding excluded
@@ -123,14 +124,14 @@ module _ (rule : Rule) (s : List ℕ) (hash : Byte32) (tx : List ℕ) {v : Surve
       let x = pending hash tx in
       let z : length (excluded (A ++ (x ∷ B))) ≡ length (excluded A) + (length x.points + length (excluded B)) =
       ap length (excluded-join A (x ∷ B)) ∙ length-append (excluded A) (x.points ++ excluded B) ∙ ap (λ (k : ℕ). length (excluded A) + k) (length-append x.points (excluded B)) in
-      let y : v.points ≡ length (excluded A) + length (excluded B) = told-points rule s g ev ∙ ap (λ (l : List Entry). length (excluded l)) split ∙ ap length (excluded-join A B) ∙ length-append (excluded A) (excluded B) in
+      let y : v.points ≡ length (excluded A) + length (excluded B) = told-points rule s ev ∙ ap (λ (l : List Entry). length (excluded l)) split ∙ ap length (excluded-join A B) ∙ length-append (excluded A) (excluded B) in
       ap (λ (l : List Entry). length (excluded l)) after_is ∙ z ∙ omega (arith, pending-count hash tx en)
 
-  pub enter_many : 64 ≤ v.stays → told (with_bytes excluded_at) (Answer.Refused Refusal.TooManyExclusions) s ≡ leaving map_bytes s (fitting after)
+  pub enter_many : 64 ≤ v.stays → told (with_bytes excluded_at) (Err Refusal.TooManyExclusions) s ≡ leaving map_bytes s (fitting after)
   unfolding told number leaving fitting
   enter_many h = rw (lt-leb (length after) 64 (omega (arith, after-count)))
 
-  pub enter_full : v.stays < 64 → 512 < v.points + n → told (with_bytes excluded_at) (Answer.Refused Refusal.TooManyExclusions) s ≡ leaving map_bytes s (fitting after)
+  pub enter_full : v.stays < 64 → 512 < v.points + n → told (with_bytes excluded_at) (Err Refusal.TooManyExclusions) s ≡ leaving map_bytes s (fitting after)
   unfolding told number leaving fitting
   enter_full h k = rw (le-leb (length after) 64 (omega (arith, after-count)), lt-leb (length (excluded after)) 512 (omega (arith, after-points)))
 
@@ -138,7 +139,7 @@ module _ (rule : Rule) (s : List ℕ) (hash : Byte32) (tx : List ℕ) {v : Surve
     put : o ≡ put_at s 0 (map_bytes after)
     put = eo ∙ sym (put_yes s 0 (map_bytes after) (omega (arith, map-size after, after-count, after-points, map-long s g)))
 
-    pub enter_done : AllBytes s → AllBytes tx → hash.a < 2 ^ 64 → hash.b < 2 ^ 64 → hash.c < 2 ^ 64 → hash.d < 2 ^ 64 → told (with_bytes excluded_at) Answer.Done o ≡ leaving map_bytes s (fitting after)
+    pub enter_done : AllBytes s → AllBytes tx → hash.a < 2 ^ 64 → hash.b < 2 ^ 64 → hash.c < 2 ^ 64 → hash.d < 2 ^ 64 → told (with_bytes excluded_at) (Ok tt) o ≡ leaving map_bytes s (fitting after)
     unfolding told leaving fitting with_bytes
     enter_done b bt fa fb fc fd =
         let fits : All FitEntry (A ++ B) = rw split at (stay_all (keeps rule) (takes rule) FitEntry false (excluded_at s) (map-fits s b)) in

@@ -2,7 +2,6 @@ pub mod CallLaws
 pub mod ChangesWays
 pub mod EnterLaws
 pub mod MoveLaws
-pub mod MovesWays
 pub mod PutLaws
 pub mod SiftLaws
 pub mod Ways

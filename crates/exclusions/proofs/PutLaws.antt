@@ -5,6 +5,7 @@ use mathlib.Core.Bool.{true, false}
 use mathlib.Core.List.{List, ◌∷◌, ◌++◌, map, append_assoc}
 use mathlib.Core.Option.{none}
 use native.Mathlib.Omega.{arith}
+use Rattle.std.specs.Prelude.{Ok}
 use lib.ListN.{length, take, drop, length-append, length-map, length-drop}
 use lib.Seq.{take-add, take-take, drop_at, drop-drop, length-take-le}
 use Rattle.arithmetic.specs.LittleEndian.{to_le, AllBytes}
@@ -32,6 +33,8 @@ use Rattle.exclusion_entries.proofs.EntryLaws.{length-entry, entries-size, bytes
 use Rattle.exclusion_entries.proofs.MapLaws.{map-long, map-few, map-count, map-points}
 use Rattle.exclusion_entries.proofs.SpliceLaws.{splice-none, splice-then, splice-under, splice-over, part-splice}
 use Rattle.exclusion_entries.proofs.StayLaws.{stay-split, stay-size, renew-split, told_stays, told-points, told-place}
+use Rattle.std.specs.List.{copy_within}
+use Rattle.exclusions.proofs.MoveLaws.{within-splice}
 use Rattle.exclusions.specs.Steps.{head_bytes, spent_at, spent_by}
 
 -- ---- its first 48 bytes
@@ -179,7 +182,10 @@ module _ (s : List ℕ) (v : Survey) (hash : Byte32) (tx : List ℕ) {n : ℕ} (
   length_tail : length tail ≡ 4 + 48 * v.stays + 36 * v.points - v.place
   length_tail = length-take-le _ (drop v.place s) (rw (length-drop v.place s) (omega arith))
 
-  module _ {s₂ : List ℕ} {z : ℕ} (ez : z ≡ 48 + 36 * n) (e₂ : s₂ ≡ splice s (v.place + z) tail) where
+  module _ {s₂ : List ℕ} {z : ℕ} (ez : z ≡ 48 + 36 * n) (m₂ : s₂ ≡ copy_within s v.place (4 + 48 * v.stays + 36 * v.points) (v.place + z)) where
+    e₂ : s₂ ≡ splice s (v.place + z) tail
+    e₂ = within-splice s v.place (v.place + z) (4 + 48 * v.stays + 36 * v.points - v.place) (omega arith) (m₂ ∙ ap (λ (k : ℕ). copy_within s v.place k (v.place + z)) (omega arith))
+
     length_moved : length s₂ ≡ length s
     length_moved = ap length e₂ ∙ splice-length s (v.place + z) tail (omega (arith, length_tail))
 
@@ -199,7 +205,7 @@ module _ (s : List ℕ) (v : Survey) (hash : Byte32) (tx : List ℕ) {n : ℕ} (
 
 -- ---- the whole table: the entries that stay stand together in s₁
 
-module _ (rule : Rule) (s : List ℕ) {v : Survey} (g : is_map s ≡ true) (ev : v ≡ survey_of rule s) {s₁ : List ℕ}
+module _ (rule : Rule) (s : List ℕ) {v : Survey} (g : is_map s ≡ true) (ev : Ok v ≡ survey_of rule s) {s₁ : List ℕ}
     (e₁ : s₁ ≡ splice s 4 (entries_bytes (stay (keeps rule) (takes rule) false (excluded_at s)))) where
   abbrev stays : List Entry
   stays = stay (keeps rule) (takes rule) false (excluded_at s)
@@ -214,7 +220,7 @@ module _ (rule : Rule) (s : List ℕ) {v : Survey} (g : is_map s ≡ true) (ev :
   parts = ap entries_bytes (stay-split (keeps rule) (takes rule) (excluded_at s)) ∙ bytes-join A B
 
   size : length (entries_bytes stays) ≡ 48 * v.stays + 36 * v.points
-  size = entries-size stays ∙ ap₂ (λ (a b : ℕ). 48 * a + 36 * b) (sym (told_stays rule s g ev)) (sym (told-points rule s g ev))
+  size = entries-size stays ∙ ap₂ (λ (a b : ℕ). 48 * a + 36 * b) (sym (told_stays rule s ev)) (sym (told-points rule s ev))
 
   sizes : length (entries_bytes A) + length (entries_bytes B) ≡ 48 * v.stays + 36 * v.points
   sizes = sym (length-append (entries_bytes A) (entries_bytes B)) ∙ ap length (sym parts) ∙ size
@@ -226,7 +232,7 @@ module _ (rule : Rule) (s : List ℕ) {v : Survey} (g : is_map s ≡ true) (ev :
   length-gathered = ap length e₁ ∙ splice-length s 4 (entries_bytes stays) stays_room
 
   pub place-within : v.place ≤ 4 + 48 * v.stays + 36 * v.points
-  place-within = omega (arith, told-place rule s g ev, sizes)
+  place-within = omega (arith, told-place rule s ev, sizes)
 
   pub drop_put : {s₂ : List ℕ} → s₂ ≡ put_at s₁ 0 (to_le 4 v.stays) → s₂ ≡ splice s 0 (map_bytes stays)
   unfolding map_bytes
@@ -235,7 +241,7 @@ module _ (rule : Rule) (s : List ℕ) {v : Survey} (g : is_map s ≡ true) (ev :
       let l : length C ≡ 4 = length-to_le 4 v.stays in
       let z : 0 + length C ≡ 4 = omega arith in
       e₂ ∙ put_yes s₁ 0 C (omega (arith, length-gathered, map-long s g)) ∙ ap (λ (x : List ℕ). splice x 0 C) (e₁ ∙ ap (λ (k : ℕ). splice s k (entries_bytes stays)) (sym z))
-      ∙ splice-under s 0 C (entries_bytes stays) (omega (arith, stays_room)) ∙ ap (λ (k : ℕ). splice s 0 (to_le 4 k ++ entries_bytes stays)) (told_stays rule s g ev)
+      ∙ splice-under s 0 C (entries_bytes stays) (omega (arith, stays_room)) ∙ ap (λ (k : ℕ). splice s 0 (to_le 4 k ++ entries_bytes stays)) (told_stays rule s ev)
 
   module _ (hash : Byte32) (tx : List ℕ) {n : ℕ} (en : n ≡ fix_count (raw_field tx 3)) (few : v.stays < 64) (most : v.points + n ≤ 512) where
     pub replace_room : 4 + 48 * v.stays + 36 * v.points + (48 + 36 * n) ≤ length s₁
@@ -254,7 +260,7 @@ module _ (rule : Rule) (s : List ℕ) {v : Survey} (g : is_map s ≡ true) (ev :
         let lx : length X ≡ 48 + 36 * n = length-entry x ∙ ap (λ (k : ℕ). 48 + 36 * k) (pending-count hash tx en) in
         let lC : length C ≡ 4 = length-to_le 4 (v.stays + 1) in
         let z : 0 + length C ≡ 4 = omega arith in
-        let p : v.place ≡ 4 + length bA = told-place rule s g ev in
+        let p : v.place ≡ 4 + length bA = told-place rule s ev in
         let q : 4 + 48 * v.stays + 36 * v.points - v.place ≡ length bB = omega (arith, sizes) in
         let l = map-long s g in
         let t : s₁ ≡ splice s 4 (bA ++ bB) = e₁ ∙ ap (splice s 4) parts in
@@ -268,7 +274,7 @@ module _ (rule : Rule) (s : List ℕ) {v : Survey} (g : is_map s ≡ true) (ev :
         ∙ splice-then s 4 bA W (omega (arith, sizes))) in
         let after : renew (takes rule) x (keep (keeps rule) (excluded_at s)) ≡ A ++ (x ∷ B) = renew-split (keeps rule) (takes rule) x (excluded_at s) in
         let count : length (A ++ (x ∷ B)) ≡ v.stays + 1 =
-        length-append A (x ∷ B) ∙ omega (arith, told_stays rule s g ev, ap length (stay-split (keeps rule) (takes rule) (excluded_at s)), length-append A B) in
+        length-append A (x ∷ B) ∙ omega (arith, told_stays rule s ev, ap length (stay-split (keeps rule) (takes rule) (excluded_at s)), length-append A B) in
         e₂ ∙ ap (λ (a : List ℕ). splice a 0 C) (inner ∙ ap (λ (k : ℕ). splice s k (bA ++ W)) (sym z))
         ∙ splice-under s 0 C (bA ++ W) (omega (arith, length-append bA W, sizes))
         ∙ ap₂ (λ (k : ℕ) (a : List ℕ). splice s 0 (to_le 4 k ++ a)) (sym count) (sym (bytes-join A (x ∷ B)))

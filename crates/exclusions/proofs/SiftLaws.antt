@@ -5,6 +5,7 @@ use mathlib.Core.Bool.{Bool, true, false, not, cond}
 use mathlib.Core.List.{List, ◌∷◌, ◌++◌, append_assoc}
 use native.Mathlib.Omega.{arith}
 use borrow.Author.Tests.{not-true, not-false}
+use Rattle.std.specs.Prelude.{Ok}
 use lib.ListN.{length, take, drop, length-append, length-drop, length-take, take-append-drop}
 use lib.Seq.{take_at, drop-drop, length-take-le}
 use Rattle.arithmetic.specs.LittleEndian.{AllBytes, u32_at}
@@ -20,19 +21,12 @@ use Rattle.exclusion_entries.proofs.EntryLaws.{from-here, entry_again, first-is,
 use Rattle.exclusion_entries.proofs.MapLaws.{map-long, map-few, map_are, map_again, Cut, cut}
 use Rattle.exclusion_entries.proofs.SpliceLaws.{splice-none, drop-splice, splice-same, splice-then}
 use Rattle.exclusion_entries.proofs.StayLaws.{stay-front, front-is, stay-size, told-from, told-index}
+use Rattle.std.specs.List.{copy_within}
+use Rattle.exclusions.proofs.MoveLaws.{within-splice}
 use Rattle.exclusions.specs.declared.{changes.Sift.Sift}
 use Rattle.exclusions.specs.Steps.{sifted, sifted_bytes, gives, sift_one, sift_one_bytes}
 
 -- ---- one entry
-
-module _ (rule : Rule) (x : List ℕ) where
-  pub gives_no : (taken : Bool) → taken ≡ true → false ≡ gives rule taken x
-  unfolding gives
-  gives_no taken e = rw e
-
-  pub gives-first : (taken : Bool) {b : Bool} → taken ≡ false → b ≡ takes rule (entry_of x) → b ≡ gives rule taken x
-  unfolding gives
-  gives-first taken e f = f ∙ rw e
 
 module _ (rule : Rule) (c : Sift) (s : List ℕ) {x : List ℕ} {k g : Bool} {n z : ℕ} (ex : x ≡ part s c.at (length s)) (ek : k ≡ keeps rule (entry_of x)) (eg : g ≡ gives rule c.taken x) (en : n ≡ u32_at x 44) (ez : z ≡ 48 + 36 * n) where
   at-is : x ≡ drop c.at s
@@ -73,9 +67,9 @@ module _ (rule : Rule) (c : Sift) (s : List ℕ) {x : List ℕ} {k g : Bool} {n 
       unfolding sifted
       one_stays = sym (one-is ∙ rw (not-false k h, e))
 
-      pub bytes-stay : {o : List ℕ} → o ≡ splice s c.to (take z (drop c.at s)) → o ≡ sift_one_bytes rule c s
+      pub bytes-stay : {o : List ℕ} → c.at + z ≤ length s → o ≡ copy_within s c.at (c.at + z) c.to → o ≡ sift_one_bytes rule c s
       unfolding sifted_bytes
-      bytes-stay f = f ∙ sym (bytes-is ∙ rw (not-false k h, e))
+      bytes-stay r f = within-splice s c.at c.to z r f ∙ sym (bytes-is ∙ rw (not-false k h, e))
 
 -- ---- all of them
 
@@ -180,7 +174,7 @@ module _ {rule : Rule} {s₀ : List ℕ} {n : ℕ} {s : List ℕ} {c : Sift} {i 
       sym (splice-none s c.to) ∙ ap (λ (k : ℕ). splice s c.to (entries_bytes (stay (keeps rule) (takes rule) c.taken (entries_in k (drop c.at s₀))))) (sym z) ∙ w.made
 
 -- the entries that need not move are passed over
-module _ (rule : Rule) (s : List ℕ) {v : Survey} {n : ℕ} (b : AllBytes s) (g : is_map s ≡ true) (e : v ≡ survey_of rule s) (en : n ≡ word s 0) where
+module _ (rule : Rule) (s : List ℕ) {v : Survey} {n : ℕ} (b : AllBytes s) (g : is_map s ≡ true) (e : Ok v ≡ survey_of rule s) (en : n ≡ word s 0) where
   pub sift_start : Sifting rule s n s (record { at = v.from; to = v.from; taken = false }) v.index
   unfolding excluded_at word
   sift_start =
@@ -194,8 +188,8 @@ module _ (rule : Rule) (s : List ℕ) {v : Survey} {n : ℕ} (b : AllBytes s) (g
       let B = entries_bytes F in
       let l = map-long s g in
       let few = map-few s g in
-      let from : v.from ≡ 4 + length B = told-from rule s g e in
-      let index : v.index ≡ k = told-index rule s g e in
+      let from : v.from ≡ 4 + length B = told-from rule s e in
+      let index : v.index ≡ k = told-index rule s e in
       let lk : k ≤ m = let z = ap length (front-is f p L) in omega (arith, length-take k L, entries-long m x) in
       let c : Cut m 512 x k = cut k m 512 x lk (map_are s g) (rw (length-drop 4 s) (omega arith)) in
       let size : c.size ≡ length B = c.sized ∙ ap (λ (t : List Entry). length (entries_bytes t)) (sym (front-is f p L)) in

@@ -1,5 +1,7 @@
 // The exclusion map as lent bytes: what a call does to them, in place.
-ghost use Rattle.std.specs.Prelude.{◌≡◌, true, false, ◌++◌, ◌+◌, ◌-◌, ◌*◌, ◌≤◌, ◌<◌, length, take, drop};
+#![tactic(auto, using(crate::proofs::ChangesWays::ways))]
+
+ghost use Rattle.std.specs.Prelude.{◌≡◌, true, false, ◌++◌, ◌+◌, ◌-◌, ◌*◌, ◌≤◌, ◌<◌, length, take, drop, Ok};
 ghost use Rattle.arithmetic.specs.LittleEndian.{to_le, AllBytes};
 ghost use Rattle.molecule.specs.Layout.{fix_count};
 ghost use Rattle.molecule.specs.Write.{splice, Put};
@@ -11,14 +13,13 @@ ghost use Rattle.exclusion_entries.specs.Entries.{entry_bytes, entries_bytes, ma
 ghost use Rattle.exclusion_entries.specs.Survey.{keeps, takes, stay, survey_of};
 ghost use Rattle.exclusions.specs.Steps.{gives, sift_one, sift_one_bytes, head_bytes, spent_by};
 
-use crate::moves;
 use exclusion_entries::{Rule, Survey};
 use molecule::write;
 use out_points::Byte32;
 use transaction::fields;
 
 // Where a pass is that moves the entries together that stay: the next entry, the place for it, and whether one has given its place.
-#[derive(Clone, Copy)]
+#[derive(Clone, Copy, Debug, PartialEq, Eq, Hash)]
 struct Sift {
     at: usize,
     to: usize,
@@ -26,13 +27,11 @@ struct Sift {
 }
 
 // Whether the entry at the start of x is the first that gives its place.
+#[tactic(auto, unfolding(crate::specs::Steps::gives))]
 fn gives(rule: Rule, taken: bool, x: &[u8]) -> bool
     ensures { result ≡ gives rule taken x.now }
 {
-    if taken {
-        return false;
-    }
-    exclusion_entries::takes(rule, x)
+    !taken && exclusion_entries::takes(rule, x)
 }
 
 // Moves the next entry if it stays.
@@ -64,7 +63,7 @@ fn sift_one(s: &mut [u8], rule: Rule, c: Sift) -> Sift
             taken: true,
         };
     }
-    moves::move_down(s, at, to, size);
+    s.copy_within(at..next, to);
     Sift {
         at: next,
         to: to + size,
@@ -76,7 +75,7 @@ fn sift_one(s: &mut [u8], rule: Rule, c: Sift) -> Sift
 fn gather(s: &mut [u8], rule: Rule, v: Survey)
     requires all_bytes { AllBytes s.old }
     requires s_value { is_map s.old ≡ true }
-    requires v_value { v ≡ survey_of rule s.old }
+    requires v_value { Ok v ≡ survey_of rule s.old }
     ensures { s.new ≡ splice s.old 4 (entries_bytes (stay (keeps rule) (takes rule) false (excluded_at s.old))) }
 {
     let n = molecule::word(s, 0) as usize;
@@ -86,10 +85,8 @@ fn gather(s: &mut [u8], rule: Rule, v: Survey)
         to: at,
         taken: false,
     };
-    let mut i = v.index;
-    while i < n {
+    for i in v.index..n {
         c = sift_one(s, rule, c);
-        i += 1;
     }
 }
 
@@ -107,6 +104,15 @@ fn put_head(out: &mut [u8], at: usize, hash: Byte32, n: u32) -> usize
     write::put_u32(out, at, n)
 }
 
+// Copies the 36 bytes of an out point.
+fn copy_point(out: &mut [u8], at: usize, src: &[u8], from: usize)
+    requires at_in_bounds { at + 36 ≤ length out.old }
+    requires from_in_bounds { from + 36 ≤ length src.now }
+    ensures { out.new ≡ splice out.old at (take 36 (drop from src.now)) }
+{
+    out[at..at + 36].copy_from_slice(&src[from..from + 36]);
+}
+
 // Puts the out points that the n inputs spend.
 fn put_points(out: &mut [u8], at: usize, inputs: &[u8], n: usize)
     requires n_value { n ≡ fix_count inputs.now }
@@ -117,12 +123,10 @@ fn put_points(out: &mut [u8], at: usize, inputs: &[u8], n: usize)
     transaction_writer::are_bytes(inputs);
     let mut to = at;
     let mut from: usize = 12;
-    let mut k: usize = 0;
-    while k < n {
-        moves::copy_point(out, to, inputs, from);
+    for k in 0..n {
+        copy_point(out, to, inputs, from);
         to += 36;
         from += 44;
-        k += 1;
     }
 }
 
@@ -150,7 +154,7 @@ fn put_new(s: &mut [u8], v: Survey, hash: Byte32, tx: &[u8], n: u32)
     let place = v.place;
     let end = 4 + 48 * v.stays + 36 * v.points;
     let size = exclusion_entries::entry_size(n);
-    moves::move_up(s, place, place + size, end - place);
+    s.copy_within(place..end, place + size);
     put_entry(s, place, hash, tx, n);
     write::put_u32(s, 0, v.stays as u32 + 1);
 }
@@ -159,7 +163,7 @@ fn put_new(s: &mut [u8], v: Survey, hash: Byte32, tx: &[u8], n: u32)
 pub(crate) fn replace(s: &mut [u8], rule: Rule, v: Survey, hash: Byte32, tx: &[u8], n: u32)
     requires all_bytes { AllBytes s.old }
     requires s_value { is_map s.old ≡ true }
-    requires v_value { v ≡ survey_of rule s.old }
+    requires v_value { Ok v ≡ survey_of rule s.old }
     requires n_value { n ≡ fix_count (raw_field tx.now 3) }
     requires tx_len { length (raw_field tx.now 3) ≡ 4 + 44 * n }
     requires stays_bound { v.stays < 64 }
@@ -174,7 +178,7 @@ pub(crate) fn replace(s: &mut [u8], rule: Rule, v: Survey, hash: Byte32, tx: &[u
 pub(crate) fn drop_others(s: &mut [u8], rule: Rule, v: Survey)
     requires all_bytes { AllBytes s.old }
     requires s_value { is_map s.old ≡ true }
-    requires v_value { v ≡ survey_of rule s.old }
+    requires v_value { Ok v ≡ survey_of rule s.old }
     requires stays_bound { v.stays ≤ 64 }
     ensures { s.new ≡ splice s.old 0 (map_bytes (stay (keeps rule) (takes rule) false (excluded_at s.old))) }
 {

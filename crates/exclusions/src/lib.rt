@@ -1,8 +1,8 @@
 // LiveCellsExclusionMap: the cells that funding transactions spend, kept out of later picks. The map is bytes that the caller keeps and lends to each call, which works on them in
 // place. A transaction that can't be read is refused first, then bytes that are no map; a refusal leaves the map's bytes and the buffer as they were.
-#![tactic(auto)]
+#![tactic(auto, using(crate::proofs::Ways::ways))]
 
-ghost use Rattle.std.specs.Prelude.{◌≡◌, true, ◌≤◌, length};
+ghost use Rattle.std.specs.Prelude.{◌≡◌, true, ◌≤◌, length, Ok};
 ghost use Rattle.arithmetic.specs.LittleEndian.{AllBytes};
 ghost use Rattle.molecule.specs.Molecule.{readable, option};
 ghost use Rattle.transaction.specs.Ckb.{Transaction};
@@ -21,28 +21,24 @@ use transaction_writer::are_bytes;
 use units::BlockNumber;
 
 mod changes;
-mod moves;
 
 // Enters a transaction into the table that the rule leaves, where there is room.
 fn enter(map: &mut [u8], rule: Rule, v: Survey, hash: Byte32, tx: &[u8]) -> Answer
     requires all_bytes { AllBytes map.old }
     requires map_value { is_map map.old ≡ true }
-    requires v_value { v ≡ survey_of rule map.old }
+    requires v_value { Ok v ≡ survey_of rule map.old }
     requires points_bound { v.points ≤ 512 }
     requires tx_value { readable (option Transaction) tx.now ≡ true }
     requires fact { length tx.now ≡ 0 → ⊥ }
     ensures { told (with_bytes excluded_at) result map.new ≡ leaving map_bytes map.old (fitting (renew (takes rule) (pending hash tx.now) (keep (keeps rule) (excluded_at map.old)))) }
 {
     let n = fields::input_count(tx);
-    if MOST_ENTRIES <= v.stays {
-        return Answer::Refused(Refusal::TooManyExclusions);
-    }
-    if MOST_OUT_POINTS < v.points + n as usize {
-        return Answer::Refused(Refusal::TooManyExclusions);
+    if MOST_ENTRIES <= v.stays || MOST_OUT_POINTS < v.points + n as usize {
+        return Err(Refusal::TooManyExclusions);
     }
     are_bytes(tx);
     changes::replace(map, rule, v, hash, tx, n);
-    Answer::Done
+    Ok(())
 }
 
 // A transaction that can be read is entered.
@@ -50,18 +46,12 @@ fn add_readable(map: &mut [u8], hash: &[u8], tx: &[u8]) -> Answer
     requires { readable (option Transaction) tx.now ≡ true }
     ensures { told (with_bytes excluded_at) result map.new ≡ lent_map map.old (add_on (excluded_at map.old) hash.now tx.now) }
 {
-    let h = out_points::byte32_at(hash, 0);
+    let h = exclusion_entries::hash_of(hash)?;
     let rule = Rule::Enter(h);
-    let v = exclusion_entries::read_map(map, rule);
-    if !v.good {
-        return Answer::Refused(Refusal::LentBytesUnreadable);
-    }
-    if hash.len() != 32 {
-        return Answer::Refused(Refusal::LentBytesUnreadable);
-    }
+    let v = exclusion_entries::read_map(map, rule)?;
     are_bytes(map);
-    if tx.len() == 0 {
-        return Answer::Done;
+    if tx.is_empty() {
+        return Ok(());
     }
     enter(map, rule, v, h, tx)
 }
@@ -71,7 +61,7 @@ pub fn add(map: &mut [u8], hash: &[u8], tx: &[u8]) -> Answer
     ensures { told (with_bytes excluded_at) result map.new ≡ lent_tx tx.now map.old (add_on (excluded_at map.old) hash.now tx.now) }
 {
     if !transaction::is_optional_transaction(tx) {
-        return Answer::Refused(Refusal::OurTransactionUnreadable);
+        return Err(Refusal::OurTransactionUnreadable);
     }
     add_readable(map, hash, tx)
 }
@@ -80,18 +70,12 @@ pub fn add(map: &mut [u8], hash: &[u8], tx: &[u8]) -> Answer
 pub fn remove(map: &mut [u8], hash: &[u8]) -> Answer
     ensures { told (with_bytes excluded_at) result map.new ≡ lent_map map.old (remove_on (excluded_at map.old) hash.now) }
 {
-    let h = out_points::byte32_at(hash, 0);
+    let h = exclusion_entries::hash_of(hash)?;
     let rule = Rule::Remove(h);
-    let v = exclusion_entries::read_map(map, rule);
-    if !v.good {
-        return Answer::Refused(Refusal::LentBytesUnreadable);
-    }
-    if hash.len() != 32 {
-        return Answer::Refused(Refusal::LentBytesUnreadable);
-    }
+    let v = exclusion_entries::read_map(map, rule)?;
     are_bytes(map);
     changes::drop_others(map, rule, v);
-    Answer::Done
+    Ok(())
 }
 
 // Drops what was committed 13 blocks before the tip, or earlier.
@@ -99,13 +83,10 @@ pub fn truncate(map: &mut [u8], tip: BlockNumber) -> Answer
     ensures { told (with_bytes excluded_at) result map.new ≡ lent_map map.old (truncate_on (excluded_at map.old) tip) }
 {
     let rule = Rule::Truncate(tip);
-    let v = exclusion_entries::read_map(map, rule);
-    if !v.good {
-        return Answer::Refused(Refusal::LentBytesUnreadable);
-    }
+    let v = exclusion_entries::read_map(map, rule)?;
     are_bytes(map);
     changes::drop_others(map, rule, v);
-    Answer::Done
+    Ok(())
 }
 
 // A transaction that is replaced by none.
@@ -113,21 +94,8 @@ fn migrate_to_none(map: &mut [u8], old: &[u8], new: &[u8], tx: &[u8]) -> Answer
     requires { length tx.now ≡ 0 }
     ensures { told (with_bytes excluded_at) result map.new ≡ lent_map map.old (migrate_on (excluded_at map.old) old.now new.now tx.now) }
 {
-    let o = out_points::byte32_at(old, 0);
-    let rule = Rule::Remove(o);
-    let v = exclusion_entries::read_map(map, rule);
-    if !v.good {
-        return Answer::Refused(Refusal::LentBytesUnreadable);
-    }
-    if old.len() != 32 {
-        return Answer::Refused(Refusal::LentBytesUnreadable);
-    }
-    if new.len() != 32 {
-        return Answer::Refused(Refusal::LentBytesUnreadable);
-    }
-    are_bytes(map);
-    changes::drop_others(map, rule, v);
-    Answer::Done
+    exclusion_entries::hash_of(new)?;
+    remove(map, old)
 }
 
 // A transaction that is replaced by another.
@@ -136,22 +104,13 @@ fn migrate_to(map: &mut [u8], old: &[u8], new: &[u8], tx: &[u8]) -> Answer
     requires fact { length tx.now ≡ 0 → ⊥ }
     ensures { told (with_bytes excluded_at) result map.new ≡ lent_map map.old (migrate_on (excluded_at map.old) old.now new.now tx.now) }
 {
-    let o = out_points::byte32_at(old, 0);
-    let h = out_points::byte32_at(new, 0);
+    let o = exclusion_entries::hash_of(old)?;
+    let h = exclusion_entries::hash_of(new)?;
     let rule = Rule::Migrate(o, h);
-    let v = exclusion_entries::read_map(map, rule);
-    if !v.good {
-        return Answer::Refused(Refusal::LentBytesUnreadable);
-    }
-    if old.len() != 32 {
-        return Answer::Refused(Refusal::LentBytesUnreadable);
-    }
-    if new.len() != 32 {
-        return Answer::Refused(Refusal::LentBytesUnreadable);
-    }
+    let v = exclusion_entries::read_map(map, rule)?;
     are_bytes(map);
     if !v.lost {
-        return Answer::Done;
+        return Ok(());
     }
     enter(map, rule, v, h, tx)
 }
@@ -161,9 +120,9 @@ pub fn migrate_funding_tx(map: &mut [u8], old: &[u8], new: &[u8], tx: &[u8]) -> 
     ensures { told (with_bytes excluded_at) result map.new ≡ lent_tx tx.now map.old (migrate_on (excluded_at map.old) old.now new.now tx.now) }
 {
     if !transaction::is_optional_transaction(tx) {
-        return Answer::Refused(Refusal::OurTransactionUnreadable);
+        return Err(Refusal::OurTransactionUnreadable);
     }
-    if tx.len() == 0 {
+    if tx.is_empty() {
         return migrate_to_none(map, old, new, tx);
     }
     migrate_to(map, old, new, tx)

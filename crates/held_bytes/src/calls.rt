@@ -2,29 +2,23 @@
 ghost use Rattle.std.specs.Prelude.{◌≡◌, length};
 ghost use Rattle.error.specs.Refusal.{answered};
 ghost use Rattle.out_points.specs.Tables.{told};
-ghost use Rattle.hold_records.specs.Holds.{records_of, hold_funding, release_for_watchtower, hold_for_watchtower, lock_held, unavailable, take_cells};
+ghost use Rattle.hold_records.specs.Holds.{outcome_on, hold_funding, release_for_watchtower, hold_for_watchtower, lock_held, unavailable, take_cells};
 ghost use Rattle.table_bytes.specs.Lent.{leaving, lent_table, lent_with, lent_with_two, lent_read, with_bytes};
 ghost use Rattle.held_bytes.specs.HeldBytes.{held_size, held_of, held_at, held_bytes};
 
 use crate::HELD_BYTES;
 use error::{Answer, Refusal};
-use hold_records::{HeldAnswer, Rule, Taker};
+use hold_records::{Held, Rule, Taker};
 use units::Millis;
 
 // Writes the table that a call returned, if the call is done.
-fn leave(s: &mut [u8], r: HeldAnswer) -> Answer
+fn leave(s: &mut [u8], r: Result<Held, Refusal>) -> Answer
     requires { length s.old ≡ held_size }
-    ensures { told (with_bytes held_at) result s.new ≡ leaving held_bytes s.old (told records_of r.answer r.held) }
+    ensures { told (with_bytes held_at) result s.new ≡ leaving held_bytes s.old (outcome_on (held_of s.old) r) }
 {
-    let answer = r.answer;
-    match answer {
-        Answer::Done => {
-            let h = r.held;
-            crate::write_held(h, s);
-            Answer::Done
-        }
-        Answer::Refused(why) => Answer::Refused(why),
-    }
+    let h = r?;
+    crate::write_held(h, s);
+    Ok(())
 }
 
 // The funding inputs that `holder` holds now, in place of the ones that it held before.
@@ -32,7 +26,7 @@ pub fn hold_funding(held: &mut [u8], holder: u64, cells: &[u8]) -> Answer
     ensures { told (with_bytes held_at) result held.new ≡ lent_table held_bytes held_size held.old (hold_funding (held_of held.old) holder cells.now) }
 {
     if held.len() != HELD_BYTES {
-        return Answer::Refused(Refusal::LentBytesUnreadable);
+        return Err(Refusal::LentBytesUnreadable);
     }
     let h = crate::read_held(held);
     let r = held_cells::hold_funding(h, holder, cells);
@@ -44,7 +38,7 @@ pub fn hold_for_watchtower(held: &mut [u8], cells: &[u8], time: Millis) -> Answe
     ensures { told (with_bytes held_at) result held.new ≡ lent_table held_bytes held_size held.old (hold_for_watchtower (held_of held.old) cells.now time) }
 {
     if held.len() != HELD_BYTES {
-        return Answer::Refused(Refusal::LentBytesUnreadable);
+        return Err(Refusal::LentBytesUnreadable);
     }
     let h = crate::read_held(held);
     let r = watchtower_holds::hold_for_watchtower(h, cells, time);
@@ -56,7 +50,7 @@ pub fn release_for_watchtower(held: &mut [u8], cells: &[u8]) -> Answer
     ensures { told (with_bytes held_at) result held.new ≡ lent_table held_bytes held_size held.old (release_for_watchtower (held_of held.old) cells.now) }
 {
     if held.len() != HELD_BYTES {
-        return Answer::Refused(Refusal::LentBytesUnreadable);
+        return Err(Refusal::LentBytesUnreadable);
     }
     let h = crate::read_held(held);
     let r = watchtower_holds::release_for_watchtower(h, cells);
@@ -68,15 +62,13 @@ pub fn lock_held(held: &mut [u8], time: Millis, out: &mut [u8]) -> Answer
     ensures { (told (with_bytes held_at) result held.new, out.new) ≡ lent_with held_bytes held_size held.old out.old (lock_held (held_of held.old) time out.old) }
 {
     if held.len() != HELD_BYTES {
-        return Answer::Refused(Refusal::LentBytesUnreadable);
+        return Err(Refusal::LentBytesUnreadable);
     }
-    let rule = Rule::Live(time);
-    let left = crate::read_kept(held, rule);
+    let left = crate::read_kept(held, Rule::Live(time));
     if !hold_records::put_cells(left, 0, out) {
-        return Answer::Refused(Refusal::BufferTooShort);
+        return Err(Refusal::BufferTooShort);
     }
-    crate::write_held(left, held);
-    Answer::Done
+    leave(held, Ok(left))
 }
 
 // The cells of `picked` that are held at `time` or in `spent`.
@@ -84,7 +76,7 @@ pub fn unavailable(held: &[u8], picked: &[u8], spent: &[u8], time: Millis, out: 
     ensures { (answered result, out.new) ≡ lent_read held_size held.now out.old (unavailable (held_of held.now) picked.now spent.now time out.old) }
 {
     if held.len() != HELD_BYTES {
-        return Answer::Refused(Refusal::LentBytesUnreadable);
+        return Err(Refusal::LentBytesUnreadable);
     }
     let h = crate::read_held(held);
     held_cells::unavailable(h, picked, spent, time, out)
@@ -103,7 +95,7 @@ pub fn take(
     ensures { (told (with_bytes held_at) result held.new, taken.new, refused.new) ≡ lent_with_two held_bytes held_size held.old taken.old refused.old (take_cells (held_of held.old) picked.now spent.now taker time taken.old refused.old) }
 {
     if held.len() != HELD_BYTES {
-        return Answer::Refused(Refusal::LentBytesUnreadable);
+        return Err(Refusal::LentBytesUnreadable);
     }
     let h = crate::read_held(held);
     let r = held_cells::take(h, picked, spent, taker, time, taken, refused);

@@ -1,5 +1,5 @@
 // The table of holds as lent bytes.
-#![tactic(auto)]
+#![tactic(auto, using(crate::proofs::Ways::ways))]
 
 ghost use Rattle.std.specs.Prelude.{◌≡◌, ◌≤◌, length};
 ghost use Rattle.molecule.specs.Write.{put_at};
@@ -28,8 +28,7 @@ fn hold_of(p: Place) -> Hold
         let owner = Owner::Funding(p.number);
         return Hold { point, owner };
     }
-    let end = Millis(p.number);
-    let owner = Owner::Watchtower(end);
+    let owner = Owner::Watchtower(Millis(p.number));
     Hold { point, owner }
 }
 
@@ -39,21 +38,17 @@ fn place_for(r: Hold) -> Place
     ensures fit_place { FitPlace result }
 {
     let point = r.point;
-    let owner = r.owner;
-    match owner {
+    match r.owner {
         Owner::Funding(number) => Place {
             point,
             kind: 0,
             number,
         },
-        Owner::Watchtower(end) => {
-            let number = end.0;
-            Place {
-                point,
-                kind: 1,
-                number,
-            }
-        }
+        Owner::Watchtower(end) => Place {
+            point,
+            kind: 1,
+            number: end.0,
+        },
     }
 }
 
@@ -62,12 +57,8 @@ pub fn read_held(s: &[u8]) -> Held
     ensures { result ≡ held_of s.now }
 {
     let mut g = hold_records::empty();
-    let mut i: usize = 0;
-    while i < MOST_RECORDS {
-        let p = table_bytes::place_of(s, i);
-        let x = hold_of(p);
-        g.records[i] = x;
-        i += 1;
+    for i in 0..MOST_RECORDS {
+        g.records[i] = hold_of(table_bytes::place_of(s, i));
     }
     g.count = molecule::word(s, 0) as usize;
     g
@@ -82,15 +73,13 @@ pub fn read_kept(s: &[u8], rule: Rule) -> Held
     let count = molecule::word(s, 0) as usize;
     let n = hold_records::used(count);
     let mut to: usize = 0;
-    let mut i: usize = 0;
-    while i < n {
-        let p = table_bytes::place_of(s, i);
-        let x = hold_of(p);
-        i += 1;
-        if hold_records::kept(x, rule) {
-            g.records[to] = x;
-            to += 1;
+    for i in 0..n {
+        let x = hold_of(table_bytes::place_of(s, i));
+        if !hold_records::kept(x, rule) {
+            continue;
         }
+        g.records[to] = x;
+        to += 1;
     }
     g.count = to;
     g
@@ -106,11 +95,7 @@ pub fn write_held(h: Held, s: &mut [u8])
         return;
     }
     let mut to = write::put_u32(s, 0, n as u32);
-    let mut i: usize = 0;
-    while i < n {
-        let x = h.records[i];
-        let p = place_for(x);
-        to = table_bytes::put_place(s, to, p);
-        i += 1;
+    for i in 0..n {
+        to = table_bytes::put_place(s, to, place_for(h.records[i]));
     }
 }

@@ -131,11 +131,11 @@ unfolding left_of
 leave_start picked kinds out at e = name-start (is_left kinds) (point_of picked) out at e refl
 
 module _ (picked kinds : List ℕ) {all : List OutPoint} {n i : ℕ} {out₀ : List ℕ} {at₀ : ℕ} {out : List ℕ} {at : ℕ} (v : Naming (is_left kinds) (point_of picked) all n i out₀ at₀ out at) {b : Bool} (l : i < n) (e : b ≡ is_free kinds i) where
-  pub leave_put : {p : OutPoint} {o : List ℕ} {a : ℕ} → not b ≡ true → p ≡ point_of picked i → o ≡ put_at out at (point_bytes p) → a ≡ put_end out at (point_bytes p)
+  pub leave_put : {p : OutPoint} {o : List ℕ} {a : ℕ} → b ≡ false → p ≡ point_of picked i → o ≡ put_at out at (point_bytes p) → a ≡ put_end out at (point_bytes p)
       → Naming (is_left kinds) (point_of picked) all n (i + 1) out₀ at₀ o a
   unfolding is_left
-  leave_put t = name_yes v l (ap not e) t
+  leave_put t = name_yes v l (ap not e) (ap not t)
 
-  pub leave_taken : not b ≡ false → Naming (is_left kinds) (point_of picked) all n (i + 1) out₀ at₀ out at
+  pub leave_taken : b ≡ true → Naming (is_left kinds) (point_of picked) all n (i + 1) out₀ at₀ out at
   unfolding is_left
-  leave_taken t = name_no v l (ap not e) t
+  leave_taken t = name_no v l (ap not e) (ap not t)

@@ -2,21 +2,22 @@
 use mathlib.Core.Path.{◌≡◌, refl, sym, ap, ap₂, ◌∙◌}
 use Prim.Native.Nat.{ℕ, zero, suc, ◌+◌, ◌-◌, ◌*◌, ◌≤◌, ◌<◌, min}
 use native.Mathlib.Omega.{arith}
-use borrow.Author.Tests.{leb-true, le-leb, lt-leb, not-true, not-false}
+use borrow.Author.Tests.{leb-true, le-leb, lt-leb}
 use mathlib.Core.Bool.{Bool, true, false, not, ◌&&◌, cond, false≢true}
 use mathlib.Core.List.{List, [], ◌∷◌, ◌++◌, map}
 use lib.Dec.{leb, eqb}
 use lib.ListN.{length, drop}
-use Rattle.error.specs.declared.{Refusal.Refusal, Answer.Answer}
+use Rattle.std.proofs.Common.{Ok, Err}
+use Rattle.error.specs.declared.{Refusal.Refusal}
 use Rattle.error.specs.Refusal.{number}
 use Rattle.molecule.specs.Layout.{span, fix_count}
 use Rattle.out_points.specs.declared.{OutPoint.OutPoint}
 use Rattle.out_points.specs.OutPoints.{has, point_of, points, point_list}
 use Rattle.out_points.proofs.ListLaws.{length_list}
 use Rattle.out_points.proofs.EqualLaws.{and_both}
-use Rattle.out_points.specs.Tables.{Outcome, done, refused, told, has_room, written}
+use Rattle.out_points.specs.Tables.{Outcome, done, refused, has_room, written}
 use Rattle.hold_records.specs.declared.{Owner.Owner, Hold.Hold, Held.Held}
-use Rattle.hold_records.specs.Holds.{records_of, cells_of, firsts, others, held_by}
+use Rattle.hold_records.specs.Holds.{records_of, outcome_on, cells_of, firsts, others, held_by}
 use Rattle.hold_records.specs.Rules.{put_if}
 use Rattle.hold_records.proofs.LoopLaws.{stands}
 use Rattle.hold_records.proofs.WriteLaws.{room_yes, put_yes}
@@ -125,21 +126,15 @@ module _ (cells spent : List OutPoint) (picked kinds : List ℕ) (k : Kinds (is_
 
 -- ---- whether both lists may be written
 
-module _ {r : Bool} (x y z w : ℕ) (e : r ≡ leb x y && leb z w) (t : not r ≡ false) where
+module _ {r : Bool} (x y z w : ℕ) (e : r ≡ leb x y && leb z w) (t : r ≡ true) where
   both_first : x ≤ y
-  both_first = leb-true x y (and_both (leb x y) (leb z w) (sym e ∙ not-false r t)).0
+  both_first = leb-true x y (and_both (leb x y) (leb z w) (sym e ∙ t)).0
 
   both_second : z ≤ w
-  both_second = leb-true z w (and_both (leb x y) (leb z w) (sym e ∙ not-false r t)).1
+  both_second = leb-true z w (and_both (leb x y) (leb z w) (sym e ∙ t)).1
 
-pub both-room : {r : Bool} (x y n m : ℕ) → r ≡ leb x y && leb (4 + 36 * n) (min m 133116) → not r ≡ false → 4 + 36 * n ≤ m
+pub both-room : {r : Bool} (x y n m : ℕ) → r ≡ leb x y && leb (4 + 36 * n) (min m 133116) → r ≡ true → 4 + 36 * n ≤ m
 both-room x y n m e t = let l : 4 + 36 * n ≤ min m 133116 = both_second x y (4 + 36 * n) (min m 133116) e t in omega arith
-
-pub both_no : {a c : Bool} (d : Bool) → a ≡ c → not a ≡ true → false ≡ c && d
-both_no {a} d e t = rw (← e, not-true a t)
-
-pub both_yes : {a b c d : Bool} → a ≡ c → not a ≡ false → b ≡ d → b ≡ c && d
-both_yes {a} e t f = rw (← e, not-false a t) f
 
 -- ---- the calls
 
@@ -180,16 +175,16 @@ module _ (h k : Held) (picked kinds : List ℕ) (owner : Owner) (out₁ out₂ :
   U-list = length_list U ∙ ap (λ (x : ℕ). 4 + 36 * x) U-long
 
   module _ {r : Bool} (er : r ≡ leb (4 + 36 * c) (min (length out₁) 133116) && leb (4 + 36 * (n - c)) (min (length out₂) 133116)) where
-    pub take_short : {o : Outcome Held (List Hold)} → not r ≡ true → o ≡ told records_of (Answer.Refused Refusal.BufferTooShort) h → (o, out₁, out₂) ≡ take_lists h (records_of k) (free_of picked kinds) (left_of picked kinds) owner out₁ out₂
-    unfolding end has_room told number
-    take_short f e = rw e (by (has_room T out₁) (has_room U out₂) refl refl ∙ end_is)
+    pub take_short : r ≡ false → (outcome_on h (Err Refusal.BufferTooShort), out₁, out₂) ≡ take_lists h (records_of k) (free_of picked kinds) (left_of picked kinds) owner out₁ out₂
+    unfolding end has_room outcome_on number
+    take_short f = by (has_room T out₁) (has_room U out₂) refl refl ∙ end_is
       where
         by : (a b : Bool) → has_room T out₁ ≡ a → has_room U out₂ ≡ b → (refused 13 h, out₁, out₂) ≡ end
-        by true true ea eb = absurd (false≢true (sym (not-true r f) ∙ er ∙ rw (← T-list, ← U-list, ea, eb)))
+        by true true ea eb = absurd (false≢true (sym f ∙ er ∙ rw (← T-list, ← U-list, ea, eb)))
         by true false ea eb = rw (ea, eb)
         by false b ea eb = rw ea
 
-    module _ (fit : not r ≡ false) where
+    module _ (fit : r ≡ true) where
       room₁ : 4 + 36 * c ≤ min (length out₁) 133116
       room₁ = both_first (4 + 36 * c) (min (length out₁) 133116) (4 + 36 * (n - c)) (min (length out₂) 133116) er fit
 
@@ -207,15 +202,15 @@ module _ (h k : Held) (picked kinds : List ℕ) (owner : Owner) (out₁ out₂ :
         all_long : length (records_of k) + length T ≡ from + c
         all_long = let a = stands k t.whole in let b = T-long in omega arith
 
-        pub take-full : {o : Outcome Held (List Hold)} → 256 - from < c → o ≡ told records_of (Answer.Refused Refusal.TooManyHolds) h → (o, out₁, out₂) ≡ take_lists h (records_of k) (free_of picked kinds) (left_of picked kinds) owner out₁ out₂
-        unfolding told number
-        take-full s e = rw e (rw (lt-leb (length (records_of k) + length T) 256 (omega (arith, all_long))) at fits)
+        pub take-full : 256 - from < c → (outcome_on h (Err Refusal.TooManyHolds), out₁, out₂) ≡ take_lists h (records_of k) (free_of picked kinds) (left_of picked kinds) owner out₁ out₂
+        unfolding outcome_on number
+        take-full s = rw (lt-leb (length (records_of k) + length T) 256 (omega (arith, all_long))) at fits
 
-        pub take_done : {o : Outcome Held (List Hold)} {b₁ b₂ : List ℕ} → c ≤ 256 - from → b₁ ≡ put_if (cells_of (drop from (records_of g))) out₁ → b₂ ≡ written (left_of picked kinds) out₂
-            → o ≡ told records_of Answer.Done g → (o, b₁, b₂) ≡ take_lists h (records_of k) (free_of picked kinds) (left_of picked kinds) owner out₁ out₂
-        unfolding told
-        take_done {o} {b₁} {b₂} s e₁ e₂ e =
-            let v : o ≡ done (records_of k ++ map (held_by owner) T) = e ∙ ap done (t.added (omega arith)) in
+        pub take_done : {b₁ b₂ : List ℕ} → c ≤ 256 - from → b₁ ≡ put_if (cells_of (drop from (records_of g))) out₁ → b₂ ≡ written (left_of picked kinds) out₂
+            → (outcome_on h (Ok g), b₁, b₂) ≡ take_lists h (records_of k) (free_of picked kinds) (left_of picked kinds) owner out₁ out₂
+        unfolding outcome_on
+        take_done {b₁} {b₂} s e₁ e₂ =
+            let v : outcome_on h (Ok g) ≡ done (records_of k ++ map (held_by owner) T) = ap done (t.added (omega arith)) in
             let v₁ : b₁ ≡ written T out₁ = e₁ ∙ ap (λ (q : List OutPoint). put_if q out₁) (taken-cells t ef s) ∙ put_yes T out₁ (room_yes T out₁ (sym T-long) room₁) in
             rw (v, v₁, e₂) (rw (le-leb (length (records_of k) + length T) 256 (omega (arith, all_long))) at fits)
 
@@ -232,21 +227,20 @@ over l m out₁ out₂ h a b =
     let y : length (point_list m) ≤ min (length out₂) 133116 = leb-true (length (point_list m)) (min (length out₂) 133116) b in
     omega (arith, length_list l, length_list m)
 
-pub take_many : (h k : Held) (cells : List OutPoint) (picked spent : List ℕ) (owner : Owner) (out₁ out₂ : List ℕ) {n : ℕ} {o : Outcome Held (List Hold)} → n ≡ fix_count picked → 7394 < n
-    → o ≡ told records_of (Answer.Refused Refusal.BufferTooShort) h → (o, out₁, out₂) ≡ take_from h (records_of k) cells (points picked) (points spent) owner out₁ out₂
-unfolding take_from take_lists told number
-take_many h k cells picked spent owner out₁ out₂ {n} en m e =
+pub take_many : (h k : Held) (cells : List OutPoint) (picked spent : List ℕ) (owner : Owner) (out₁ out₂ : List ℕ) {n : ℕ} → n ≡ fix_count picked → 7394 < n
+    → (outcome_on h (Err Refusal.BufferTooShort), out₁, out₂) ≡ take_from h (records_of k) cells (points picked) (points spent) owner out₁ out₂
+unfolding take_from take_lists outcome_on number
+take_many h k cells picked spent owner out₁ out₂ {n} en m =
     let f : OutPoint → Bool = not_among cells (points spent) in
     let l : List OutPoint = firsts f [] (points picked) in
     let r : List OutPoint = others f [] (points picked) in
     let z : length l + length r ≡ fix_count picked =
     ap₂ (λ (x y : List OutPoint). length x + length y) (firsts-select f (point_of picked) (fix_count picked)) (others-select f (point_of picked) (fix_count picked))
     ∙ both-from (is_first f (point_of picked)) (is_other f (point_of picked)) (point_of picked) (λ j. refl) 0 (fix_count picked) in
-    rw e
-    (neither (has_room l out₁) (has_room r out₂)
+    neither (has_room l out₁) (has_room r out₂)
     (cond (leb (length (records_of k) + length l) 256) (done (records_of k ++ map (held_by owner) l), written l out₁, written r out₂) (refused 14 h, out₁, out₂))
     (refused 13 h, out₁, out₂)
-    (over l r out₁ out₂ (omega arith)))
+    (over l r out₁ out₂ (omega arith))
 
 -- what is taken by a list of cells is taken by the records that they are of
 pub take_known : (h k : Held) (cells picked spent kinds : List ℕ) (owner : Owner) (out₁ out₂ : List ℕ) {z : ℕ} {x : Outcome Held (List Hold) × List ℕ × List ℕ}

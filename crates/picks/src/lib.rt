@@ -1,20 +1,20 @@
 // What `take` makes of picks: those that are free, each once, are recorded, and two lists are written.
-#![tactic(auto)]
+#![tactic(auto, using(crate::proofs::Ways::ways))]
 
-ghost use Rattle.std.specs.Prelude.{◌≡◌, ◌&&◌, ◌+◌, ◌*◌, ◌≤◌, ◌<◌, min, leb, length, drop};
-ghost use Rattle.error.specs.declared.{Answer.Answer};
+ghost use Rattle.std.specs.Prelude.{◌≡◌, ◌&&◌, ◌+◌, ◌*◌, ◌≤◌, ◌<◌, min, nat_le, length, drop, IfOk};
 ghost use Rattle.molecule.specs.Layout.{fix_count};
 ghost use Rattle.molecule.specs.Write.{Put};
 ghost use Rattle.out_points.specs.OutPoints.{points, bytes_of};
-ghost use Rattle.out_points.specs.Tables.{told, written};
-ghost use Rattle.hold_records.specs.Holds.{records_of, cells_of};
+ghost use Rattle.out_points.specs.Tables.{written};
+ghost use Rattle.hold_records.specs.declared.{Held.Held};
+ghost use Rattle.hold_records.specs.Holds.{records_of, outcome_on, cells_of};
 ghost use Rattle.hold_records.specs.Rules.{put_if};
 ghost use Rattle.picks.specs.Places.{is_free, free_of, left_of, Tallied, take_lists, take_from};
 
 use error::Refusal;
-use hold_records::{Held, HeldAnswer, Hold, MOST_RECORDS, Owner};
+use hold_records::{Held, Hold, MOST_RECORDS, Owner};
 use molecule::write;
-use pick_kinds::MOST_PICKS;
+use pick_kinds::{FREE, MOST_PICKS};
 use unavailable_picks::CELLS_BYTES;
 
 // Whether pick i is free, and no pick before it is the same.
@@ -22,7 +22,7 @@ fn is_free(kinds: &[u8], i: usize) -> bool
     requires { i < length kinds.now }
     ensures { result ≡ is_free kinds.now i }
 {
-    kinds[i] == 1
+    kinds[i] == FREE
 }
 
 // How many picks are taken, and the table with a record for each, as far as there is room.
@@ -41,19 +41,18 @@ fn tally(h: Held, picked: &[u8], kinds: &[u8], owner: Owner) -> Taken
     let mut g = h;
     g.count = from;
     let mut count: u32 = 0;
-    let mut i: usize = 0;
-    while i < n {
-        let k = i;
-        i += 1;
-        if is_free(kinds, k) {
-            count += 1;
-            let last = g.count;
-            if last < MOST_RECORDS {
-                let point = out_points::point_of(picked, k);
-                g.records[last] = Hold { point, owner };
-                g.count = last + 1;
-            }
+    for i in 0..n {
+        if !is_free(kinds, i) {
+            continue;
         }
+        count += 1;
+        let last = g.count;
+        if MOST_RECORDS <= last {
+            continue;
+        }
+        let point = out_points::point_of(picked, i);
+        g.records[last] = Hold { point, owner };
+        g.count = last + 1;
     }
     Taken { held: g, count }
 }
@@ -65,14 +64,12 @@ fn put_refused(picked: &[u8], kinds: &[u8], out: &mut [u8], at: usize) -> usize
 {
     let n = molecule::fix_count(picked) as usize;
     let mut to = at;
-    let mut i: usize = 0;
-    while i < n {
-        let k = i;
-        i += 1;
-        if !is_free(kinds, k) {
-            let p = out_points::point_of(picked, k);
-            to = out_points::put_out_point(out, to, p);
+    for i in 0..n {
+        if is_free(kinds, i) {
+            continue;
         }
+        let p = out_points::point_of(picked, i);
+        to = out_points::put_out_point(out, to, p);
     }
     to
 }
@@ -106,64 +103,59 @@ fn put_taken_and_refused(
 
 // Whether lists of so many out points may be written to buffers of so many bytes.
 fn both_fit(count: u32, taken: usize, rest: u32, refused: usize) -> bool
-    ensures { result ≡ leb (4 + 36 * count) (min taken 133116) && leb (4 + 36 * rest) (min refused 133116) }
+    ensures { result ≡ nat_le (4 + 36 * count) (min taken 133116) && nat_le (4 + 36 * rest) (min refused 133116) }
 {
-    if !out_points::fits(count, taken) {
-        return false;
-    }
-    out_points::fits(rest, refused)
+    out_points::fits(count, taken) && out_points::fits(rest, refused)
 }
 
-// Takes the free picks; a refusal hands back `held`.
+// Takes the free picks.
 fn take_free(
-    held: Held,
     live: Held,
     picked: &[u8],
     kinds: &[u8],
     owner: Owner,
     taken: &mut [u8],
     refused: &mut [u8],
-) -> HeldAnswer
+) -> Result<Held, Refusal>
     requires { fix_count picked.now ≤ length kinds.now }
-    ensures refused_after { (told records_of result.answer result.held, taken.new, refused.new) ≡ take_lists held (records_of live) (free_of picked.now kinds.now) (left_of picked.now kinds.now) owner taken.old refused.old }
-    ensures count_bound { result.answer ≡ Answer.Done → result.held.count ≤ 256 }
+    ensures refused_after { (h : Held) → (outcome_on h result, taken.new, refused.new) ≡ take_lists h (records_of live) (free_of picked.now kinds.now) (left_of picked.now kinds.now) owner taken.old refused.old }
+    ensures count_bound { IfOk result (λ g. g.count ≤ 256) }
 {
     let t = tally(live, picked, kinds, owner);
     let count = t.count;
     let n = molecule::fix_count(picked);
     let rest = n - count;
     if !both_fit(count, taken.len(), rest, refused.len()) {
-        return hold_records::refuse(held, Refusal::BufferTooShort);
+        return Err(Refusal::BufferTooShort);
     }
     let from = hold_records::used(live.count);
     if MOST_RECORDS - from < count as usize {
-        return hold_records::refuse(held, Refusal::TooManyHolds);
+        return Err(Refusal::TooManyHolds);
     }
     let after = t.held;
     put_taken_and_refused(after, from, picked, kinds, rest, taken, refused);
-    hold_records::done(after)
+    Ok(after)
 }
 
-// Takes the picks that no record of `live` holds; a refusal hands back `held`. More picks than two lists hold are refused.
+// Takes the picks that no record of `live` holds. More picks than two lists hold are refused.
 pub fn take_from(
-    held: Held,
     live: Held,
     picked: &[u8],
     spent: &[u8],
     owner: Owner,
     taken: &mut [u8],
     refused: &mut [u8],
-) -> HeldAnswer
-    ensures refused_after { (told records_of result.answer result.held, taken.new, refused.new) ≡ take_from held (records_of live) (cells_of (records_of live)) (points picked.now) (points spent.now) owner taken.old refused.old }
-    ensures count_bound { result.answer ≡ Answer.Done → result.held.count ≤ 256 }
+) -> Result<Held, Refusal>
+    ensures refused_after { (h : Held) → (outcome_on h result, taken.new, refused.new) ≡ take_from h (records_of live) (cells_of (records_of live)) (points picked.now) (points spent.now) owner taken.old refused.old }
+    ensures count_bound { IfOk result (λ g. g.count ≤ 256) }
 {
     let n = molecule::fix_count(picked) as usize;
     if MOST_PICKS < n {
-        return hold_records::refuse(held, Refusal::BufferTooShort);
+        return Err(Refusal::BufferTooShort);
     }
     let mut cells = [0u8; CELLS_BYTES];
     hold_records::list_cells(live, &mut cells);
     let mut kinds = [0u8; MOST_PICKS];
     unavailable_picks::put_kinds(&cells, picked, spent, &mut kinds);
-    take_free(held, live, picked, &kinds, owner, taken, refused)
+    take_free(live, picked, &kinds, owner, taken, refused)
 }

@@ -4,11 +4,11 @@ use Prim.Native.Nat.{ℕ}
 use mathlib.Core.List.{List}
 use borrow.Author.Tests.{eq-eqb, ne_eqb}
 use lib.ListN.{length}
-use Rattle.std.specs.Prelude.{Result, Ok, Err}
+use Rattle.std.proofs.Common.{Ok, Err, Result}
 use Rattle.error.specs.declared.{Refusal.Refusal}
 use Rattle.error.specs.Refusal.{number, answered}
 use Rattle.molecule.specs.Write.{put_at}
-use Rattle.out_points.specs.Tables.{Outcome, told}
+use Rattle.out_points.specs.Tables.{Outcome, done, refused, told}
 use Rattle.table_bytes.specs.Lent.{After, leaving, lent_table, lent_with, lent_with_two, lent_read, with_bytes, told_number}
 
 module _ {T M : Type 0} (bytes : M → List ℕ) (k : ℕ) (s : List ℕ) where
@@ -40,7 +40,7 @@ module _ {T M : Type 0} (bytes : M → List ℕ) (k : ℕ) (s : List ℕ) where
     two_is c o h e f = rw (eq-eqb (length s) k h, f, ← e)
 
 module _ (k : ℕ) (s b : List ℕ) (o : ℕ × List ℕ) where
-  pub only_bad : (length s ≡ k → ⊥) → (answered {T = Unit {0}} (Err Refusal.LentBytesUnreadable), b) ≡ lent_read k s b o
+  pub only_bad : (length s ≡ k → ⊥) → (answered {T = Unit} (Err Refusal.LentBytesUnreadable), b) ≡ lent_read k s b o
   unfolding lent_read answered number
   only_bad h = rw (ne_eqb (length s) k h)
 
@@ -49,19 +49,19 @@ module _ (k : ℕ) (s b : List ℕ) (o : ℕ × List ℕ) where
   only-is h e = e ∙ rw (eq-eqb (length s) k h)
 
 -- a call that is done leaves the bytes of its table at the start of those lent, and one that is refused the bytes
-module _ {T M : Type 0} (bytes : M → List ℕ) (means : T → M) (s : List ℕ) {a : Result (Unit {0}) Refusal} (t : T) where
-  pub leave_done : (meant : List ℕ → M) {o : List ℕ} → a ≡ Ok tt → meant o ≡ means t → o ≡ put_at s 0 (bytes (means t))
-      → told (with_bytes meant) (Ok tt) o ≡ leaving bytes s (told means a t)
+module _ {T M : Type 0} (bytes : M → List ℕ) (s : List ℕ) where
+  pub leave_done : (meant : List ℕ → M) (u : Unit) {o : List ℕ} {m : M} {x : Outcome T M} → x ≡ done m → meant o ≡ m → o ≡ put_at s 0 (bytes m)
+      → told (with_bytes meant) (Ok u) o ≡ leaving bytes s x
   unfolding told leaving with_bytes
-  leave_done meant e h k = rw (e, h, ← k)
+  leave_done meant u e h k = rw (e, h, ← k)
 
-  pub leave_refused : (meant : List ℕ → M × List ℕ) {why : Refusal} → a ≡ Err why → told meant (Err why) s ≡ leaving bytes s (told means a t)
+  pub leave_refused : (meant : List ℕ → M × List ℕ) (why : Refusal) {t : T} {x : Outcome T M} → x ≡ refused (number why) t → told meant (Err why) s ≡ leaving bytes s x
   unfolding told leaving
-  leave_refused meant e = rw e
+  leave_refused meant why e = rw e
 
 -- ---- the same by number
 
-number_is : {M : Type 0} (means : List ℕ → M) (a : Result (Unit {0}) Refusal) (s : List ℕ) → told_number means (answered a) s ≡ told means a s
+number_is : {M : Type 0} (means : List ℕ → M) (a : Result Unit Refusal) (s : List ℕ) → told_number means (answered a) s ≡ told means a s
 unfolding told_number told answered number
 number_is means (Ok u) s = refl
 number_is means (Err Refusal.OurTransactionUnreadable) s = refl
@@ -80,7 +80,7 @@ number_is means (Err Refusal.BufferTooShort) s = refl
 number_is means (Err Refusal.TooManyHolds) s = refl
 number_is means (Err Refusal.TooManyExclusions) s = refl
 
-module _ {M : Type 0} (means : List ℕ → M) (s : List ℕ) (a : Result (Unit {0}) Refusal) {n : ℕ} (e : n ≡ answered a) where
+module _ {M : Type 0} (means : List ℕ → M) (s : List ℕ) (a : Result Unit Refusal) {n : ℕ} (e : n ≡ answered a) where
   by_number : told_number means n s ≡ told means a s
   by_number = ap (λ (k : ℕ). told_number means k s) e ∙ number_is means a s
 
@@ -93,5 +93,5 @@ module _ {M : Type 0} (means : List ℕ → M) (s : List ℕ) (a : Result (Unit 
   pub number-two : {b c : List ℕ} {o : Outcome (List ℕ) M × List ℕ × List ℕ} → (told means a s, b, c) ≡ o → (told_number means n s, b, c) ≡ o
   number-two h = rw by_number h
 
-pub number_read : (a : Result (Unit {0}) Refusal) {n : ℕ} {b : List ℕ} {o : ℕ × List ℕ} → n ≡ answered a → (answered a, b) ≡ o → (n, b) ≡ o
+pub number_read : (a : Result Unit Refusal) {n : ℕ} {b : List ℕ} {o : ℕ × List ℕ} → n ≡ answered a → (answered a, b) ≡ o → (n, b) ≡ o
 number_read a e h = rw e h

@@ -40,11 +40,10 @@ pub fn put_place(out: &mut [u8], at: usize, p: Place) -> usize
     ensures out_after { out.new ≡ put_at out.old at (place_bytes p) }
     ensures value { result ≡ put_end out.old at (place_bytes p) }
 {
-    if out.len() < at || out.len() - at < 48 {
+    if out.len().saturating_sub(at) < 48 {
         return at;
     }
-    let point = p.point;
-    let at = out_points::put_out_point(out, at, point);
+    let at = out_points::put_out_point(out, at, p.point);
     let at = write::put_u32(out, at, p.kind);
     write::put_u64(out, at, p.number)
 }

@@ -1,4 +1,3 @@
-use Rattle.std.proofs.Common.{◌-◌}
 use Rattle.hold_records.specs.Rules.{is_kept}
 use Rattle.hold_records.proofs.LoopLaws.{Keeping}
 use Rattle.held_bytes.specs.HeldBytes.{held_of}
@@ -6,6 +5,3 @@ use Rattle.held_bytes.proofs.read_kept.Given as goal
 
 abbrev pub invariant-loop-i : goal.invariant-loop-i
 invariant-loop-i l = Keeping (is_kept l.rule) (held_of l.s) l.g l.n l.to l.i
-
-abbrev pub decreases-loop-i : goal.decreases-loop-i
-decreases-loop-i l = l.n - l.i

@@ -1,9 +1,6 @@
 use Rattle.held_bytes.proofs.Ways.{ways}
 use Rattle.held_bytes.proofs.write_held.Goals as goal
 
-pub returns-then-s-n-clause-s_after : goal.returns-then-s-n-clause-s_after
-returns-then-s-n-clause-s_after c = search ways
-
 pub loop-i-init : goal.loop-i-init
 loop-i-init c = search ways
 
@@ -12,6 +9,3 @@ loop-i-preserved c = search ways
 
 pub returns-clause-s_after : goal.returns-clause-s_after
 returns-clause-s_after c = search ways
-
-pub returns-clause-s_after_2 : goal.returns-clause-s_after_2
-returns-clause-s_after_2 c = search ways

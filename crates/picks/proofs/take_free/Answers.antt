@@ -7,13 +7,13 @@ pub overflow_sub-rest : goal.overflow_sub-rest
 overflow_sub-rest c = search ways
 
 pub returns-then-not-both_fit-clause-refused_after : goal.returns-then-not-both_fit-clause-refused_after
-returns-then-not-both_fit-clause-refused_after c = search ways
+returns-then-not-both_fit-clause-refused_after c = λ h. search ways
 
 pub returns-then-from-count-clause-refused_after : goal.returns-then-from-count-clause-refused_after
-returns-then-from-count-clause-refused_after c = search ways
+returns-then-from-count-clause-refused_after c = λ h. search ways
 
 pub put_taken_and_refused-requires : goal.put_taken_and_refused-requires
 put_taken_and_refused-requires c = (search rules, search (rules, left_is), search (rules, both-room))
 
 pub returns-clause-refused_after : goal.returns-clause-refused_after
-returns-clause-refused_after c = search ways
+returns-clause-refused_after c = λ h. search ways

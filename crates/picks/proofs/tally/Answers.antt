@@ -4,11 +4,11 @@ use Rattle.picks.proofs.tally.Goals as goal
 pub loop-i-init : goal.loop-i-init
 loop-i-init c = search ways
 
-pub loop-i-preserved-then-last-lt-MOST_RECORDS : goal.loop-i-preserved-then-last-lt-MOST_RECORDS
-loop-i-preserved-then-last-lt-MOST_RECORDS c = search ways
+pub loop-i-preserved-then-not-is_free : goal.loop-i-preserved-then-not-is_free
+loop-i-preserved-then-not-is_free c = search ways
 
-pub loop-i-preserved-else-last-lt-MOST_RECORDS : goal.loop-i-preserved-else-last-lt-MOST_RECORDS
-loop-i-preserved-else-last-lt-MOST_RECORDS c = search ways
+pub loop-i-preserved-then-last-ge-MOST_RECORDS : goal.loop-i-preserved-then-last-ge-MOST_RECORDS
+loop-i-preserved-then-last-ge-MOST_RECORDS c = search ways
 
 pub loop-i-preserved : goal.loop-i-preserved
 loop-i-preserved c = search ways

@@ -1,9 +1,5 @@
-use Rattle.std.proofs.Common.{◌-◌}
 use Rattle.exclusions.proofs.PutLaws.{Spending}
 use Rattle.exclusions.proofs.changes.put_points.Given as goal
 
 abbrev pub invariant-loop-k : goal.invariant-loop-k
 invariant-loop-k l = Spending l.inputs l.n l.initial.out l.at l.out l.to l.from l.k
-
-abbrev pub decreases-loop-k : goal.decreases-loop-k
-decreases-loop-k l = l.n - l.k

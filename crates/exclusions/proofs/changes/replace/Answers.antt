@@ -4,8 +4,5 @@ use Rattle.exclusions.proofs.changes.replace.Goals as goal
 pub put_new-requires-clause-place_bound : goal.put_new-requires-clause-place_bound
 put_new-requires-clause-place_bound c = search ways
 
-pub put_new-requires-clause-n_in_bounds : goal.put_new-requires-clause-n_in_bounds
-put_new-requires-clause-n_in_bounds c = search ways
-
 pub returns : goal.returns
 returns c = search ways

@@ -1,23 +1,19 @@
+use Rattle.std.proofs.Common.{◌+◌, ◌-◌, ◌≤◌, length, arith}
 use Rattle.exclusions.proofs.ChangesWays.{ways}
 use Rattle.exclusions.proofs.changes.sift_one.Goals as goal
 
-pub returns-then-not-kept-clause-value : goal.returns-then-not-kept-clause-value
-returns-then-not-kept-clause-value c = search ways
+pub copy_within-requires-clause-in_bounds : goal.copy_within-requires-clause-in_bounds
+copy_within-requires-clause-in_bounds c = search ways
 
-pub returns-then-not-kept-clause-s_after : goal.returns-then-not-kept-clause-s_after
-returns-then-not-kept-clause-s_after c = search ways
-
-pub returns-then-gives-clause-value : goal.returns-then-gives-clause-value
-returns-then-gives-clause-value c = search ways
-
-pub returns-then-gives-clause-s_after : goal.returns-then-gives-clause-s_after
-returns-then-gives-clause-s_after c = search ways
-
-pub move_down-requires-clause-n_in_bounds : goal.move_down-requires-clause-n_in_bounds
-move_down-requires-clause-n_in_bounds c = search ways
-
-pub returns-clause-value : goal.returns-clause-value
-returns-clause-value c = search ways
+pub copy_within-requires-clause-dest_in_bounds : goal.copy_within-requires-clause-dest_in_bounds
+copy_within-requires-clause-dest_in_bounds c =
+    let at = c.args.c.at in
+    let size = c.entry_size-size.result in
+    let room : at + size ≤ length c.args.s.now = search ways in
+    let fits : c.args.c.to + (at + size - at) ≤ length c.args.s.now = omega arith in
+    fits
 
 pub returns-clause-s_after : goal.returns-clause-s_after
-returns-clause-s_after c = search ways
+returns-clause-s_after c =
+    let room : c.args.c.at + c.entry_size-size.result ≤ length c.args.s.now = search ways in
+    search ways

@@ -1,8 +1,0 @@
-use Rattle.exclusions.proofs.Ways.{ways}
-use Rattle.exclusions.proofs.add.Goals as goal
-
-pub returns-then-not-is_optional_transaction : goal.returns-then-not-is_optional_transaction
-returns-then-not-is_optional_transaction c = search ways
-
-pub returns : goal.returns
-returns c = search ways
