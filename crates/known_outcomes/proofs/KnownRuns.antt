@@ -10,7 +10,6 @@ use Rattle.rules.specs.Outcome.{fine, refused}
 use Rattle.rules.specs.Surplus.{Measure, capacities, expected, surplus}
 use Rattle.rules.specs.Judge.{Call, Figures, tx_of}
 use Rattle.rules.specs.Run.{Entry, Exact, verdicts, in_force, kept, kept_records, steps, carried, sum, update_for_peer, Returned, Ran, stop, call}
-use Rattle.arithmetic.specs.Amount.{amount_of}
 use Rattle.units.specs.Units.{in_shannons, in_tokens, shannon_count, token_count}
 use Rattle.error.specs.declared.Refusal.{Refusal}
 use Rattle.error.specs.Refusal.{number, values}
@@ -62,7 +61,7 @@ worked-whole = (refl, refl)
 
 -- these are calls of the code: what its contracts say of them holds
 abbrev accept : ℕ → ℕ → Call → Returned Update
-accept capacity token c = record { answer = Update.Accepted (in_shannons (amount_of capacity)) (in_tokens (amount_of token)); handed = c.peer }
+accept capacity token c = record { answer = Ok (record { capacity = in_shannons capacity; token = in_tokens token }); handed = c.peer }
 
 pub worked_ran : Ran (Called expected_lock token_type) [] worked
     (accept 860 1 opening ∷ record { answer = Err Refusal.InvalidPeerFundingTx; handed = opening.peer } ∷ accept 10 1 growing ∷ []) growing.peer

@@ -1,10 +1,9 @@
 -- The known outcomes (docs/RULES.md, "Case file and known outcomes", the starred ones), as one table: what the definitions compute, and what the
 -- paper says. proofs/KnownOutcomes.antt proves all rows at once.
-use Rattle.std.specs.Prelude.{ℕ, ◌+◌, ◌-◌, ◌*◌, ◌^◌, List, [], ◌∷◌, ◌++◌, length, replicate}
+use Rattle.std.specs.Prelude.{ℕ, ◌+◌, ◌-◌, ◌*◌, ◌^◌, List, [], ◌∷◌, ◌++◌, length, replicate, Option, Some, None}
 use Rattle.std.proofs.Math.Option.{none, some}
-use Rattle.units.specs.declared.{Shannons.Shannons, CheckedShannons.CheckedShannons}
+use Rattle.units.specs.declared.{Shannons.Shannons}
 use Rattle.arithmetic.specs.LittleEndian.{to_le}
-use Rattle.arithmetic.specs.Amount.{value, amount_of}
 use Rattle.units.specs.Units.{in_shannons}
 use Rattle.units.specs.Fee.{required_fee, change_capacity}
 use Rattle.molecule.specs.Molecule.{Value, encode}
@@ -31,12 +30,12 @@ abbrev measured : List ℕ → List ℕ
 measured s = length s ∷ (length s + 4) ∷ []
 
 abbrev shannons : Shannons → List ℕ
-shannons s = value s.0 ∷ []
+shannons s = s.0 ∷ []
 
 -- nothing for what does not fit
-abbrev if_fits : CheckedShannons → List ℕ
-if_fits (CheckedShannons.Fits s) = shannons s
-if_fits CheckedShannons.Overflow = []
+abbrev if_fits : Option Shannons → List ℕ
+if_fits (Some s) = shannons s
+if_fits None = []
 
 -- ---- transactions
 
@@ -87,10 +86,10 @@ turned_away (o, out₁, out₂) = listed (number_of o, out₂)
 -- a request of local 5, reserve 7, remote 11, reserve 13
 abbrev figures : FundingRequest
 figures = record {
-  local_amount = amount_of 5;
-  local_reserved_ckb_amount = in_shannons (amount_of 7);
-  remote_amount = amount_of 11;
-  remote_reserved_ckb_amount = in_shannons (amount_of 13);
+  local_amount = 5;
+  local_reserved_ckb_amount = in_shannons 7;
+  remote_amount = 11;
+  remote_reserved_ckb_amount = in_shannons 13;
 }
 
 -- ---- the token pick
