@@ -16,6 +16,8 @@ use Rattle.molecule.proofs.Offsets.{span-length}
 use Rattle.transaction.specs.Ckb.{CellDep, CellDeps}
 use Rattle.transaction.specs.Tx.{tx_at, raw_field}
 use Rattle.rules.specs.Outcome.{Outcome, fine, check, check_with, ◌>>=◌, ◌>>◌}
+use Rattle.transaction_writer.specs.declared.TxFields.{TxFields}
+use Rattle.transaction_writer.specs.TxFields.{AreTxFields}
 use Rattle.transaction_writer.specs.Written.{fits}
 use Rattle.transaction_writer.proofs.PutLaws.{tx_length}
 use Rattle.list_writer.specs.ListWriter.{fix_list, if_positive}
@@ -80,22 +82,14 @@ module _ (ours lock udt source cells udt_deps lock_dep extra_deps : List ℕ) (c
           → y ≡ written (fine base) out
       assembled h e = e ∙ ap (λ (t : List ℕ). written (fine t) out) (same h)
 
--- the lists of the present transaction, each read by its accessor
-pub read_lists : (ours lock udt source cells udt_deps lock_dep extra_deps out : List ℕ) (x : List ℕ) (p : Plan) {version : ℕ} {deps headers inputs outputs datas : List ℕ} {y : Outcome ℕ × List ℕ}
-    → version ≡ (tx_at ours).version → deps ≡ raw_field ours 1 → headers ≡ raw_field ours 2 → inputs ≡ raw_field ours 3 → outputs ≡ raw_field ours 4 → datas ≡ raw_field ours 5
-    → y ≡ written (fine (bytes_of version (lists_of (present_of deps headers inputs outputs datas)
-    (beside_of lock udt source cells udt_deps lock_dep extra_deps) x p))) out
-    → y ≡ written (fine (bytes_of (tx_at ours).version (lists_of (present_in ours)
-    (beside_of lock udt source cells udt_deps lock_dep extra_deps) x p))) out
-read_lists ours lock udt source cells udt_deps lock_dep extra_deps out x p ev ed eh ei eo ea e = e ∙ rw (ev, ed, eh, ei, eo, ea)
-
-pub read_picked : (ours lock udt source cells udt_deps lock_dep extra_deps out : List ℕ) (x : List ℕ) (p : Plan) {u k : List ℕ} {y : Outcome ℕ × List ℕ}
-    → u ≡ if_positive p.taken udt_deps → k ≡ if_positive p.taken lock_dep
-    → y ≡ written (fine (bytes_of (tx_at ours).version (lists_of (present_in ours)
+-- the lists of the present transaction, each read by its accessor, and the deps that count
+pub read_lists : (ours lock udt source cells udt_deps lock_dep extra_deps out x : List ℕ) (p : Plan) {f : TxFields} {u k : List ℕ} {y : Outcome ℕ × List ℕ}
+    → AreTxFields f ours → u ≡ if_positive p.taken udt_deps → k ≡ if_positive p.taken lock_dep
+    → y ≡ written (fine (bytes_of f.version (lists_of (present_of f.deps.now f.headers.now f.inputs.now f.outputs.now f.datas.now)
     (beside_of lock udt source cells u k extra_deps) x p))) out
     → y ≡ written (fine (bytes_of (tx_at ours).version (lists_of (present_in ours)
     (beside_of lock udt source cells (if_positive p.taken udt_deps) (if_positive p.taken lock_dep) extra_deps) x p))) out
-read_picked ours lock udt source cells udt_deps lock_dep extra_deps out x p eu ek e = e ∙ rw (eu, ek)
+read_lists ours lock udt source cells udt_deps lock_dep extra_deps out x p f eu ek e = e ∙ rw (f.version, f.deps, f.headers, f.inputs, f.outputs, f.datas, eu, ek)
 
 module _ (ours udt_deps lock_dep extra_deps : List ℕ) (taken : ℕ) {deps u k : List ℕ} (ed : deps ≡ raw_field ours 1) (eu : u ≡ if_positive taken udt_deps) (ek : k ≡ if_positive taken lock_dep) where
   pub choice_is : {room : ℕ} {p : List ℕ} {r : ℕ} → Chooses deps u k extra_deps room p r → Chooses (raw_field ours 1) (if_positive taken udt_deps) (if_positive taken lock_dep) extra_deps room p r

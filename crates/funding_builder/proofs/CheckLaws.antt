@@ -1,10 +1,10 @@
 -- The tests before the transaction is made, and the figures: one law for each way out.
 use mathlib.Core.Path.{◌≡◌, refl, sym, ◌∙◌}
-use Prim.Native.Nat.{ℕ, zero, suc, ◌^◌, ◌<◌}
-use mathlib.Core.Bool.{Bool, true, false, not}
+use Prim.Native.Nat.{ℕ, zero, suc}
+use mathlib.Core.Bool.{true, not}
 use mathlib.Core.List.{List}
 use native.Mathlib.Omega.{arith}
-use borrow.Author.Tests.{eq-eqb, ne_eqb, eqb-true, not-true, not-false}
+use borrow.Author.Tests.{eq-eqb, ne_eqb}
 use lib.Dec.{eqb}
 use lib.ListN.{length}
 use Rattle.molecule.specs.Molecule.{option, size, sizes, readable}
@@ -12,16 +12,14 @@ use Rattle.molecule.specs.Layout.{part}
 use Rattle.molecule.proofs.Valid.{fixed, all_fixed}
 use Rattle.molecule.proofs.LayoutLaws.{part_none}
 use Rattle.molecule.proofs.ReadableLaws.{readable_fixed}
-use Rattle.transaction.specs.Ckb.{Script, TokenCells, CellDep, CellDeps}
+use Rattle.transaction.specs.Ckb.{CellDep}
 use Rattle.transaction.proofs.ListLaws.{option-some}
-use Rattle.rules.specs.Outcome.{check}
 use Rattle.rules.proofs.CellLaws.{empty-is}
-use Rattle.rules.proofs.Checks.{skip, fail, pass, last_is}
 use Rattle.list_writer.specs.ListWriter.{if_positive}
 use Rattle.udt_cells.specs.Change.{capacity_for}
-use Rattle.funding_builder.specs.Base.{change_capacity, lists, supplied}
+use Rattle.funding_builder.specs.Base.{change_capacity, supplied}
 
--- ---- the lent lists
+-- ---- a lent dep
 
 dep-is : (s : List ℕ) → eqb (length s) 37 ≡ readable CellDep s
 unfolding fixed all_fixed size sizes
@@ -29,24 +27,6 @@ dep-is s = sym (readable_fixed CellDep tt s)
 
 pub optional_dep : (s : List ℕ) → (length s ≡ 0 → ⊥) → eqb (length s) 37 ≡ readable (option CellDep) s
 optional_dep s h = option-some CellDep s h (dep-is s)
-
-module _ (cells udt_deps lock_dep extra_deps : List ℕ) where
-  pub lists-cells : {r : Bool} → r ≡ readable TokenCells cells → not r ≡ true → check 3 false ≡ lists cells udt_deps lock_dep extra_deps
-  unfolding lists
-  lists-cells e h = fail 3 _ (sym e ∙ not-true _ h)
-
-  pub lists-udt : {r : Bool} → r ≡ readable (option CellDeps) udt_deps → not r ≡ true → check 3 false ≡ lists cells udt_deps lock_dep extra_deps
-  unfolding lists
-  lists-udt e h = skip 3 _ (fail 3 _ (sym e ∙ not-true _ h))
-
-  pub lists-lock : {r : Bool} → r ≡ readable (option CellDep) lock_dep → not r ≡ true → check 3 false ≡ lists cells udt_deps lock_dep extra_deps
-  unfolding lists
-  lists-lock e h = skip 3 _ (skip 3 _ (fail 3 _ (sym e ∙ not-true _ h)))
-
-  pub lists_all : {a b c r : Bool} → a ≡ readable TokenCells cells → not a ≡ false → b ≡ readable (option CellDeps) udt_deps → not b ≡ false
-      → c ≡ readable (option CellDep) lock_dep → not c ≡ false → r ≡ readable CellDeps extra_deps → check 3 r ≡ lists cells udt_deps lock_dep extra_deps
-  unfolding lists
-  lists_all ea ha eb hb ec hc er = pass 3 (sym ea ∙ not-false _ ha) (pass 3 (sym eb ∙ not-false _ hb) (pass 3 (sym ec ∙ not-false _ hc) (last_is 3 er)))
 
 -- ---- where tokens were picked
 

@@ -10,13 +10,17 @@ ghost use Rattle.transaction.specs.Tx.{tx_at, raw_field};
 ghost use Rattle.cell_deps.specs.CellDeps.{dep_count, Chooses};
 ghost use Rattle.base_writer.specs.Answer.{written, told};
 ghost use Rattle.base_writer.specs.Lists.{beside_of, lists_of, bytes_of};
-ghost use Rattle.funding_builder.specs.Base.{lent_of, change_capacity, packed, base_tx};
-ghost use Rattle.funding_builder.specs.Steps.{Readable, Roomy, Planned, present_in, cell_of, pick_of};
+ghost use Rattle.funding_builder.specs.Base.{change_capacity, packed, base_tx};
+ghost use Rattle.funding_builder.specs.Lent.{lent_in, cell_in, pick_in};
+ghost use Rattle.funding_builder.specs.Steps.{Readable, Roomy, Planned, present_in};
 
+use crate::Lent;
 use base_writer::{Base, Plan};
 use error::Refusal;
+use funding_cell::FundingCell;
 use transaction::fields;
 use transaction_writer::{TxFields, Written};
+use udt_cells::Picked;
 use units::{Shannons, Tokens};
 
 // How many cell deps 133,116 bytes have room for.
@@ -46,210 +50,99 @@ fn change_capacity(change: Tokens, source: &[u8], udt: &[u8]) -> Shannons
     udt_cells::change_capacity(source, udt).unwrap_or(Shannons::ZERO)
 }
 
-// Writes the base transaction of these deps and figures to the start of out.
-fn write_plan<'a>(
-    ours: &'a [u8],
-    lock: &[u8],
-    udt: &[u8],
-    source: &[u8],
-    cells: &[u8],
-    udt_deps: &'a [u8],
-    lock_dep: &'a [u8],
-    extra_deps: &'a [u8],
-    chosen: &[usize],
-    plan: Plan,
-    out: &mut [u8],
-) -> Written
-    ensures { (told result, out.new) ≡ written (fine (bytes_of (tx_at ours.now).version (lists_of (present_in ours.now) (beside_of lock.now udt.now source.now cells.now udt_deps.now lock_dep.now extra_deps.now) chosen.now plan))) out.old }
+// Writes the base transaction of these figures to the start of out. The token's deps and the lock's count where tokens were picked.
+fn write_plan(lent: &Lent, chosen: &[usize], plan: Plan, out: &mut [u8]) -> Written
+    ensures { (told result, out.new) ≡ written (fine (bytes_of (tx_at lent.now.ours.now).version (lists_of (present_in lent.now.ours.now) (beside_of lent.now.lock.now lent.now.udt.now lent.now.source.now lent.now.cells.now (if_positive plan.taken lent.now.udt_deps.now) (if_positive plan.taken lent.now.lock_dep.now) lent.now.extra_deps.now) chosen.now plan))) out.old }
 {
-    let present = TxFields::of(ours);
     let base = Base {
-        present,
-        lock,
-        udt,
-        source,
-        cells,
-        udt_deps,
-        lock_dep,
-        extra_deps,
+        present: TxFields::of(lent.ours),
+        lock: lent.lock,
+        udt: lent.udt,
+        source: lent.source,
+        cells: lent.cells,
+        udt_deps: if_picked(plan.taken, lent.udt_deps),
+        lock_dep: if_picked(plan.taken, lent.lock_dep),
+        extra_deps: lent.extra_deps,
         chosen,
         plan,
     };
     base.write(out)
 }
 
-// The same of the lent deps, of which the token's and the lock's count where tokens were picked.
-fn write_picked<'a>(
-    ours: &'a [u8],
-    lock: &[u8],
-    udt: &[u8],
-    source: &[u8],
-    cells: &[u8],
-    udt_deps: &'a [u8],
-    lock_dep: &'a [u8],
-    extra_deps: &'a [u8],
-    chosen: &[usize],
-    plan: Plan,
-    out: &mut [u8],
-) -> Written
-    ensures { (told result, out.new) ≡ written (fine (bytes_of (tx_at ours.now).version (lists_of (present_in ours.now) (beside_of lock.now udt.now source.now cells.now (if_positive plan.taken udt_deps.now) (if_positive plan.taken lock_dep.now) extra_deps.now) chosen.now plan))) out.old }
-{
-    let udt_used = if_picked(plan.taken, udt_deps);
-    let lock_used = if_picked(plan.taken, lock_dep);
-    write_plan(
-        ours, lock, udt, source, cells, udt_used, lock_used, extra_deps, chosen, plan, out,
-    )
-}
-
 // How many cell deps there are, repeats among them.
-fn dep_count(
-    ours: &[u8],
-    udt_deps: &[u8],
-    lock_dep: &[u8],
-    extra_deps: &[u8],
-    taken: usize,
-) -> usize
-    ensures { result ≡ dep_count (raw_field ours.now 1) (if_positive taken udt_deps.now) (if_positive taken lock_dep.now) extra_deps.now }
+fn dep_count(lent: &Lent, taken: usize) -> usize
+    ensures { result ≡ dep_count (raw_field lent.now.ours.now 1) (if_positive taken lent.now.udt_deps.now) (if_positive taken lent.now.lock_dep.now) lent.now.extra_deps.now }
 {
-    let deps = fields::cell_deps(ours);
-    let udt_used = if_picked(taken, udt_deps);
-    let lock_used = if_picked(taken, lock_dep);
-    cell_deps::dep_count(deps, udt_used, lock_used, extra_deps)
+    let deps = fields::cell_deps(lent.ours);
+    let udt_used = if_picked(taken, lent.udt_deps);
+    let lock_used = if_picked(taken, lent.lock_dep);
+    cell_deps::dep_count(deps, udt_used, lock_used, lent.extra_deps)
 }
 
 // The places of the cell deps, each where it first stands. That our bytes are below 256 is told by the way.
-fn choose_deps<'a>(
-    ours: &'a [u8],
-    udt_deps: &'a [u8],
-    lock_dep: &'a [u8],
-    extra_deps: &'a [u8],
-    taken: usize,
-    places: &mut [usize],
-    sorted: &mut [usize],
-) -> usize
-    ensures chooses { Chooses (raw_field ours.now 1) (if_positive taken udt_deps.now) (if_positive taken lock_dep.now) extra_deps.now (min (length places.old) (length sorted.old)) places.new result }
-    ensures all_bytes { AllBytes ours.now }
+fn choose_deps(lent: &Lent, taken: usize, places: &mut [usize], sorted: &mut [usize]) -> usize
+    ensures chooses { Chooses (raw_field lent.now.ours.now 1) (if_positive taken lent.now.udt_deps.now) (if_positive taken lent.now.lock_dep.now) lent.now.extra_deps.now (min (length places.old) (length sorted.old)) places.new result }
+    ensures all_bytes { AllBytes lent.now.ours.now }
 {
-    transaction_writer::are_bytes(ours);
-    let deps = fields::cell_deps(ours);
-    let udt_used = if_picked(taken, udt_deps);
-    let lock_used = if_picked(taken, lock_dep);
-    distinct_deps::choose(deps, udt_used, lock_used, extra_deps, places, sorted)
+    transaction_writer::are_bytes(lent.ours);
+    let deps = fields::cell_deps(lent.ours);
+    let udt_used = if_picked(taken, lent.udt_deps);
+    let lock_used = if_picked(taken, lent.lock_dep);
+    distinct_deps::choose(deps, udt_used, lock_used, lent.extra_deps, places, sorted)
 }
 
 // The figures that are written.
-fn make_plan(
-    capacity: Shannons,
-    token: Tokens,
-    taken: usize,
-    change: Tokens,
-    source: &[u8],
-    udt: &[u8],
-) -> Plan
-    requires { (readable Script source.now ≡ true) × (readable (option Script) udt.now ≡ true) }
-    ensures { Planned result capacity token taken change source.now udt.now }
+fn make_plan(lent: &Lent, cell: FundingCell, picked: Picked) -> Plan
+    requires { (readable Script lent.now.source.now ≡ true) × (readable (option Script) lent.now.udt.now ≡ true) }
+    ensures { Planned result cell.capacity cell.token picked.taken picked.change lent.now.source.now lent.now.udt.now }
 {
-    let change_capacity = change_capacity(change, source, udt);
     Plan {
-        capacity,
-        token,
-        taken,
-        change,
-        change_capacity,
+        capacity: cell.capacity,
+        token: cell.token,
+        taken: picked.taken,
+        change: picked.change,
+        change_capacity: change_capacity(picked.change, lent.source, lent.udt),
     }
 }
 
 // Writes the base transaction of these figures to the start of out, with the places of its deps in what is lent for them.
-fn assemble_with<'a>(
-    ours: &'a [u8],
-    lock: &[u8],
-    udt: &[u8],
-    source: &[u8],
-    cells: &[u8],
-    udt_deps: &'a [u8],
-    lock_dep: &'a [u8],
-    extra_deps: &'a [u8],
-    capacity: Shannons,
-    token: Tokens,
-    taken: usize,
-    change: Tokens,
+fn assemble_with(
+    lent: &Lent,
+    cell: FundingCell,
+    picked: Picked,
     places: &mut [usize],
     sorted: &mut [usize],
     out: &mut [u8],
 ) -> Written
-    requires readable { Readable (lent_of ours.now lock.now udt.now source.now cells.now udt_deps.now lock_dep.now extra_deps.now) }
-    requires roomy { Roomy (lent_of ours.now lock.now udt.now source.now cells.now udt_deps.now lock_dep.now extra_deps.now) taken (length places.old) (length sorted.old) }
-    ensures { (told result, out.new) ≡ written (fine (packed (base_tx (lent_of ours.now lock.now udt.now source.now cells.now udt_deps.now lock_dep.now extra_deps.now) (cell_of capacity token) (pick_of taken change)))) out.old }
+    requires readable { Readable (lent_in lent.now) }
+    requires roomy { Roomy (lent_in lent.now) picked.taken (length places.old) (length sorted.old) }
+    ensures { (told result, out.new) ≡ written (fine (packed (base_tx (lent_in lent.now) (cell_in cell) (pick_in picked)))) out.old }
 {
     let room = places.len();
-    let count = choose_deps(ours, udt_deps, lock_dep, extra_deps, taken, places, sorted);
+    let count = choose_deps(lent, picked.taken, places, sorted);
     if room < count {
         return Err(Refusal::BufferTooShort);
     }
-    let plan = make_plan(capacity, token, taken, change, source, udt);
-    let chosen = &places[0..count];
-    write_picked(
-        ours, lock, udt, source, cells, udt_deps, lock_dep, extra_deps, chosen, plan, out,
-    )
+    let plan = make_plan(lent, cell, picked);
+    write_plan(lent, &places[0..count], plan, out)
 }
 
 // The same, with room for the places of all deps where they are few, and else of as many as fit a transaction.
-pub(crate) fn assemble_base_tx<'a>(
-    ours: &'a [u8],
-    lock: &[u8],
-    udt: &[u8],
-    source: &[u8],
-    cells: &[u8],
-    udt_deps: &'a [u8],
-    lock_dep: &'a [u8],
-    extra_deps: &'a [u8],
-    capacity: Shannons,
-    token: Tokens,
-    taken: usize,
-    change: Tokens,
+pub(crate) fn assemble_base_tx(
+    lent: &Lent,
+    cell: FundingCell,
+    picked: Picked,
     out: &mut [u8],
 ) -> Written
-    requires { Readable (lent_of ours.now lock.now udt.now source.now cells.now udt_deps.now lock_dep.now extra_deps.now) }
-    ensures { (told result, out.new) ≡ written (fine (packed (base_tx (lent_of ours.now lock.now udt.now source.now cells.now udt_deps.now lock_dep.now extra_deps.now) (cell_of capacity token) (pick_of taken change)))) out.old }
+    requires { Readable (lent_in lent.now) }
+    ensures { (told result, out.new) ≡ written (fine (packed (base_tx (lent_in lent.now) (cell_in cell) (pick_in picked)))) out.old }
 {
-    if dep_count(ours, udt_deps, lock_dep, extra_deps, taken) <= FEW_DEPS {
+    if dep_count(lent, picked.taken) <= FEW_DEPS {
         let mut places = [0usize; FEW_DEPS];
         let mut sorted = [0usize; FEW_DEPS];
-        return assemble_with(
-            ours,
-            lock,
-            udt,
-            source,
-            cells,
-            udt_deps,
-            lock_dep,
-            extra_deps,
-            capacity,
-            token,
-            taken,
-            change,
-            &mut places,
-            &mut sorted,
-            out,
-        );
+        return assemble_with(lent, cell, picked, &mut places, &mut sorted, out);
     }
     let mut places = [0usize; MOST_DEPS];
     let mut sorted = [0usize; MOST_DEPS];
-    assemble_with(
-        ours,
-        lock,
-        udt,
-        source,
-        cells,
-        udt_deps,
-        lock_dep,
-        extra_deps,
-        capacity,
-        token,
-        taken,
-        change,
-        &mut places,
-        &mut sorted,
-        out,
-    )
+    assemble_with(lent, cell, picked, &mut places, &mut sorted, out)
 }

@@ -9,15 +9,16 @@ ghost use Rattle.molecule.specs.Molecule.{readable, option};
 ghost use Rattle.transaction.specs.Ckb.{CellDep, CellDeps};
 ghost use Rattle.rules.specs.Outcome.{check};
 ghost use Rattle.base_writer.specs.Answer.{written, told};
-ghost use Rattle.funding_builder.specs.Base.{lent_of, lists, supplied, with_pick, with_cell, with_request, build_base};
-ghost use Rattle.funding_builder.specs.Steps.{Readable, cell_of, pick_of};
+ghost use Rattle.funding_builder.specs.Base.{lists, supplied, with_pick, with_cell, with_request, build_base};
+ghost use Rattle.funding_builder.specs.Lent.{lent_in, cell_in, pick_in};
+ghost use Rattle.funding_builder.specs.Steps.{Readable};
 
 use error::Refusal;
 use funding_cell::{FundingCell, FundingRequest};
 use transaction::fields;
 use transaction_writer::Written;
 use udt_cells::Picked;
-use units::{Shannons, Tokens};
+use units::Tokens;
 
 // Whether the bytes are a list of cell deps, or nothing.
 fn is_optional_cell_deps(s: &[u8]) -> bool
@@ -33,16 +34,6 @@ fn is_optional_cell_dep(s: &[u8]) -> bool
     s.is_empty() || s.len() == 37
 }
 
-// Whether the lent lists are readable; the refusal is 3.
-fn are_lists(cells: &[u8], udt_deps: &[u8], lock_dep: &[u8], extra_deps: &[u8]) -> bool
-    ensures { check 3 result ≡ lists cells.now udt_deps.now lock_dep.now extra_deps.now }
-{
-    transaction::is_token_cells(cells)
-        && is_optional_cell_deps(udt_deps)
-        && is_optional_cell_dep(lock_dep)
-        && transaction::is_cell_deps(extra_deps)
-}
-
 // Whether deps are supplied where tokens were picked.
 fn is_supplied(taken: usize, deps: &[u8]) -> bool
     ensures { result ≡ supplied taken deps.now }
@@ -50,125 +41,80 @@ fn is_supplied(taken: usize, deps: &[u8]) -> bool
     taken == 0 || !deps.is_empty()
 }
 
-// Assembles the base transaction behind the pick; 11 where tokens were picked and deps are missing.
-fn with_pick<'a>(
-    ours: &'a [u8],
-    lock: &[u8],
-    udt: &[u8],
-    source: &[u8],
-    cells: &[u8],
-    udt_deps: &'a [u8],
-    lock_dep: &'a [u8],
-    extra_deps: &'a [u8],
-    capacity: Shannons,
-    token: Tokens,
-    taken: usize,
-    change: Tokens,
-    out: &mut [u8],
-) -> Written
-    requires { Readable (lent_of ours.now lock.now udt.now source.now cells.now udt_deps.now lock_dep.now extra_deps.now) }
-    ensures { (told result, out.new) ≡ written (with_pick (lent_of ours.now lock.now udt.now source.now cells.now udt_deps.now lock_dep.now extra_deps.now) (cell_of capacity token) (pick_of taken change)) out.old }
-{
-    if !is_supplied(taken, udt_deps) {
-        return Err(Refusal::MissingCellDep);
+// What a call is lent: our present transaction (empty for none), the funding lock, the type (empty for none), our source lock, token cells, and the deps of
+// the token and of our lock, which are needed where cells are picked (empty: not supplied), and the extra ones.
+#[derive(Clone, Copy)]
+pub struct Lent<'a> {
+    pub ours: &'a [u8],
+    pub lock: &'a [u8],
+    pub udt: &'a [u8],
+    pub source: &'a [u8],
+    pub cells: &'a [u8],
+    pub udt_deps: &'a [u8],
+    pub lock_dep: &'a [u8],
+    pub extra_deps: &'a [u8],
+}
+
+impl<'a> Lent<'a> {
+    // Whether the lent lists are readable; the refusal is 3.
+    fn are_lists(&self) -> bool
+        ensures { check 3 result ≡ lists self.now.cells.now self.now.udt_deps.now self.now.lock_dep.now self.now.extra_deps.now }
+    {
+        transaction::is_token_cells(self.cells)
+            && is_optional_cell_deps(self.udt_deps)
+            && is_optional_cell_dep(self.lock_dep)
+            && transaction::is_cell_deps(self.extra_deps)
     }
-    if !is_supplied(taken, lock_dep) {
-        return Err(Refusal::MissingCellDep);
+
+    // Assembles the base transaction behind the pick; 11 where tokens were picked and deps are missing.
+    fn with_pick(&self, cell: FundingCell, picked: Picked, out: &mut [u8]) -> Written
+        requires { Readable (lent_in self.now) }
+        ensures { (told result, out.new) ≡ written (with_pick (lent_in self.now) (cell_in cell) (pick_in picked)) out.old }
+    {
+        if !is_supplied(picked.taken, self.udt_deps) {
+            return Err(Refusal::MissingCellDep);
+        }
+        if !is_supplied(picked.taken, self.lock_dep) {
+            return Err(Refusal::MissingCellDep);
+        }
+        assemble::assemble_base_tx(self, cell, picked, out)
     }
-    assemble::assemble_base_tx(
-        ours, lock, udt, source, cells, udt_deps, lock_dep, extra_deps, capacity, token, taken,
-        change, out,
-    )
+
+    // Picks token cells for the wanted amount, and writes the base transaction.
+    fn with_cell(&self, cell: FundingCell, wanted: Tokens, out: &mut [u8]) -> Written
+        requires { Readable (lent_in self.now) }
+        ensures { (told result, out.new) ≡ written (with_cell (lent_in self.now) (cell_in cell) (token_count wanted)) out.old }
+    {
+        let picked = udt_cells::pick_typed(self.cells, self.udt, wanted)?;
+        self.with_pick(cell, picked, out)
+    }
+
+    // Makes the funding cell of the request, and goes on from it.
+    fn with_request(&self, request: FundingRequest, out: &mut [u8]) -> Written
+        requires { Readable (lent_in self.now) }
+        ensures { (told result, out.new) ≡ written (with_request (lent_in self.now) request) out.old }
+    {
+        let funded = fields::output_count(self.ours) != 0;
+        let typed = !self.udt.is_empty();
+        let cell = funding_cell::funding_cell(funded, typed, request)?;
+        let local_amount = request.local_amount;
+        self.with_cell(cell, Tokens(local_amount), out)
+    }
 }
 
-// Picks token cells for the wanted amount, and writes the base transaction.
-fn with_cell<'a>(
-    ours: &'a [u8],
-    lock: &[u8],
-    udt: &[u8],
-    source: &[u8],
-    cells: &[u8],
-    udt_deps: &'a [u8],
-    lock_dep: &'a [u8],
-    extra_deps: &'a [u8],
-    capacity: Shannons,
-    token: Tokens,
-    wanted: Tokens,
-    out: &mut [u8],
-) -> Written
-    requires { Readable (lent_of ours.now lock.now udt.now source.now cells.now udt_deps.now lock_dep.now extra_deps.now) }
-    ensures { (told result, out.new) ≡ written (with_cell (lent_of ours.now lock.now udt.now source.now cells.now udt_deps.now lock_dep.now extra_deps.now) (cell_of capacity token) (token_count wanted)) out.old }
+// Writes the base transaction of a request to the start of out: our present transaction with the funding cell under the funding lock, of the type, the
+// token cells that are picked for the local amount, and the change under our source lock. Refused, and out as it was: 1, 3, 7, 12, 10, 9, 11, 13.
+pub fn build_base(lent: &Lent, request: FundingRequest, out: &mut [u8]) -> Written
+    ensures { (told result, out.new) ≡ written (build_base (lent_in lent.now) request) out.old }
 {
-    let Picked { taken, change } = udt_cells::pick_typed(cells, udt, wanted)?;
-    with_pick(
-        ours, lock, udt, source, cells, udt_deps, lock_dep, extra_deps, capacity, token, taken,
-        change, out,
-    )
-}
-
-// Makes the funding cell of the request, and goes on from it.
-fn with_request<'a>(
-    ours: &'a [u8],
-    lock: &[u8],
-    udt: &[u8],
-    source: &[u8],
-    cells: &[u8],
-    udt_deps: &'a [u8],
-    lock_dep: &'a [u8],
-    extra_deps: &'a [u8],
-    request: FundingRequest,
-    out: &mut [u8],
-) -> Written
-    requires { Readable (lent_of ours.now lock.now udt.now source.now cells.now udt_deps.now lock_dep.now extra_deps.now) }
-    ensures { (told result, out.new) ≡ written (with_request (lent_of ours.now lock.now udt.now source.now cells.now udt_deps.now lock_dep.now extra_deps.now) request) out.old }
-{
-    let funded = fields::output_count(ours) != 0;
-    let typed = !udt.is_empty();
-    let FundingCell { capacity, token } = funding_cell::funding_cell(funded, typed, request)?;
-    let local_amount = request.local_amount;
-    with_cell(
-        ours,
-        lock,
-        udt,
-        source,
-        cells,
-        udt_deps,
-        lock_dep,
-        extra_deps,
-        capacity,
-        token,
-        Tokens(local_amount),
-        out,
-    )
-}
-
-// Writes the base transaction of a request to the start of out: our present transaction (empty for none) with the funding cell under the funding lock, of
-// the type (empty for none), the token cells that are picked for the local amount, and the change under our source lock. Deps of the token and of our lock
-// are needed where cells are picked (empty bytes: not supplied). Refused, and out as it was: 1, 3, 7, 12, 10, 9, 11, 13.
-pub fn build_base<'a>(
-    ours: &'a [u8],
-    lock: &[u8],
-    udt: &[u8],
-    source: &[u8],
-    cells: &[u8],
-    udt_deps: &'a [u8],
-    lock_dep: &'a [u8],
-    extra_deps: &'a [u8],
-    request: FundingRequest,
-    out: &mut [u8],
-) -> Written
-    ensures { (told result, out.new) ≡ written (build_base (lent_of ours.now lock.now udt.now source.now cells.now udt_deps.now lock_dep.now extra_deps.now) request) out.old }
-{
-    if !transaction::is_optional_transaction(ours) {
+    if !transaction::is_optional_transaction(lent.ours) {
         return Err(Refusal::OurTransactionUnreadable);
     }
-    if !funding_tx::are_scripts(lock, udt, source) {
+    if !funding_tx::are_scripts(lent.lock, lent.udt, lent.source) {
         return Err(Refusal::LentBytesUnreadable);
     }
-    if !are_lists(cells, udt_deps, lock_dep, extra_deps) {
+    if !lent.are_lists() {
         return Err(Refusal::LentBytesUnreadable);
     }
-    with_request(
-        ours, lock, udt, source, cells, udt_deps, lock_dep, extra_deps, request, out,
-    )
+    lent.with_request(request, out)
 }

@@ -2,7 +2,7 @@ use Rattle.std.proofs.Common.{arith}
 use Rattle.std.proofs.lemmas.Grind.{common_steps}
 use Rattle.rules.specs.Outcome.{check, check_with, ◌>>◌}
 use Rattle.funding_builder.specs.Base.{lists}
-use Rattle.funding_builder.proofs.are_lists.Goals as goal
+use Rattle.funding_builder.proofs.Lent.are_lists.Goals as goal
 
 pub returns-then-is_optional_cell_dep : goal.returns-then-is_optional_cell_dep
 unfolding lists check check_with ◌>>◌
