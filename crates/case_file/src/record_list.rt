@@ -136,7 +136,7 @@ fn put_offsets(out: &mut [u8], to: usize, s: &[u8], from: usize, n: usize, first
     let mut end = to;
     let mut at = from;
     let mut offset = first;
-    for i in 0..n {
+    for _i in 0..n {
         end = write::put_u32(out, end, offset as u32);
         offset += entry_len(s, at);
         at = next_place(s, at);
@@ -151,7 +151,7 @@ fn put_entries(out: &mut [u8], to: usize, s: &[u8], from: usize, n: usize) -> us
 {
     let mut end = to;
     let mut at = from;
-    for i in 0..n {
+    for _i in 0..n {
         end = put_entry(out, end, s, at);
         at = next_place(s, at);
     }
