@@ -1,6 +1,6 @@
 -- What the picks are: each by itself, and again with a further cell busy, which changes the first pick on it alone.
 use mathlib.Core.Path.{◌≡◌, refl, sym, ap, ◌∙◌}
-use Prim.Native.Nat.{ℕ, zero, suc, ◌+◌, ◌≤◌, ◌<◌, min}
+use Prim.Native.Nat.{ℕ, zero, suc, ◌+◌, ◌≤◌, ◌<◌}
 use mathlib.Core.Bool.{Bool, true, false, cond, false≢true}
 use mathlib.Core.List.{List}
 use native.Mathlib.Nat.{zero-add}
@@ -204,15 +204,3 @@ kinds_both g n cells spent k a b = kinds_as {f = also (also none_is cells) spent
 -- no kinds
 pub kinds_none : (f : OutPoint → Bool) (g : ℕ → OutPoint) (m : List ℕ) → Kinds f g 0 m
 kinds_none f g m = record { room = omega arith; each = λ i l. absurd (omega arith) }
-
-pub indexed_all : {n c : ℕ} → n ≡ c → n ≤ 7394 → n ≡ min c 7394
-indexed_all e h = omega arith
-
-pub indexed_most : {n c : ℕ} → n ≡ c → 7394 < n → 7394 ≡ min c 7394
-indexed_most e h = omega arith
-
-pub indexed_some : (n c : ℕ) → n ≡ min c 7394 → n ≤ c
-indexed_some n c e = omega arith
-
-pub indexed_few : (n c : ℕ) → n ≡ min c 7394 → n ≤ 7394
-indexed_few n c e = omega arith

@@ -1,14 +1,12 @@
 -- The first pick that is an out point, by the index of the picks' bytes.
 use mathlib.Core.Path.{◌≡◌, refl, sym, ap, ap₂, ◌∙◌}
 use Prim.Native.Nat.{ℕ, zero, suc, ◌+◌, ◌*◌, ◌≤◌, ◌<◌}
-use mathlib.Core.Bool.{Bool, true, false, not, cond, false≢true}
-use borrow.Author.Tests.{not-false}
+use mathlib.Core.Bool.{Bool, true, false, cond, false≢true}
 use mathlib.Core.List.{List}
 use native.Mathlib.Nat.{zero-add}
 use native.Mathlib.Omega.{arith}
 use lib.ListN.{length, drop, length-drop}
 use lib.Seq.{length-take-le}
-use Rattle.arithmetic.specs.LittleEndian.{AllBytes}
 use Rattle.molecule.specs.Layout.{span, fix_count, fix_item}
 use Rattle.lists.specs.Lists.{eq_bytes}
 use Rattle.lists.proofs.EqualLaws.{not_so, eq_refl, eq_true}
@@ -22,22 +20,6 @@ use Rattle.item_index.specs.Index.{key_of, place_in, Index}
 use Rattle.pick_kinds.specs.Indexed.{Whole, AllWhole, Indexed, FirstAt}
 
 -- ---- lists that have their items whole
-
-pub whole_no : (s : List ℕ) → false ≡ true → Whole s
-whole_no s t = absurd (false≢true t)
-
-pub whole_is : (s : List ℕ) {n : ℕ} → n ≡ fix_count s → 4 + 36 * n ≤ length s → AllBytes s → true ≡ true → Whole s
-whole_is s e h b t = record { long = omega arith; bytes = b }
-
-pub all_no : (cells picked spent : List ℕ) → false ≡ true → AllWhole cells picked spent
-all_no cells picked spent t = absurd (false≢true t)
-
-pub all_are : (cells picked spent : List ℕ) {a b c : Bool} → (a ≡ true → Whole cells) → not a ≡ false → (b ≡ true → Whole picked) → not b ≡ false → (c ≡ true → Whole spent)
-    → c ≡ true → AllWhole cells picked spent
-all_are cells picked spent {a} {b} f p g q h t = record { held = f (not-false a p); picks = g (not-false b q); gone = h t }
-
-pub whole_so : (cells picked spent : List ℕ) {r : Bool} → (r ≡ true → AllWhole cells picked spent) → not r ≡ false → AllWhole cells picked spent
-whole_so cells picked spent {r} f t = f (not-false r t)
 
 -- an item of such a list is the bytes of its out point
 item-whole : {s : List ℕ} → Whole s → (i : ℕ) → i < fix_count s → point_bytes (point_of s i) ≡ fix_item s 36 i

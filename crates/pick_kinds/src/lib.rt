@@ -17,7 +17,8 @@ pub const MOST_PICKS: usize = 7394;
 // So many are indexed in less room, which is sooner cleared.
 const SOME_PICKS: usize = 1024;
 
-// What stands for a pick, in numbers: they are read from lent room that is cleared at once, and the laws of a list's places are of numbers. An earlier one is the same; it is the first on its cell and free; it is the first and busy.
+// What stands for a pick, in numbers, and not an enum: where nothing is sorted out the marks, which are bytes, stand in for the kinds. An earlier one is the same; it is
+// the first on its cell and free; it is the first and busy.
 pub const AGAIN: u8 = 0;
 
 pub const FREE: u8 = 1;
@@ -122,13 +123,7 @@ fn index_kinds(
 }
 
 // The same in room for so many picks.
-fn kinds_in<const ROOM: usize>(
-    cells: &[u8],
-    picked: &[u8],
-    spent: &[u8],
-    n: u32,
-    kinds: &mut [u8],
-)
+fn kinds_in<const ROOM: usize>(cells: &[u8], picked: &[u8], spent: &[u8], n: u32, kinds: &mut [u8])
     requires all_whole { AllWhole cells.now picked.now spent.now }
     requires n_bound { n ≤ fix_count picked.now }
     requires n_bound_2 { n ≤ ROOM }
