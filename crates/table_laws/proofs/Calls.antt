@@ -9,14 +9,15 @@ use Rattle.units.specs.declared.Millis.{Millis}
 use Rattle.units.specs.Units.{later}
 use Rattle.molecule.specs.Molecule.{readable}
 use Rattle.transaction.specs.Ckb.{OutPoints}
-use Rattle.error.specs.declared.{Refusal.Refusal, Answer.Answer}
+use Rattle.error.specs.declared.{Refusal.Refusal}
 use Rattle.out_points.specs.declared.OutPoint.{OutPoint}
 use Rattle.out_points.specs.OutPoints.{points}
 use Rattle.out_points.specs.Tables.{keep, done, refused, told, has_room, written}
 use Rattle.hold_records.specs.declared.{Owner.Owner, Hold.Hold, Held.Held, Taker.Taker}
 use Rattle.hold_records.specs.Holds.{records_of, held_by, cells_of, at_most_256, is_not_of, hold_funding, is_unnamed, release_for_watchtower, renew_all, hold_for_watchtower, lock_held, is_live, is_busy, firsts, others, owner_for, take_cells}
-use Rattle.hold_records.proofs.LimitLaws.{After}
-use Rattle.table_laws.specs.Holds.{Table, by_value, Took, Locked}
+use Rattle.table_laws.specs.Holds.{After, Table, by_value, Took, Locked}
+use Rattle.std.specs.Prelude.{Ok, Err}
+use Rattle.table_laws.specs.Answers.{Answer}
 
 -- the records that have not ended
 abbrev pub unended : Held → Millis → List Hold
@@ -57,8 +58,8 @@ module _ (P : List Hold → Type 0) (h : Held) where
   back a g o e f s = by a (subst Fine (sym e) f)
     where
       by : (v : Answer) → Fine (told records_of v g) → P (records_of g)
-      by Answer.Done f = f
-      by (Answer.Refused x) f = subst (λ (k : Held). P (records_of k)) (sym f) s
+      by (Ok u) f = f
+      by (Err x) f = subst (λ (k : Held). P (records_of k)) (sym f) s
 
   at_most : (l : List Hold) → P l → Fine (at_most_256 h l)
   unfolding at_most_256
@@ -97,14 +98,14 @@ module _ (P : List Hold → Type 0) (h : Held) where
 
 pub data Step (h g : Held) (o : After) : Answer → Type 0 where
   goes : {a : Answer} → told records_of a g ≡ o → Step h g o a
-  stays : {why : Refusal} → g ≡ h → Step h g o (Answer.Refused why)
+  stays : {why : Refusal} → g ≡ h → Step h g o (Err why)
 
 pub record Faithful {T O : Type 0} (F : Table T O) : Type 0 where
   pub alone : (s t : T) (a : Answer) (o : After) → F.says a t ≡ F.gives s o → Step (F.held s) (F.held t) o a
   pub beside : (s t : T) (a : Answer) (b c : List ℕ) (o : After × List ℕ) → (F.says a t, c) ≡ F.gives_with s b o → Step (F.held s) (F.held t) o.0 a
   pub both : (s t : T) (a : Answer) (b₁ b₂ c₁ c₂ : List ℕ) (o : After × List ℕ × List ℕ) → (F.says a t, c₁, c₂) ≡ F.gives_two s b₁ b₂ o → Step (F.held s) (F.held t) o.0 a
-  pub beside_done : (s t : T) (b c : List ℕ) (o : After × List ℕ) → (F.says Answer.Done t, c) ≡ F.gives_with s b o → (told records_of Answer.Done (F.held t), c) ≡ o
-  pub both-done : (s t : T) (b₁ b₂ c₁ c₂ : List ℕ) (o : After × List ℕ × List ℕ) → (F.says Answer.Done t, c₁, c₂) ≡ F.gives_two s b₁ b₂ o → (told records_of Answer.Done (F.held t), c₁, c₂) ≡ o
+  pub beside_done : (s t : T) (b c : List ℕ) (o : After × List ℕ) → (F.says (Ok tt) t, c) ≡ F.gives_with s b o → (told records_of (Ok tt) (F.held t), c) ≡ o
+  pub both-done : (s t : T) (b₁ b₂ c₁ c₂ : List ℕ) (o : After × List ℕ × List ℕ) → (F.says (Ok tt) t, c₁, c₂) ≡ F.gives_two s b₁ b₂ o → (told records_of (Ok tt) (F.held t), c₁, c₂) ≡ o
 
 pub by_value_lem : Faithful by_value
 by_value_lem = record {
@@ -120,7 +121,7 @@ moved P {a} {h} {g} {o} (goes e) f s = back P h a g o e f s
 moved P (stays e) f s = subst (λ (k : Held). P (records_of k)) (sym e) s
 
 -- a call that is done leaves the new list
-pub left-done : (P : List Hold → Type 0) {h g : Held} {o : After} → Step h g o Answer.Done → Fine P h o → P (records_of g)
+pub left-done : (P : List Hold → Type 0) {h g : Held} {o : After} → Step h g o (Ok tt) → Fine P h o → P (records_of g)
 unfolding told
 left-done P {h} (goes e) f = subst (Fine P h) (sym e) f
 
@@ -128,7 +129,7 @@ left-done P {h} (goes e) f = subst (Fine P h) (sym e) f
 abbrev pub Refuses : Held → After → Type 0
 Refuses h o = Fine (λ _. Unit {0}) h o
 
-pub refused_stays : {why : Refusal} {h g : Held} {o : After} → Step h g o (Answer.Refused why) → Refuses h o → g ≡ h
+pub refused_stays : {why : Refusal} {h g : Held} {o : After} → Step h g o (Err why) → Refuses h o → g ≡ h
 unfolding told
 refused_stays {why} {h} {g} {o} (goes e) f = subst (Refuses h) (sym e) f
 refused_stays (stays e) f = e
@@ -150,7 +151,7 @@ module _ {T O : Type 0} {F : Table T O} (f : Faithful F) where
       let left : List Hold = unended (F.held s) now in
       let a : List ℕ = written (cells_of left) l.out in
       let e : Ended₂ left a (lock_held (F.held s) now l.out) = by left l.out (has_room (cells_of left) l.out) in
-      let d : Ended₂ left a (told records_of Answer.Done (F.held t), after) = subst (Ended₂ left a) (sym (f.beside_done s t l.out after _ l.says)) e in
+      let d : Ended₂ left a (told records_of (Ok tt) (F.held t), after) = subst (Ended₂ left a) (sym (f.beside_done s t l.out after _ l.says)) e in
       d.1
     where
       by : (left : List Hold) (out : List ℕ) (c : Bool) → Ended₂ left (written (cells_of left) out) (cond {A = After × List ℕ} c (done left, written (cells_of left) out) (refused 13 (F.held s), out))
@@ -184,5 +185,5 @@ module _ {T O : Type 0} {F : Table T O} (f : Faithful F) where
       (or (has_room rest k.out₂) 13 _
       (or (leb (length left + length gave) 256) 14 (done l, a, b) (refl, refl, refl)))))
       in
-      let d : Ended₃ l a b (told records_of Answer.Done (F.held t), taken, refused) = subst (Ended₃ l a b) (sym (f.both-done s t k.out₁ k.out₂ taken refused _ k.says)) e in
+      let d : Ended₃ l a b (told records_of (Ok tt) (F.held t), taken, refused) = subst (Ended₃ l a b) (sym (f.both-done s t k.out₁ k.out₂ taken refused _ k.says)) e in
       d

@@ -14,7 +14,7 @@ use Rattle.molecule.specs.Partial.{All}
 use Rattle.transaction.specs.Ckb.{Transaction}
 use Rattle.out_points.specs.declared.{Byte32.Byte32, OutPoint.OutPoint}
 use Rattle.out_points.specs.OutPoints.{Fit, byte32_at, eq_point, has, points}
-use Rattle.error.specs.declared.{Refusal.Refusal, Answer.Answer}
+use Rattle.error.specs.declared.{Refusal.Refusal}
 use Rattle.error.specs.Refusal.{number, answered}
 use Rattle.out_points.specs.Tables.{keep, renew, done, refused, told, has_room, written}
 use Rattle.out_points.proofs.AgainLaws.{written_back}
@@ -25,6 +25,8 @@ use Rattle.exclusion_entries.proofs.MapLaws.{map-few, map-count, map-points, map
 use Rattle.exclusion_entries.specs.LentMap.{lent_map, lent_tx, left, lent_list}
 use Rattle.table_laws.specs.Exclusions as run
 use Rattle.table_laws.specs.Exclusions.{Called, answer_of, StaysMap, StaysWithin, ZerosWithin, RefusedSame, OthersSame, Stands, here, there, replaces, ends, is_done, outlives, StaysEntered, StaysExcluded, AddEnters, MigrateEnters, CommitMarks}
+use Rattle.std.specs.Prelude.{Ok, Err}
+use Rattle.table_laws.specs.Answers.{Answer}
 
 -- ---- what a call's contract says of the bytes that it leaves, and of their entries
 
@@ -70,16 +72,16 @@ module _ {s t : List ℕ} (c : Called s t) where
   bytes_left = by (answer_of c) ∙ ap left (says c)
     where
       by : (a : Answer) → t ≡ left (told (with_bytes excluded_at) a t)
-      by Answer.Done = refl
-      by (Answer.Refused why) = refl
+      by (Ok u) = refl
+      by (Err why) = refl
 
   entries-left : excluded_at t ≡ meant (ruled (reads c) s (outcome_of c))
   unfolding told with_bytes
   entries-left = by (answer_of c) ∙ ap meant (says c)
     where
       by : (a : Answer) → excluded_at t ≡ meant (told (with_bytes excluded_at) a t)
-      by Answer.Done = refl
-      by (Answer.Refused why) = refl
+      by (Ok u) = refl
+      by (Err why) = refl
 
   other_left : is_map s ≡ false → t ≡ s
   unfolding lent_map
@@ -89,7 +91,7 @@ module _ {s t : List ℕ} (c : Called s t) where
       by true = refl
       by false = refl
 
-  refused-left : (why : Refusal) → answer_of c ≡ Answer.Refused why → t ≡ s
+  refused-left : (why : Refusal) → answer_of c ≡ Err why → t ≡ s
   unfolding told lent_map leaving
   refused-left why g = ap (left_or s) (sym (ap (λ (a : Answer). told (with_bytes excluded_at) a t) g) ∙ says c) ∙ by (reads c) (is_map s) (outcome_of c)
     where
@@ -290,8 +292,8 @@ unfolding outlives is_done
 stands-call x {s} {t} c h i = by (answer_of c) refl h
   where
     by : (a : Answer) → answer_of c ≡ a → cond (is_done a) (not (ends x c)) true ≡ true → Stands x (excluded_at t)
-    by Answer.Done e k = left-fine (Stands x) c i (λ g. stands_step x c (not-true (ends x c) k) i)
-    by (Answer.Refused why) e k = subst (λ (u : List ℕ). Stands x (excluded_at u)) (sym (refused-left c why e)) i
+    by (Ok u) e k = left-fine (Stands x) c i (λ g. stands_step x c (not-true (ends x c) k) i)
+    by (Err why) e k = subst (λ (u : List ℕ). Stands x (excluded_at u)) (sym (refused-left c why e)) i
 
 pub stays_entered : StaysEntered
 stays_entered x s t i run.none = i
@@ -327,7 +329,7 @@ excluded-fit [] a = tt
 excluded-fit (e ∷ l) a = fit_append e.points (excluded l) a.0.points-fit (excluded-fit l a.1)
 
 -- an `apply` that is done writes all of them
-applied : (t out after : List ℕ) → (answered Answer.Done, after) ≡ lent_list t out (apply_on (excluded_at t) out) → (is_map t ≡ true) × (after ≡ written (excluded (excluded_at t)) out)
+applied : (t out after : List ℕ) → (answered {T = Unit {0}} (Ok tt), after) ≡ lent_list t out (apply_on (excluded_at t) out) → (is_map t ≡ true) × (after ≡ written (excluded (excluded_at t)) out)
 unfolding answered number lent_list apply_on
 applied t out after e = by (is_map t) (has_room (excluded (excluded_at t)) out) refl e
   where
@@ -347,7 +349,7 @@ stays_excluded x s t i r b out after e p h =
 -- ---- where it comes from
 
 -- of a call that is done, the property of the entries that its rule gives
-done-fine : (P : List Entry → Type 0) {s t : List ℕ} (c : Called s t) → answer_of c ≡ Answer.Done → Fine P (outcome_of c) → P (excluded_at t)
+done-fine : (P : List Entry → Type 0) {s t : List ℕ} (c : Called s t) → answer_of c ≡ Ok tt → Fine P (outcome_of c) → P (excluded_at t)
 unfolding told with_bytes lent_map leaving
 done-fine P {s} {t} c a f = by (reads c) (is_map s) (outcome_of c) (sym (ap (λ (v : Answer). told (with_bytes excluded_at) v t) a) ∙ says c) f
   where
@@ -366,7 +368,7 @@ unfolding answer_of add_on entering
 add_enters s t hash tx z e =
     let P = Stands (pending (byte32_at hash 0) tx) in
     let after = renew (has_hash (byte32_at hash 0)) (pending (byte32_at hash 0) tx) (excluded_at s) in
-    done-fine P (run.add Answer.Done hash tx e) refl
+    done-fine P (run.add (Ok tt) hash tx e) refl
     (checked P (eqb (length hash) 32) 3 _
     (rw (ne_eqb (length tx) 0 z) (fits P after (λ a b. stands_new (has_hash (byte32_at hash 0)) (pending (byte32_at hash 0) tx) (excluded_at s)))))
 
@@ -376,7 +378,7 @@ migrate_enters s t old new tx z k e =
     let n = byte32_at new 0 in
     let P = Stands (pending n tx) in
     let l : List Entry = without (byte32_at old 0) (excluded_at s) in
-    done-fine P (run.migrate Answer.Done old new tx e) refl
+    done-fine P (run.migrate (Ok tt) old new tx e) refl
     (checked P (eqb (length old) 32) 3 _
     (checked P (eqb (length new) 32) 3 _
     (rw (k, ne_eqb (length tx) 0 z) (fits P (renew (has_hash n) (pending n tx) l) (λ a b. stands_new (has_hash n) (pending n tx) l)))))
@@ -385,4 +387,4 @@ pub commit_marks : CommitMarks
 unfolding answer_of commit_on
 commit_marks x s t hash block i e =
     let g = committed_at (byte32_at hash 0) block in
-    done-fine (Stands (g x)) (run.commit Answer.Done hash block e) refl (checked (Stands (g x)) (eqb (length hash) 32) 3 (done (map g (excluded_at s))) (stands-marked x g (excluded_at s) i))
+    done-fine (Stands (g x)) (run.commit (Ok tt) hash block e) refl (checked (Stands (g x)) (eqb (length hash) 32) 3 (done (map g (excluded_at s))) (stands-marked x g (excluded_at s) i))

@@ -6,7 +6,6 @@ use mathlib.Core.Bool.{Bool, true, false, not, cond, false≢true}
 use native.Mathlib.Omega.{arith}
 use lib.ListN.{length}
 use Rattle.units.specs.{declared.Millis.Millis, Units.later}
-use Rattle.error.specs.declared.{Answer.Answer}
 use Rattle.molecule.specs.Partial.{All}
 use Rattle.out_points.specs.declared.OutPoint.{OutPoint}
 use Rattle.out_points.specs.OutPoints.{eq_point, has, points, Fit}
@@ -21,6 +20,7 @@ use Rattle.table_laws.specs.Holds.{Table, by_value, Stands, Took, Locked, InRang
 use Rattle.table_laws.proofs.Calls.{unended, Faithful, by_value_lem, left-done, hold-fine, watch-fine, is_free, given, kept, locked-done, take_done}
 use Rattle.table_laws.proofs.Holds.{busy_not_given}
 use Rattle.table_laws.proofs.Stands.{stands-keep, stands-has, taken-stands, named-stands, still}
+use Rattle.std.specs.Prelude.{Ok}
 
 -- ---- parts of lists whose numbers fit: they are no longer, and theirs fit too
 
@@ -152,10 +152,10 @@ module _ {T O : Type 0} {F : Table T O} (f : Faithful F) where
       subst (Stands x) (sym (take_done f k).0)
       (taken-stands (owner_for taker now) p (unended (F.held s) now) (given (F.held s) now (points spent) (points picked)) (sym (ap (has p) (taken_is f k)) ∙ e))
   leaves-held s t x (run.funded {holder} {cells} k p e) =
-      left-done (Stands x) (f.alone s t Answer.Done _ k.says)
+      left-done (Stands x) (f.alone s t (Ok tt) _ k.says)
       (hold-fine (Stands x) (F.held s) holder cells (taken-stands (Owner.Funding holder) p (keep (is_not_of holder) (records_of (F.held s))) (points cells) e))
   leaves-held s t x (run.watched {cells} {now} k p e) =
-      left-done (Stands x) (f.alone s t Answer.Done _ k.says)
+      left-done (Stands x) (f.alone s t (Ok tt) _ k.says)
       (watch-fine (Stands x) (F.held s) cells now (named-stands (later now (record { 0 = 1800000 })) p (points cells) (records_of (F.held s)) e))
 
   pub refuses_locked : LockedRefused F

@@ -7,7 +7,6 @@ use mathlib.Core.Bool.{Bool, true, false, cond, false≢true}
 use lib.Dec.{eqb}
 use lib.ListN.{length, take, replicate, length-take, length-map}
 use Rattle.arithmetic.specs.LittleEndian.{AllBytes}
-use Rattle.error.specs.declared.{Answer.Answer}
 use Rattle.molecule.specs.{Layout.word, Partial.All}
 use Rattle.molecule.proofs.Offsets.{span-length}
 use Rattle.out_points.specs.OutPoints.{Fit}
@@ -19,14 +18,15 @@ use Rattle.table_bytes.specs.Lent.{leaving, lent_table, lent_with, lent_with_two
 use Rattle.table_bytes.specs.declared.{Place.Place}
 use Rattle.table_bytes.specs.Places.{FitPlace, place_of, places}
 use Rattle.table_bytes.proofs.AgainLaws.{places-fit}
-use Rattle.hold_records.proofs.LimitLaws.{After}
 use Rattle.held_bytes.specs.HeldBytes.{hold_of, held_of, held_at, held_bytes}
 use Rattle.held_bytes.proofs.BytesLaws.{held-zeros}
-use Rattle.table_laws.specs.Holds.{Reached, empty, InRange, OneEach, HeldRefused, HeldStands, LockedRefused, StaysHeld, HeldOnce}
+use Rattle.table_laws.specs.Holds.{After, Reached, empty, InRange, OneEach, HeldRefused, HeldStands, LockedRefused, StaysHeld, HeldOnce}
 use Rattle.table_laws.specs.LentHolds.{lent}
 use Rattle.table_laws.proofs.Calls.{Step, goes, stays, Faithful}
 use Rattle.table_laws.proofs.Holds.{each_once}
 use Rattle.table_laws.proofs.Given.{refuses_held, leaves-held, refuses_locked, holds_on, holds_once}
+use Rattle.std.specs.Prelude.{Ok, Err}
+use Rattle.table_laws.specs.Answers.{Answer}
 
 -- ---- what is read off an outcome
 
@@ -47,12 +47,12 @@ left (refused n s) = s
 module _ (s t : List ℕ) where
   step : (a : Answer) (o : After) → told (with_bytes held_at) a t ≡ leaving held_bytes s o → Step (held_of s) (held_of t) o a
   unfolding told leaving with_bytes held_at is_done meant left
-  step Answer.Done (done l) e = goes (ap done (ap (meant l) e))
-  step Answer.Done (refused n h) e = absurd (false≢true (sym (ap is_done e)))
-  step (Answer.Refused why) (done l) e = absurd (false≢true (ap is_done e))
-  step (Answer.Refused why) (refused n h) e = stays (ap (λ (x : bytes.After (List Hold)). held_of (left x)) e)
+  step (Ok _) (done l) e = goes (ap done (ap (meant l) e))
+  step (Ok _) (refused n h) e = absurd (false≢true (sym (ap is_done e)))
+  step (Err why) (done l) e = absurd (false≢true (ap is_done e))
+  step (Err why) (refused n h) e = stays (ap (λ (x : bytes.After (List Hold)). held_of (left x)) e)
 
-  done-is : (o : After) → told (with_bytes held_at) Answer.Done t ≡ leaving held_bytes s o → told records_of Answer.Done (held_of t) ≡ o
+  done-is : (o : After) → told (with_bytes held_at) (Ok tt) t ≡ leaving held_bytes s o → told records_of (Ok tt) (held_of t) ≡ o
   unfolding told leaving with_bytes held_at is_done meant
   done-is (done l) e = ap done (ap (meant l) e)
   done-is (refused n h) e = absurd (false≢true (sym (ap is_done e)))
@@ -60,10 +60,10 @@ module _ (s t : List ℕ) where
   -- and of another length
   same : (a : Answer) (o : After) → told (with_bytes held_at) a t ≡ refused 3 s → Step (held_of s) (held_of t) o a
   unfolding told with_bytes is_done left
-  same Answer.Done o e = absurd (false≢true (sym (ap is_done e)))
-  same (Answer.Refused why) o e = stays (ap (λ (x : bytes.After (List Hold)). held_of (left x)) e)
+  same (Ok _) o e = absurd (false≢true (sym (ap is_done e)))
+  same (Err why) o e = stays (ap (λ (x : bytes.After (List Hold)). held_of (left x)) e)
 
-  not_done : told (with_bytes held_at) Answer.Done t ≡ refused 3 s → ⊥
+  not_done : told (with_bytes held_at) (Ok tt) t ≡ refused 3 s → ⊥
   unfolding told with_bytes is_done
   not_done e = false≢true (sym (ap is_done e))
 
@@ -89,11 +89,11 @@ module _ (s t : List ℕ) where
         by true e = step a o.0 (ap (λ (x : Two). x.0) e)
         by false e = same a o.0 (ap (λ (x : Two). x.0) e)
 
-    beside_done : (told (with_bytes held_at) Answer.Done t, c) ≡ lent_with held_bytes 12292 s b o → (told records_of Answer.Done (held_of t), c) ≡ o
+    beside_done : (told (with_bytes held_at) (Ok tt) t, c) ≡ lent_with held_bytes 12292 s b o → (told records_of (Ok tt) (held_of t), c) ≡ o
     unfolding lent_with
     beside_done e = by (eqb (length s) 12292) e
       where
-        by : (d : Bool) → (told (with_bytes held_at) Answer.Done t, c) ≡ cond {A = Two} d (leaving held_bytes s o.0, o.1) (refused 3 s, b) → (told records_of Answer.Done (held_of t), c) ≡ o
+        by : (d : Bool) → (told (with_bytes held_at) (Ok tt) t, c) ≡ cond {A = Two} d (leaving held_bytes s o.0, o.1) (refused 3 s, b) → (told records_of (Ok tt) (held_of t), c) ≡ o
         by true e = rw (done-is o.0 (ap (λ (x : Two). x.0) e), ap (λ (x : Two). x.1) e)
         by false e = absurd (not_done (ap (λ (x : Two). x.0) e))
 
@@ -109,11 +109,11 @@ module _ (s t : List ℕ) where
         by true e = step a o.0 (ap (λ (x : Three). x.0) e)
         by false e = same a o.0 (ap (λ (x : Three). x.0) e)
 
-    both-done : (told (with_bytes held_at) Answer.Done t, c₁, c₂) ≡ lent_with_two held_bytes 12292 s b₁ b₂ o → (told records_of Answer.Done (held_of t), c₁, c₂) ≡ o
+    both-done : (told (with_bytes held_at) (Ok tt) t, c₁, c₂) ≡ lent_with_two held_bytes 12292 s b₁ b₂ o → (told records_of (Ok tt) (held_of t), c₁, c₂) ≡ o
     unfolding lent_with_two
     both-done e = by (eqb (length s) 12292) e
       where
-        by : (d : Bool) → (told (with_bytes held_at) Answer.Done t, c₁, c₂) ≡ cond {A = Three} d (leaving held_bytes s o.0, o.1, o.2) (refused 3 s, b₁, b₂) → (told records_of Answer.Done (held_of t), c₁, c₂) ≡ o
+        by : (d : Bool) → (told (with_bytes held_at) (Ok tt) t, c₁, c₂) ≡ cond {A = Three} d (leaving held_bytes s o.0, o.1, o.2) (refused 3 s, b₁, b₂) → (told records_of (Ok tt) (held_of t), c₁, c₂) ≡ o
         by true e = rw (done-is o.0 (ap (λ (x : Three). x.0) e), ap (λ (x : Three). x.1) e, ap (λ (x : Three). x.2) e)
         by false e = absurd (not_done (ap (λ (x : Three). x.0) e))
 

@@ -13,14 +13,14 @@ use Rattle.out_points.specs.declared.{OutPoint.OutPoint}
 use Rattle.out_points.specs.OutPoints.{eq_point, has, points}
 use Rattle.out_points.proofs.EqualLaws.{point-same, point_refl}
 use Rattle.out_points.specs.Tables.{keep, renew}
-use Rattle.error.specs.declared.{Answer.Answer}
 use Rattle.hold_records.specs.declared.{Owner.Owner, Hold.Hold, Held.Held}
 use Rattle.hold_records.specs.Holds.{records_of, held_by, by_owner, cells_of, is_not_of, is_unnamed, is_tower_on, renew_all, is_live}
-use Rattle.hold_records.proofs.LimitLaws.{After}
 use Rattle.watchtower_holds.proofs.RenewLaws.{tower}
 use Rattle.table_laws.specs.Holds as run
-use Rattle.table_laws.specs.Holds.{Table, Called, Stands, here, there, kept_if, if_done, after, Followed}
+use Rattle.table_laws.specs.Holds.{After, Table, Called, Stands, here, there, kept_if, if_done, after, Followed}
 use Rattle.table_laws.proofs.Calls.{unended, Faithful, Step, Fine, left-done, Refuses, refused_stays, hold-fine, watch-fine, release-fine, locked-fine, take-fine}
+use Rattle.std.specs.Prelude.{Ok, Err}
+use Rattle.table_laws.specs.Answers.{Answer}
 
 -- ---- which list operations it outlives
 
@@ -165,8 +165,8 @@ kept x false l k = gone
 
 by_answer : (x : Hold) (a : Answer) (m : Option Hold) {h g : Held} {o : After} → Step h g o a → Refuses h o → Fine (λ l. Made x l m) h o → Stands x (records_of h) → Made x (records_of g) (if_done a x m)
 unfolding if_done
-by_answer x Answer.Done m st u fine q = left-done (λ l. Made x l m) st fine
-by_answer x (Answer.Refused why) m st u fine q = becomes (subst (λ (k : Held). Stands x (records_of k)) (sym (refused_stays st u)) q) refl
+by_answer x (Ok _) m st u fine q = left-done (λ l. Made x l m) st fine
+by_answer x (Err why) m st u fine q = becomes (subst (λ (k : Held). Stands x (records_of k)) (sym (refused_stays st u)) q) refl
 
 module _ {T O : Type 0} {F : Table T O} (f : Faithful F) where
   made : {s t : T} (x : Hold) (c : Called F s t) → Stands x (records_of (F.held s)) → Made x (records_of (F.held t)) (after x c)

@@ -1,10 +1,10 @@
 -- A list of calls on a lent exclusion map (docs/RULES.md, "Holds and exclusions"). Each step has what the contract of the call says of it: that of `commit` stands in
 -- crates/exclusion_marks/src/lib.rt, the others in crates/exclusions/src/lib.rt.
-use Rattle.std.specs.Prelude.{◌≡◌, ℕ, suc, ◌≤◌, Bool, true, false, not, cond, List, [], ◌∷◌}
+use Rattle.std.specs.Prelude.{◌≡◌, ℕ, suc, ◌≤◌, Bool, true, false, not, cond, List, [], ◌∷◌, Ok, Err}
 use lib.{Dec.eqb, ListN.length, ListN.replicate}
 use Rattle.units.specs.declared.BlockNumber.{BlockNumber}
 use Rattle.arithmetic.specs.LittleEndian.{AllBytes}
-use Rattle.error.specs.declared.{Refusal.Refusal, Answer.Answer}
+use Rattle.error.specs.declared.{Refusal.Refusal}
 use Rattle.error.specs.Refusal.{answered}
 use Rattle.out_points.specs.declared.{Byte32.Byte32, OutPoint.OutPoint}
 use Rattle.out_points.specs.OutPoints.{byte32_at, has, points}
@@ -13,6 +13,7 @@ use Rattle.table_bytes.specs.Lent.{with_bytes}
 use Rattle.exclusion_entries.specs.Exclusions.{Entry, has_hash, committed_at, commit_on, remove_on, is_recent, truncate_on, excluded, apply_on, pending, add_on, entered, migrate_on}
 use Rattle.exclusion_entries.specs.Entries.{excluded_at, is_map}
 use Rattle.exclusion_entries.specs.LentMap.{lent_map, lent_tx, lent_list}
+use Rattle.table_laws.specs.Answers.{Answer}
 
 -- a call that is lent the bytes s, answers r and leaves the bytes t; `apply` changes none
 pub data Called (s t : List ℕ) : Type 0 where
@@ -68,7 +69,7 @@ ZerosOneEach = (t : List ℕ) → Reached (replicate 21508 0) t → OneEach t
 
 -- a refusal leaves the bytes, and bytes that are no map no call changes
 abbrev pub RefusedSame : Type 0
-RefusedSame = (s t : List ℕ) (c : Called s t) (why : Refusal) → answer_of c ≡ Answer.Refused why → t ≡ s
+RefusedSame = (s t : List ℕ) (c : Called s t) (why : Refusal) → answer_of c ≡ Err why → t ≡ s
 
 abbrev pub OthersSame : Type 0
 OthersSame = (s t : List ℕ) → is_map s ≡ false → Reached s t → t ≡ s
@@ -93,8 +94,8 @@ ends x (truncate r tip e) = not (is_recent tip x.committed)
 ends {s} x (migrate r old new tx e) = cond (entered (byte32_at old 0) (excluded_at s)) (cond (has_hash (byte32_at old 0) x) true (replaces new tx x)) false
 
 unfoldable pub is_done : Answer → Bool
-is_done Answer.Done = true
-is_done (Answer.Refused why) = false
+is_done (Ok _) = true
+is_done (Err why) = false
 
 unfoldable pub outlives : {s t : List ℕ} → Entry → Called s t → Bool
 outlives x c = cond (is_done (answer_of c)) (not (ends x c)) true
@@ -111,19 +112,19 @@ StaysEntered = (x : Entry) (s t : List ℕ) → Stands x (excluded_at s) → Out
 -- and so an `apply` that is done writes each of its out points; the table's are bytes, as every lent slice is
 abbrev pub StaysExcluded : Type 0
 StaysExcluded = (x : Entry) (s t : List ℕ) → Stands x (excluded_at s) → Outlived x s t
-    → AllBytes t → (out after : List ℕ) → (answered Answer.Done, after) ≡ lent_list t out (apply_on (excluded_at t) out)
+    → AllBytes t → (out after : List ℕ) → (answered {T = Unit {0}} (Ok tt), after) ≡ lent_list t out (apply_on (excluded_at t) out)
     → (p : OutPoint) → has p x.points ≡ true → has p (points after) ≡ true
 
 -- where it comes from: a transaction that an `add` entered stands, pending, and so does one to which a known hash was migrated; and one that stood when a `commit`
 -- was done stands, committed if the hash is its own
 abbrev pub AddEnters : Type 0
-AddEnters = (s t hash tx : List ℕ) → (length tx ≡ 0 → ⊥) → told (with_bytes excluded_at) Answer.Done t ≡ lent_tx tx s (add_on (excluded_at s) hash tx)
+AddEnters = (s t hash tx : List ℕ) → (length tx ≡ 0 → ⊥) → told (with_bytes excluded_at) (Ok tt) t ≡ lent_tx tx s (add_on (excluded_at s) hash tx)
     → Stands (pending (byte32_at hash 0) tx) (excluded_at t)
 
 abbrev pub MigrateEnters : Type 0
 MigrateEnters = (s t old new tx : List ℕ) → (length tx ≡ 0 → ⊥) → entered (byte32_at old 0) (excluded_at s) ≡ true
-    → told (with_bytes excluded_at) Answer.Done t ≡ lent_tx tx s (migrate_on (excluded_at s) old new tx) → Stands (pending (byte32_at new 0) tx) (excluded_at t)
+    → told (with_bytes excluded_at) (Ok tt) t ≡ lent_tx tx s (migrate_on (excluded_at s) old new tx) → Stands (pending (byte32_at new 0) tx) (excluded_at t)
 
 abbrev pub CommitMarks : Type 0
-CommitMarks = (x : Entry) (s t hash : List ℕ) (block : BlockNumber) → Stands x (excluded_at s) → told (with_bytes excluded_at) Answer.Done t ≡ lent_map s (commit_on (excluded_at s) hash block)
+CommitMarks = (x : Entry) (s t hash : List ℕ) (block : BlockNumber) → Stands x (excluded_at s) → told (with_bytes excluded_at) (Ok tt) t ≡ lent_map s (commit_on (excluded_at s) hash block)
     → Stands (committed_at (byte32_at hash 0) block x) (excluded_at t)

@@ -1,27 +1,37 @@
 -- Lists of calls on a table of holds (docs/RULES.md, "Holds and exclusions"), and what holds of them. Each step has what the contract of the call says of it.
-use Rattle.std.specs.Prelude.{◌≡◌, ℕ, suc, ◌≤◌, Bool, true, false, not, cond, List, [], ◌∷◌, length}
+use Rattle.std.specs.Prelude.{◌≡◌, ℕ, suc, ◌≤◌, Bool, true, false, not, cond, List, [], ◌∷◌, length, Result, Ok, Err}
 use Rattle.std.proofs.Math.Option.{Option, none, some}
 use Rattle.arithmetic.specs.LittleEndian.{AllBytes}
 use Rattle.units.specs.{declared.Millis.Millis, Units.later}
 use Rattle.molecule.specs.Partial.{All}
 use Rattle.out_points.specs.declared.OutPoint.{OutPoint}
-use Rattle.error.specs.declared.{Answer.Answer}
 use Rattle.out_points.specs.OutPoints.{has, points, Fit}
 use Rattle.out_points.specs.Tables.{Outcome, told}
 use Rattle.hold_records.specs.declared.{Owner.Owner, Hold.Hold, Held.Held, Taker.Taker}
 use Rattle.hold_records.specs.Holds.{records_of, is_not_of, is_unnamed, is_tower_on, owner_for, hold_funding, release_for_watchtower, hold_for_watchtower, lock_held, take_cells, is_live, cells_of, held_by}
+use Rattle.error.specs.declared.{Refusal.Refusal}
+use Rattle.table_laws.specs.Answers.{Answer}
+
+-- what a call leaves of a table by value
+abbrev pub After : Type 0
+After = Outcome Held (List Hold)
+
+-- the table after it: the one that it returned, or the one that it was handed where it is refused
+abbrev pub table_after : Held → Result Held Refusal → Held
+table_after h (Ok g) = g
+table_after h (Err why) = h
 
 -- what a table of holds is, by which the laws are said: a value, or lent bytes (`lent`, LentHolds.antt). It means a table by value; and of a call it is known that its answer, told
 -- with the table that it leaves, is what the call's definition gives on that meaning, told of the table before it: alone, with the buffer b that is lent, or with two
 pub record Table (T O : Type 0) : Type 0 where
   pub held : T → Held
   pub says : Answer → T → O
-  pub gives : T → Outcome Held (List Hold) → O
-  pub gives_with : T → List ℕ → Outcome Held (List Hold) × List ℕ → O × List ℕ
-  pub gives_two : T → List ℕ → List ℕ → Outcome Held (List Hold) × List ℕ × List ℕ → O × List ℕ × List ℕ
+  pub gives : T → After → O
+  pub gives_with : T → List ℕ → After × List ℕ → O × List ℕ
+  pub gives_two : T → List ℕ → List ℕ → After × List ℕ × List ℕ → O × List ℕ × List ℕ
 
 -- by value, as the contracts of crates/held_cells/src/lib.rt and crates/watchtower_holds/src/lib.rt
-abbrev pub by_value : Table Held (Outcome Held (List Hold))
+abbrev pub by_value : Table Held (After)
 by_value = record { held = λ h. h; says = λ a h. told records_of a h; gives = λ h o. o; gives_with = λ h b o. o; gives_two = λ h b c o. o }
 
 -- from one table to the next by a call; `unavailable` changes none
@@ -58,20 +68,20 @@ pub data Stands (x : Hold) : List Hold → Type 0 where
 pub record Took {T O : Type 0} (F : Table T O) (s t : T) (picked spent : List ℕ) (taker : Taker) (now : Millis) (taken refused : List ℕ) : Type 0 where
   pub out₁ : List ℕ
   pub out₂ : List ℕ
-  pub says : (F.says Answer.Done t, taken, refused) ≡ F.gives_two s out₁ out₂ (take_cells (F.held s) picked spent taker now out₁ out₂)
+  pub says : (F.says (Ok tt) t, taken, refused) ≡ F.gives_two s out₁ out₂ (take_cells (F.held s) picked spent taker now out₁ out₂)
   pub lent : AllBytes picked
 
 -- a `hold_funding`, and a `hold_for_watchtower`, that is done
 pub record Funded {T O : Type 0} (F : Table T O) (s t : T) (holder : ℕ) (cells : List ℕ) : Type 0 where
-  pub says : F.says Answer.Done t ≡ F.gives s (hold_funding (F.held s) holder cells)
+  pub says : F.says (Ok tt) t ≡ F.gives s (hold_funding (F.held s) holder cells)
 
 pub record Watched {T O : Type 0} (F : Table T O) (s t : T) (cells : List ℕ) (now : Millis) : Type 0 where
-  pub says : F.says Answer.Done t ≡ F.gives s (hold_for_watchtower (F.held s) cells now)
+  pub says : F.says (Ok tt) t ≡ F.gives s (hold_for_watchtower (F.held s) cells now)
 
 -- a `lock_held` that is done: it leaves `after` in the buffer
 pub record Locked {T O : Type 0} (F : Table T O) (s t : T) (now : Millis) (after : List ℕ) : Type 0 where
   pub out : List ℕ
-  pub says : (F.says Answer.Done t, after) ≡ F.gives_with s out (lock_held (F.held s) now out)
+  pub says : (F.says (Ok tt) t, after) ≡ F.gives_with s out (lock_held (F.held s) now out)
 
 -- a table with no more records than its array holds and whose numbers fit their types, as every table that code has
 pub record InRange (h : Held) : Type 0 where
@@ -121,8 +131,8 @@ kept_if b x = cond b (some x) none
 
 -- a call that is refused leaves x; of one that is done it is said what it makes of x
 unfoldable pub if_done : Answer → Hold → Option Hold → Option Hold
-if_done Answer.Done x y = y
-if_done (Answer.Refused why) x y = some x
+if_done (Ok _) x y = y
+if_done (Err why) x y = some x
 
 -- what becomes of a record x by a call that is done. `hold_funding` by its own holder lets it go if the new list does not name its cell again;
 -- `hold_for_watchtower` on the cell of a watchtower record gives it the new end, and `release_for_watchtower` lets it go; `lock_held` and `take` let

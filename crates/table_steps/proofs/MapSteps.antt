@@ -3,12 +3,12 @@ use mathlib.Core.Path.{◌≡◌}
 use Prim.Native.Nat.{ℕ}
 use mathlib.Core.List.{List}
 use Rattle.units.specs.declared.{BlockNumber.BlockNumber}
-use Rattle.error.specs.declared.{Answer.Answer}
 use Rattle.out_points.specs.Tables.{told}
 use Rattle.table_bytes.specs.Lent.{with_bytes}
 use Rattle.exclusion_entries.specs.Exclusions.{commit_on, remove_on, truncate_on, add_on, migrate_on}
 use Rattle.exclusion_entries.specs.Entries.{excluded_at}
 use Rattle.exclusion_entries.specs.LentMap.{lent_map, lent_tx}
+use Rattle.table_laws.specs.Answers.{Answer}
 use Rattle.table_laws.specs.Exclusions.{Called, add, commit, remove, truncate, migrate}
 
 module _ {s t : List ℕ} (r : Answer) where

@@ -1,6 +1,5 @@
 // Each call on a lent table of holds, with its own contract and as a step of a list of calls on successive bytes.
-ghost use Rattle.std.specs.Prelude.{◌≡◌};
-ghost use Rattle.error.specs.declared.{Answer.Answer};
+ghost use Rattle.std.specs.Prelude.{◌≡◌, IfOk};
 ghost use Rattle.out_points.specs.Tables.{told};
 ghost use Rattle.hold_records.specs.Holds.{hold_funding, release_for_watchtower, hold_for_watchtower, lock_held, take_cells};
 ghost use Rattle.table_bytes.specs.Lent.{lent_table, lent_with, lent_with_two, with_bytes};
@@ -16,7 +15,7 @@ use units::Millis;
 pub fn hold_funding(held: &mut [u8], holder: u64, cells: &[u8]) -> Answer
     ensures held_after { told (with_bytes held_at) result held.new ≡ lent_table held_bytes held_size held.old (hold_funding (held_of held.old) holder cells.now) }
     ensures called { Called lent held.old held.new }
-    ensures funded { result ≡ Answer.Done → Funded lent held.old held.new holder cells.now }
+    ensures funded { IfOk result (λ _. Funded lent held.old held.new holder cells.now) }
 {
     held_bytes::calls::hold_funding(held, holder, cells)
 }
@@ -31,7 +30,7 @@ pub fn release_for_watchtower(held: &mut [u8], cells: &[u8]) -> Answer
 pub fn hold_for_watchtower(held: &mut [u8], cells: &[u8], time: Millis) -> Answer
     ensures held_after { told (with_bytes held_at) result held.new ≡ lent_table held_bytes held_size held.old (hold_for_watchtower (held_of held.old) cells.now time) }
     ensures called { Called lent held.old held.new }
-    ensures watched { result ≡ Answer.Done → Watched lent held.old held.new cells.now time }
+    ensures watched { IfOk result (λ _. Watched lent held.old held.new cells.now time) }
 {
     held_bytes::calls::hold_for_watchtower(held, cells, time)
 }
@@ -40,7 +39,7 @@ pub fn lock_held(held: &mut [u8], time: Millis, out: &mut [u8]) -> Answer
     ensures out_after { (told (with_bytes held_at) result held.new, out.new) ≡ lent_with held_bytes held_size held.old out.old (lock_held (held_of held.old) time out.old) }
     ensures called { Called lent held.old held.new }
     ensures in_range { InRange (held_of held.old) }
-    ensures locked { result ≡ Answer.Done → Locked lent held.old held.new time out.new }
+    ensures locked { IfOk result (λ _. Locked lent held.old held.new time out.new) }
 {
     are_bytes(held);
     held_bytes::calls::lock_held(held, time, out)
@@ -57,7 +56,7 @@ pub fn take(
 ) -> Answer
     ensures refused_after { (told (with_bytes held_at) result held.new, taken.new, refused.new) ≡ lent_with_two held_bytes held_size held.old taken.old refused.old (take_cells (held_of held.old) picked.now spent.now taker time taken.old refused.old) }
     ensures called { Called lent held.old held.new }
-    ensures took { result ≡ Answer.Done → Took lent held.old held.new picked.now spent.now taker time taken.new refused.new }
+    ensures took { IfOk result (λ _. Took lent held.old held.new picked.now spent.now taker time taken.new refused.new) }
 {
     are_bytes(picked);
     held_bytes::calls::take(held, picked, spent, taker, time, taken, refused)
