@@ -85,6 +85,7 @@ pub(crate) fn measure(s: &[u8], from: usize) -> Option<Measured>
     let mut at = from;
     let mut count = 0;
     let mut size = 4;
+    // a while: each record says where the next one stands
     while at < s.len() {
         let next = record_end(s, at)?;
         size += 4 + entry_len(s, at);
