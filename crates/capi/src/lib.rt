@@ -5,7 +5,7 @@
 mod replay;
 mod tables;
 
-ghost use Rattle.std.specs.Prelude.{◌≡◌, length};
+ghost use Rattle.std.specs.Prelude.{◌≡◌, ◌+◌, ◌*◌, ◌^◌, length};
 ghost use Rattle.molecule.specs.Molecule.{readable};
 ghost use Rattle.transaction.specs.Ckb.{OutPoints, Script, Transaction, Records};
 ghost use Rattle.rules.specs.Judge.{judge};
@@ -24,6 +24,7 @@ ghost use Rattle.answer_words.specs.Buffers.{bytes_if, item_found};
 
 use answer_words::buffers;
 use arithmetic::amount;
+use funding_builder::Lent;
 use transaction_writer::TxFields;
 use units::Tokens;
 use words::WORDS;
@@ -252,8 +253,16 @@ pub extern "C" fn basinpantry_build_base<'a>(
         remote_high,
         remote_reserved,
     );
-    let written = funding_builder::build_base(
-        ours, lock, udt, source, cells, udt_deps, lock_dep, extra_deps, request, out,
-    );
+    let lent = Lent {
+        ours,
+        lock,
+        udt,
+        source,
+        cells,
+        udt_deps,
+        lock_dep,
+        extra_deps,
+    };
+    let written = funding_builder::build_base(&lent, request, out);
     answer_words::tell_written(written, values)
 }

@@ -4,6 +4,7 @@
 #![tactic(auto)]
 
 use arithmetic::little_endian;
+use funding_builder::Lent;
 use funding_cell::FundingRequest;
 use recorded_calls::{FILL, Items, Replay, Tallies, Tally};
 use std::alloc::{AllocError, Global};
@@ -105,19 +106,17 @@ impl<'a> From<&'a [u8]> for Request<'a> {
 // ---- what the library answers
 
 fn build_base(r: &Request<'_>, out: &mut [u8]) -> Told<usize> {
-    let written = funding_builder::build_base(
-        r.ours,
-        r.lock,
-        r.udt,
-        r.source,
-        r.cells,
-        r.udt_deps,
-        r.lock_dep,
-        r.extra_deps,
-        r.figures,
-        out,
-    );
-    written.map_err(|e| e.number())
+    let lent = Lent {
+        ours: r.ours,
+        lock: r.lock,
+        udt: r.udt,
+        source: r.source,
+        cells: r.cells,
+        udt_deps: r.udt_deps,
+        lock_dep: r.lock_dep,
+        extra_deps: r.extra_deps,
+    };
+    funding_builder::build_base(&lent, r.figures, out).map_err(|e| e.number())
 }
 
 fn build_cell(r: &Request<'_>) -> Told<(u128, u128)> {
