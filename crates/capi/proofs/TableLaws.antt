@@ -3,7 +3,8 @@ use mathlib.Core.Path.{◌≡◌, ap, ◌∙◌}
 use Prim.Native.Nat.{ℕ}
 use mathlib.Core.Bool.{Bool, true, false, cond}
 use mathlib.Core.List.{List}
-use Rattle.error.specs.declared.{Answer.Answer}
+use Rattle.std.proofs.Common.{Result}
+use Rattle.error.specs.declared.{Refusal.Refusal}
 use Rattle.error.specs.Refusal.{answered}
 use Rattle.units.specs.declared.{Millis.Millis}
 use Rattle.out_points.specs.Tables.{told}
@@ -20,7 +21,7 @@ module _ {watchtower : Bool} (holder : ℕ) where
   pub by_funding : watchtower ≡ false → Taker.Funding holder ≡ cond watchtower Taker.Watchtower (Taker.Funding holder)
   by_funding e = rw e
 
-pub taken_by : (s picked spent : List ℕ) (t : Taker) (time : Millis) (out₁ out₂ : List ℕ) (a : Answer) (o : List ℕ) {taker : Taker} {n : ℕ} {b₁ b₂ : List ℕ} → taker ≡ t → n ≡ answered a
+pub taken_by : (s picked spent : List ℕ) (t : Taker) (time : Millis) (out₁ out₂ : List ℕ) (a : Result (Unit {0}) Refusal) (o : List ℕ) {taker : Taker} {n : ℕ} {b₁ b₂ : List ℕ} → taker ≡ t → n ≡ answered a
     → (told (with_bytes held_at) a o, b₁, b₂) ≡ lent_with_two held_bytes held_size s out₁ out₂ (take_cells (held_of s) picked spent taker time out₁ out₂)
     → (told_number (with_bytes held_at) n o, b₁, b₂) ≡ lent_with_two held_bytes held_size s out₁ out₂ (take_cells (held_of s) picked spent t time out₁ out₂)
 taken_by s picked spent t time out₁ out₂ a o et en h =

@@ -10,7 +10,7 @@ use Rattle.rules.specs.Outcome.{fine, refused}
 use Rattle.rules.specs.Surplus.{Measure, capacities, expected, surplus}
 use Rattle.rules.specs.Judge.{Call, Figures, tx_of}
 use Rattle.rules.specs.Run.{Entry, Exact, verdicts, in_force, kept, kept_records, steps, carried, sum, update_for_peer, Returned, Ran, stop, call}
-use Rattle.units.specs.Units.{in_shannons, in_tokens, shannon_count, token_count}
+use Rattle.units.specs.Units.{in_shannons, in_tokens}
 use Rattle.error.specs.declared.Refusal.{Refusal}
 use Rattle.error.specs.Refusal.{number, values}
 use Rattle.funding_tx.specs.Negotiation.{Called}
@@ -65,7 +65,7 @@ accept capacity token c = record { answer = Ok (record { capacity = in_shannons 
 
 pub worked_ran : Ran (Called expected_lock token_type) [] worked
     (accept 860 1 opening ∷ record { answer = Err Refusal.InvalidPeerFundingTx; handed = opening.peer } ∷ accept 10 1 growing ∷ []) growing.peer
-unfolding computing shannon_count token_count number values
+unfolding computing number values
 worked_ran = call (record { answer = refl; bytes = refl }) (call (record { answer = refl; bytes = refl }) (call (record { answer = refl; bytes = refl }) stop))
 
 -- ---- the type changes

@@ -4,8 +4,8 @@
 #![tactic(auto)]
 
 use arithmetic::little_endian;
-use error::Answer;
-use hold_records::{Held, HeldAnswer, Hold, Owner, Taker};
+use error::Refusal;
+use hold_records::{Held, Hold, Owner, Taker};
 use recorded_calls::{Call, FILL, Table};
 use std::alloc::{AllocError, Global};
 use std::{fmt, io};
@@ -74,17 +74,18 @@ impl fmt::Display for Kind {
 
 // ---- one call
 
-fn answered(held: Held, answer: Answer) -> HeldAnswer {
-    HeldAnswer { held, answer }
-}
-
-// A call of no known kind is run as the last one.
-fn answer(held: Held, call: &Call<'_>, first: &mut [u8], second: &mut [u8]) -> HeldAnswer {
+// The table after the call. One of no known kind is run as the last one.
+fn answer(
+    held: Held,
+    call: &Call<'_>,
+    first: &mut [u8],
+    second: &mut [u8],
+) -> Result<Held, Refusal> {
     let [holder, now] = call.numbers;
     let now = Millis(now);
     let [cells, spent] = call.lent;
     match Kind::try_from(call.kind) {
-        Ok(Kind::Start) => answered(hold_records::empty(), Ok(())),
+        Ok(Kind::Start) => Ok(hold_records::empty()),
         Ok(Kind::HoldFunding) => held_cells::hold_funding(held, holder, cells),
         Ok(Kind::HoldForWatchtower) => watchtower_holds::hold_for_watchtower(held, cells, now),
         Ok(Kind::TakeForHolder) => {
@@ -103,10 +104,8 @@ fn answer(held: Held, call: &Call<'_>, first: &mut [u8], second: &mut [u8]) -> H
         }
         Ok(Kind::ReleaseForWatchtower) => watchtower_holds::release_for_watchtower(held, cells),
         Ok(Kind::Unavailable) => {
-            answered(
-                held,
-                held_cells::unavailable(held, cells, spent, now, first),
-            )
+            held_cells::unavailable(held, cells, spent, now, first)?;
+            Ok(held)
         }
         Ok(Kind::LockHeld) | Err(UnknownKind(_)) => held_cells::lock_held(held, now, first),
     }
@@ -114,9 +113,13 @@ fn answer(held: Held, call: &Call<'_>, first: &mut [u8], second: &mut [u8]) -> H
 
 // Runs the call, and answers its number.
 fn run(held: &mut Held, call: &Call<'_>, first: &mut [u8], second: &mut [u8]) -> u8 {
-    let after = answer(*held, call, first, second);
-    *held = after.held;
-    error::number(after.answer)
+    match answer(*held, call, first, second) {
+        Ok(after) => {
+            *held = after;
+            0
+        }
+        Err(why) => why.number(),
+    }
 }
 
 // ---- what it comes to
