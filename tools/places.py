@@ -193,7 +193,7 @@ def point_7():
 
 def point_8():
     for folder, _, names in sorted(os.walk('crates')):
-        if '/proofs' in folder and 'Answers.antt' in names:
+        if folder.split(os.sep)[2:3] == ['proofs'] and 'Answers.antt' in names:
             text = open(os.path.join(folder, 'Answers.antt'), encoding='utf-8').read()
             if re.search(r'^pub \S+ : goal\.', text, re.M) and not re.search(r'^(?!.*= search ways$)(?!use |pub |--|$).+$', text, re.M):
                 yield os.path.join(folder, 'Answers.antt')
