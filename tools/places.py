@@ -144,7 +144,7 @@ def point_4():
         lines = code(path)
         for at, line in enumerate(lines):
             m = re.match(r'(?:pub )?(struct|enum) (\w+)', line)
-            if m and '<' not in line and 'PartialEq' not in ' '.join(lines[max(0, at - 2):at]):
+            if m and not line.endswith(';') and '<' not in line and 'PartialEq' not in ' '.join(lines[max(0, at - 2):at]):
                 yield '%s:%d: %s %s without PartialEq, Eq and Debug' % (path, at + 1, m.group(1), m.group(2))
         for at, name, signature, body in functions(path):
             if re.match(r'(same|less|before|is_zero|zero|from_u64|from_u\d+|min|max|saturating_\w+|capped_u64|number|carry|borrow)$', name) or re.match(r'same_(hash|point|owner|taker)', name):

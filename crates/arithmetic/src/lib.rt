@@ -1,6 +1,5 @@
-// Amounts of 128 bits, numbers as bytes, and sizes.
+// Amounts of 128 bits, and numbers as bytes.
 #![tactic(auto, using(crate::proofs::Ways::ways))]
 
 pub mod amount;
 pub mod little_endian;
-pub mod sizes;

@@ -16,7 +16,7 @@ use Rattle.molecule.specs.Partial.{All}
 use Rattle.molecule.specs.Molecule.{readable, option, fixvec, size}
 use Rattle.molecule.specs.Write.{splice, put_at}
 use Rattle.molecule.proofs.Valid.{fixed}
-use Rattle.molecule.proofs.HeaderLaws.{fixvec-readable, option-readable}
+use Rattle.molecule.proofs.HeaderLaws.{fixvec-readable, option_is}
 use Rattle.molecule.proofs.WriteLaws.{put_yes}
 use Rattle.transaction.specs.Ckb.{Transaction, RawTransaction, CellInput}
 use Rattle.transaction.specs.Tx.{raw_field, previous_output_of}
@@ -47,7 +47,7 @@ read_yes tx {r} e h = sym e ∙ not-false r h
 
 module _ (tx : List ℕ) (h : readable (option Transaction) tx ≡ true) (z : length tx ≡ 0 → ⊥) where
   whole : readable Transaction tx ≡ true
-  whole = sym (option-readable Transaction tx ∙ rw (ne_eqb (length tx) 0 z)) ∙ h
+  whole = sym (option_is Transaction tx ∙ rw (ne_eqb (length tx) 0 z)) ∙ h
 
   inputs_read : readable (fixvec CellInput) (raw_field tx 3) ≡ true
   unfolding raw_field

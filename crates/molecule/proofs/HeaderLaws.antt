@@ -23,7 +23,7 @@ use Rattle.molecule.proofs.Valid.{fixed}
 use Rattle.molecule.specs.Layout.{part, word, span, splits_into, has_items, start, field_of, item_count, item_of, items_of, fix_count}
 use Rattle.molecule.proofs.PartialLaws.{only_yes, only_no, only-some, pick_yes, pick_no}
 use Rattle.molecule.proofs.ReadableLaws.{holds, every, all_readable, readable-table, readable-dynvec, readable-fixvec}
-pub use Rattle.molecule.proofs.ReadableLaws.{readable-option as option-readable}
+pub use Rattle.molecule.proofs.ReadableLaws.{readable-option as option_is}
 use Rattle.molecule.proofs.Offsets.{up_to, in_order, offsets_ok, up_all, up_from, start_in, start-out, offsets-parts, first_offset, span-length}
 
 -- the i-th number, where its bytes are there
@@ -395,3 +395,8 @@ fixvec-count t ok one s h =
     let a = (and-eq-true_iff (ltb (length s) (2 ^ 32) && leb 4 (length s)) (eqb (length s) (4 + size t * word s 0))).0 (sym (fixvec-says t ok s) ∙ h) in
     let e : length s ≡ 4 + size t * word s 0 = eqb-true _ _ a.1 in
     omega (arith, mul-le-mul_right (word s 0) one)
+
+-- a table of two fields, in the tests that code makes
+pub pair_is : (a b : Ty) (s : List ℕ) → readable (table (a & b & end)) s ≡ (has_items s 2 && readable a (field_of s 2 0) && readable b (field_of s 2 1))
+unfolding count all_readable span
+pair_is a b s = table-readable (a & b & end) s ∙ simp (and-true, and_assoc)

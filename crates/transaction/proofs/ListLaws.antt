@@ -4,10 +4,12 @@ use Prim.Native.Nat.{ℕ}
 use mathlib.Core.List.{List}
 use mathlib.Core.Bool.{Bool, true}
 use borrow.Author.Tests.{eq-eqb, ne_eqb}
+use lib.Dec.{eqb}
 use lib.ListN.{length}
 use Rattle.molecule.specs.Molecule.{Ty, byte, array, fixvec, option, size, sizes, readable}
 use Rattle.molecule.proofs.Valid.{fixed}
-use Rattle.molecule.proofs.HeaderLaws.{option-readable}
+use Rattle.molecule.proofs.HeaderLaws.{option_is}
+use Rattle.molecule.proofs.ReadableLaws.{sized}
 use Rattle.molecule.proofs.TestLaws.{fix_as}
 use Rattle.transaction.specs.Ckb.{Byte32, OutPoint, CellInput, CellDep}
 
@@ -27,6 +29,11 @@ pub input-size : size CellInput ≡ 44
 unfolding size sizes
 input-size = refl
 
+-- an out point is any 36 bytes
+pub out_point_is : (s : List ℕ) → readable OutPoint s ≡ eqb (length s) 36
+unfolding size sizes fixed
+out_point_is s = sized OutPoint tt 36 refl s
+
 module _ (s : List ℕ) {r : Bool} where
   pub out-points : r ≡ readable (fixvec (array byte 36)) s → r ≡ readable (fixvec OutPoint) s
   unfolding fixed size
@@ -41,7 +48,7 @@ module _ (s : List ℕ) {r : Bool} where
   inputs h = fix_as CellInput tt 44 refl s h
 
 pub option-none : (t : Ty) (s : List ℕ) → length s ≡ 0 → true ≡ readable (option t) s
-option-none t s h = sym (option-readable t s ∙ simp (eq-eqb (length s) 0 h))
+option-none t s h = sym (option_is t s ∙ simp (eq-eqb (length s) 0 h))
 
 pub option-some : (t : Ty) (s : List ℕ) {r : Bool} → (length s ≡ 0 → ⊥) → r ≡ readable t s → r ≡ readable (option t) s
-option-some t s h e = e ∙ sym (option-readable t s ∙ simp (ne_eqb (length s) 0 h))
+option-some t s h e = e ∙ sym (option_is t s ∙ simp (ne_eqb (length s) 0 h))

@@ -1,11 +1,14 @@
 // CKB transactions (RFC 0019): which strings are transactions, scripts, outputs and lent lists, and what stands in them.
 #![tactic(auto, using(crate::proofs::Tests::tests))]
 
+mod entities;
 pub mod fields;
 
 ghost use Rattle.std.specs.Prelude.{◌≡◌};
 ghost use Rattle.molecule.specs.Molecule.{readable, option, fixvec, dynvec};
 ghost use Rattle.transaction.specs.Ckb.{Byte32, OutPoints, CellDeps, CellInput, Script, CellOutput, RawTransaction, Transaction, TokenCell, TokenCells, Record, Records};
+
+use molecule::{Bytes, BytesVec, Entity};
 
 // Whether s is a script: code hash, hash type, args. The sizes of the first two say what stands in the header, and one test of the length comes before its
 // words are read.
@@ -24,7 +27,7 @@ pub fn is_script(s: &[u8]) -> bool
 pub fn is_optional_script(s: &[u8]) -> bool
     ensures { result ≡ readable (option Script) s.now }
 {
-    s.is_empty() || is_script(s)
+    Option::<entities::Script>::is(s)
 }
 
 // Whether s is an output: capacity, lock, and type or nothing. Its header is tested like a script's.
@@ -75,7 +78,7 @@ pub fn is_inputs(s: &[u8]) -> bool
 pub fn is_outputs(s: &[u8]) -> bool
     ensures { result ≡ readable (dynvec CellOutput) s.now }
 {
-    molecule::is_dynvec_of(s, is_output)
+    molecule::is_dynvec_of::<entities::CellOutput>(s)
 }
 
 // Whether s is a raw transaction.
@@ -95,53 +98,47 @@ pub fn is_raw_transaction(s: &[u8]) -> bool
 pub fn is_transaction(s: &[u8]) -> bool
     ensures { result ≡ readable Transaction s.now }
 {
-    molecule::has_items(s, 2)
-        && is_raw_transaction(molecule::field(s, 2, 0))
-        && molecule::is_bytes_vec(molecule::field(s, 2, 1))
+    molecule::is_pair_of::<entities::RawTransaction, BytesVec>(s)
 }
 
 // Whether s is a transaction or nothing.
 pub fn is_optional_transaction(s: &[u8]) -> bool
     ensures { result ≡ readable (option Transaction) s.now }
 {
-    s.is_empty() || is_transaction(s)
+    Option::<entities::Transaction>::is(s)
 }
 
 // Whether s is a token cell: out point and data.
 pub fn is_token_cell(s: &[u8]) -> bool
     ensures { result ≡ readable TokenCell s.now }
 {
-    molecule::has_items(s, 2)
-        && molecule::field_len(s, 2, 0) == 36
-        && molecule::is_bytes(molecule::field(s, 2, 1))
+    molecule::is_pair_of::<entities::OutPoint, Bytes>(s)
 }
 
 // Whether s is a list of token cells.
 pub fn is_token_cells(s: &[u8]) -> bool
     ensures { result ≡ readable TokenCells s.now }
 {
-    molecule::is_dynvec_of(s, is_token_cell)
+    molecule::is_dynvec_of::<entities::TokenCell>(s)
 }
 
 // Whether s is a resolved cell: output and data.
 pub fn is_record(s: &[u8]) -> bool
     ensures { result ≡ readable Record s.now }
 {
-    molecule::has_items(s, 2)
-        && is_output(molecule::field(s, 2, 0))
-        && molecule::is_bytes(molecule::field(s, 2, 1))
+    molecule::is_pair_of::<entities::CellOutput, Bytes>(s)
 }
 
 // Whether s is a resolved cell, or nothing, for a cell that is not live.
 pub fn is_optional_record(s: &[u8]) -> bool
     ensures { result ≡ readable (option Record) s.now }
 {
-    s.is_empty() || is_record(s)
+    Option::<entities::Record>::is(s)
 }
 
 // Whether s is a list of these.
 pub fn is_records(s: &[u8]) -> bool
     ensures { result ≡ readable Records s.now }
 {
-    molecule::is_dynvec_of(s, is_optional_record)
+    molecule::is_dynvec_of::<Option<entities::Record>>(s)
 }
