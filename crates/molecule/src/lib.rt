@@ -1,5 +1,6 @@
 // Readers of Molecule (RFC 0008) over a lent slice of bytes. Each is total: past the end a number is 0 and a part is empty. A part that is handed
-// back is a stretch of the lent bytes: `ensures` says which bytes, and where in the lent slice they stand.
+// back is a stretch of the lent bytes: `ensures` says which bytes, and where in the lent slice they stand. The number n beside a slice is that of the items
+// that a schema or a header says it has, and no length of the slice.
 #![tactic(auto, using(crate::proofs::Ways::ways), unfolding(crate::specs::Layout::word, crate::specs::Layout::start, crate::specs::Layout::has_header, crate::specs::Layout::field_of, crate::specs::Layout::field_start, crate::specs::Layout::item_count, crate::specs::Layout::item_of, crate::specs::Layout::item_start, crate::specs::Layout::fix_count, crate::specs::Layout::fix_item, crate::specs::Layout::fix_start, crate::specs::Layout::content, crate::specs::Layout::content_start, crate::specs::Layout::entry_of, crate::specs::Layout::entry_start))]
 
 pub mod write;
@@ -45,7 +46,8 @@ pub fn has_header(s: &[u8], n: usize) -> bool
     n < s.len() / 4 && word(s, 0) as usize == s.len() && start(s, n, 0) == 4 + 4 * n
 }
 
-// Whether s is a header and n items without gaps: a table of n fields, or a dynvec of n items.
+// Whether s is a header and n items without gaps: a table of n fields, or a dynvec of n items. (`is_dynvec_of` goes over items and tests each as it comes: one walk
+// for both would test twice.)
 pub fn has_items(s: &[u8], n: usize) -> bool
     ensures { result ≡ has_items s.now n }
 {

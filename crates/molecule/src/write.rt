@@ -1,4 +1,5 @@
-// Writes into a lent buffer. Where there is no room for all of it nothing is written, and the place that is answered is the one that was given.
+// Writes into a lent buffer. Where there is no room for all of it nothing is written, and the place that is answered is the one that was given. The buffer
+// and the place go side by side and not in a struct: a struct would hold the borrow, and every contract would name the same two by longer paths.
 ghost use Rattle.std.specs.Prelude.{◌≡◌, ◌+◌, ◌≤◌, length};
 ghost use Rattle.arithmetic.specs.LittleEndian.{to_le};
 ghost use Rattle.molecule.specs.Write.{splice, put_at, put_end};

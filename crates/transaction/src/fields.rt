@@ -1,5 +1,7 @@
 // What stands in a transaction and its parts. Each accessor is total: of bytes that are in no form it answers 0 or a part of them. A part that is
 // handed back is a stretch of the lent bytes: the first clause says which bytes, the second where in the lent slice they start.
+#![tactic(auto, using(crate::proofs::Ways::ways))]
+
 ghost use Rattle.std.specs.Prelude.{◌≡◌, ◌+◌, ◌^◌, ◌<◌, get_or};
 ghost use Rattle.arithmetic.specs.LittleEndian.{u32_at, u64_at};
 ghost use Rattle.units.specs.Units.{in_shannons, shannon_count};

@@ -1,5 +1,0 @@
-use Rattle.transaction.proofs.Ways.{ways}
-use Rattle.transaction.proofs.fields.input.Goals as goal
-
-pub returns-clause-ref_ptr_value : goal.returns-clause-ref_ptr_value
-returns-clause-ref_ptr_value c = search ways

@@ -1,5 +1,0 @@
-use Rattle.transaction.proofs.Ways.{ways}
-use Rattle.transaction.proofs.fields.type_script.Goals as goal
-
-pub returns-clause-result_value : goal.returns-clause-result_value
-returns-clause-result_value c = search ways
