@@ -11,7 +11,7 @@ use Rattle.arithmetic.proofs.LittleEndianLaws.{length-to_le}
 use Rattle.molecule.specs.Partial.{pick}
 use Rattle.molecule.specs.Items.{join, unwords, offsets, header}
 use Rattle.molecule.specs.Write.{put_at, put_end, Put}
-use Rattle.molecule.proofs.ItemsLaws.{length-join, length-unwords, length-offsets, length_flatten}
+use Rattle.molecule.proofs.ItemsLaws.{length-join, unwords_length, length-offsets, length_flatten}
 use Rattle.molecule.proofs.WriteLaws.{did, none, then, and_put, as_bytes, length-kept}
 use Rattle.case_file.specs.CaseFile.{kind_at, body_at, item_at}
 use Rattle.case_file.specs.Walk.{end_of, body_there, entry_at, next_at, cell_bytes, walk}
@@ -41,7 +41,7 @@ module _ (out : List ℕ) (at : ℕ) (o d : List ℕ) {o₁ o₂ o₃ o₄ : Lis
     (e₃ : o₃ ≡ put_at o₂ n₂ (to_le 4 (length d))) (f₃ : n₃ ≡ put_end o₂ n₂ (to_le 4 (length d))) where
   pub cell_put : o₄ ≡ put_at o₃ n₃ d → n₄ ≡ put_end o₃ n₃ d → Put out at (cell_bytes o d) o₄ n₄
   cell_put e₄ f₄ =
-      let l : length (unwords ((12 + length o + 4 + length d) ∷ 12 ∷ (12 + length o) ∷ [])) ≡ 12 = length-unwords _ in
+      let l : length (unwords ((12 + length o + 4 + length d) ∷ 12 ∷ (12 + length o) ∷ [])) ≡ 12 = unwords_length _ in
       let t = length-to_le 4 (length d) in
       let p₂ = and_put o p₁ e₂ f₂ (omega arith) in
       let p₃ = and_put (to_le 4 (length d)) p₂ e₃ f₃ (simp length-append (omega arith)) in
@@ -87,7 +87,7 @@ length-walk zero s at = refl
 length-walk (suc n) s at = ap suc (length-walk n s (next_at s at))
 
 length-words : (first n : ℕ) (s : List ℕ) (from : ℕ) → length (unwords (offsets first (walk n s from))) ≡ 4 * n
-length-words first n s from = length-unwords (offsets first (walk n s from)) ∙ rw (length-offsets, length-walk)
+length-words first n s from = unwords_length (offsets first (walk n s from)) ∙ rw (length-offsets, length-walk)
 
 -- `whole` is what was put so far, and the offsets of the records that are left
 pub record Offsetting (whole out₀ : List ℕ) (to : ℕ) (s out : List ℕ) (end at left offset : ℕ) : Type 0 where

@@ -28,10 +28,10 @@ bytes_take (suc n) (x ∷ s) h (suc i) = bytes_take n s (λ j. h (suc j)) i
 
 -- ---- numbers of four bytes
 
-pub length-unwords : (ns : List ℕ) → length (unwords ns) ≡ 4 * length ns
+pub unwords_length : (ns : List ℕ) → length (unwords ns) ≡ 4 * length ns
 unfolding unwords
-length-unwords [] = refl
-length-unwords (n ∷ ns) = omega (arith, length-append (to_le 4 n) (unwords ns), length-to_le 4 n, length-unwords ns)
+unwords_length [] = refl
+unwords_length (n ∷ ns) = omega (arith, length-append (to_le 4 n) (unwords ns), length-to_le 4 n, unwords_length ns)
 
 pub length-words : (n : ℕ) (s : List ℕ) → length (words n s) ≡ n
 unfolding words
@@ -126,7 +126,7 @@ unfolding join
 length-join xs =
     let h = header (length xs) in
     let ns : List ℕ = (h + length (flatten xs)) ∷ offsets h xs in
-    omega (arith, length-append (unwords ns) (flatten xs), length-unwords ns, length-offsets h xs)
+    omega (arith, length-append (unwords ns) (flatten xs), unwords_length ns, length-offsets h xs)
 
 -- `split` where the header's tests pass
 split_tests : (s : List ℕ) (h : ℕ) → le (take 4 s) ≡ length s → le (take 4 (drop 4 s)) ≡ h → 8 ≤ h → h % 4 ≡ 0 → h ≤ length s
@@ -174,7 +174,7 @@ module _ (size h : ℕ) (rest flat : List ℕ) where
       ap (λ (k : ℕ). drop k whole) e
       ∙ sym (drop-drop (4 * length rest) 8 whole)
       ∙ ap (drop (4 * length rest)) parts-rest
-      ∙ drop_at (unwords rest) flat _ (length-unwords rest)
+      ∙ drop_at (unwords rest) flat _ (unwords_length rest)
 
 joined : (x : List ℕ) (xs : List (List ℕ)) (h : ℕ) → h ≡ header (suc (length xs))
     → join (x ∷ xs) ≡ parts (h + length (flatten (x ∷ xs))) h (offsets (h + length x) xs) (flatten (x ∷ xs))

@@ -10,7 +10,7 @@ use borrow.Author.Tests.{lt-ltb, le-ltb}
 use mir.Syntax.{w32, w64}
 use mir.Val.{Fits}
 use lib.Dec.{ltb}
-use lib.ListN.{length, take, drop, length-drop, drop_of_length-le}
+use lib.ListN.{length, take, drop, length-take, length-drop, drop_of_length-le}
 use lib.Seq.{take_all, take-nil}
 use Rattle.arithmetic.specs.LittleEndian.{AllBytes}
 use Rattle.molecule.proofs.Offsets.{start-out}
@@ -63,6 +63,13 @@ module _ (s : List ℕ) (from to : ℕ) {b e : ℕ} (he : e ≡ min to (length s
       ap {B = ℕ × ℕ} (λ (n : ℕ). (p.0, n)) w
 
 -- the bytes of a part
+pub part-empty : (s : List ℕ) → part s 0 0 ≡ []
+part-empty s = part_none s 0 0 (omega arith)
+
+pub part_short : (s : List ℕ) (from to : ℕ) → length (part s from to) ≤ length s
+unfolding part
+part_short s from to = omega (arith, length-take (to - from) (drop from s), length-drop from s)
+
 pub bytes-part : (s : List ℕ) (from to : ℕ) → AllBytes s → AllBytes (part s from to)
 unfolding part
 bytes-part s from to b = bytes_take (to - from) (drop from s) (bytes_drop from s b)

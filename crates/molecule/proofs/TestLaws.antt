@@ -16,6 +16,12 @@ use Rattle.molecule.proofs.Offsets.{up_to, in_order, offsets_ok, up_stop, up_all
 use Rattle.molecule.proofs.LayoutLaws.{field_is, item-is}
 use Rattle.molecule.proofs.HeaderLaws.{offsets-has, dynvec-readable, fixvec-says, fixvec-readable}
 
+-- two tests of which each holds where the other does
+pub both_ways : (b c : Bool) → (b ≡ true → c ≡ true) → (c ≡ true → b ≡ true) → b ≡ c
+both_ways true c f g = sym (f refl)
+both_ways false true f g = g refl
+both_ways false false f g = refl
+
 -- ---- a header of n items
 
 module _ (s : List ℕ) (n : ℕ) where

@@ -15,7 +15,7 @@ use Rattle.molecule.specs.Layout.{part, word, start, has_items, field_of}
 use Rattle.molecule.proofs.Offsets.{in_order, up_all, start_in, start-out, offsets-parts}
 use Rattle.molecule.proofs.HeaderLaws.{offsets-has}
 use Rattle.molecule.proofs.LayoutLaws.{part_none}
-use Rattle.molecule.proofs.TestLaws.{header_is, ordered_none, ordered_more, ordered_end, bytes_are, fix_short}
+use Rattle.molecule.proofs.TestLaws.{both_ways, header_is, ordered_none, ordered_more, ordered_end, bytes_are, fix_short}
 use Rattle.transaction.specs.Ckb.{Bytes, Script, CellOutput}
 use Rattle.transaction.proofs.TableLaws.{script_is, output_is}
 
@@ -89,12 +89,6 @@ module _ (s : List ℕ) where
   length_1 : Three s → length (field_of s 3 1) ≡ word s 3 - word s 2
   length_1 t = ap length field_1 ∙ length_part s (word s 2) (word s 3) t.third t.last
 
--- what is true where the other is
-same_so : (a b : Bool) → (a ≡ true → b ≡ true) → (b ≡ true → a ≡ true) → a ≡ b
-same_so true b f g = sym (f refl)
-same_so false true f g = g refl
-same_so false false f g = refl
-
 -- ---- a script
 
 bytes-long : (f : List ℕ) → readable Bytes f ≡ true → 4 ≤ length f
@@ -130,7 +124,7 @@ module _ (s : List ℕ) where
       script_is s ∙ simp (three_have s t, eq-eqb _ _ l0, eq-eqb _ _ l1, f2, b.5)
 
   pub script-by_words : readable Script s ≡ script_words s
-  script-by_words = same_so _ _ script_tested script_built
+  script-by_words = both_ways _ _ script_tested script_built
 
 -- ---- an output
 
@@ -166,4 +160,4 @@ module _ (s : List ℕ) where
       output_is s ∙ simp (three_have s t, eq-eqb _ _ l0, f1, field_2 s, b.5, b.6)
 
   pub output-by_words : readable CellOutput s ≡ output_words s
-  output-by_words = same_so _ _ output_tested output_built
+  output-by_words = both_ways _ _ output_tested output_built

@@ -10,7 +10,7 @@ use Rattle.arithmetic.specs.LittleEndian.{to_le}
 use Rattle.arithmetic.proofs.LittleEndianLaws.{length-to_le}
 use Rattle.molecule.specs.Items.{join, unwords, offsets}
 use Rattle.molecule.specs.Write.{put_at, put_end, Put}
-use Rattle.molecule.proofs.ItemsLaws.{length-join, length-unwords}
+use Rattle.molecule.proofs.ItemsLaws.{length-join, unwords_length}
 use Rattle.molecule.proofs.WriteLaws.{did, and_put, as_bytes}
 use Rattle.list_writer.proofs.SpanLaws.{unwords-append}
 use Rattle.transaction_writer.specs.declared.{TxFields.TxFields, Sizes.Sizes}
@@ -25,7 +25,7 @@ regroup p q r s w = simp append_assoc
 module _ (v a b c d e f : ℕ) where
   pub head_length : length (tx_head v a b c d e f) ≡ 44
   unfolding tx_head
-  head_length = simp (length-append, length-unwords) refl
+  head_length = simp (length-append, unwords_length) refl
 
   module _ (out : List ℕ) (low : 44 + a + b + c + d + e + f ≤ 133116) (room : 44 + a + b + c + d + e + f ≤ length out) where
     fit : fits (44 + a + b + c + d + e + f) (length out) ≡ true
