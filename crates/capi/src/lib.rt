@@ -1,6 +1,6 @@
 // What a host in Rust or C links: the library's functions under plain names. A slice crosses as a pointer and then a length, the four words of
 // an answer as a pointer alone.
-#![tactic(auto)]
+#![tactic(auto, using(crate::proofs::Ways::ways))]
 
 mod replay;
 mod tables;

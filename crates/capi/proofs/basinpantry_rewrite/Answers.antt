@@ -1,5 +1,0 @@
-use Rattle.capi.proofs.Ways.{ways}
-use Rattle.capi.proofs.basinpantry_rewrite.Goals as goal
-
-pub returns : goal.returns
-returns c = search ways
