@@ -59,6 +59,17 @@ pub point_refl : (p : OutPoint) → eq_point p p ≡ true
 unfolding eq_point
 point_refl p = rw (eq-eqb p.index p.index refl, hash_refl p.hash)
 
+-- `==` of out points, field by field
+pub points_are : (p q : OutPoint) {r : Bool} → r ≡ ((eqb p.hash.a q.hash.a && (eqb p.hash.b q.hash.b && (eqb p.hash.c q.hash.c && eqb p.hash.d q.hash.d))) && eqb p.index q.index) → r ≡ eq_point p q
+unfolding eq_point eq_hash
+points_are p q e = e ∙ turned (eq_hash p.hash q.hash) (eqb p.index q.index)
+  where
+    turned : (a b : Bool) → (a && b) ≡ (b && a)
+    turned true true = refl
+    turned true false = refl
+    turned false true = refl
+    turned false false = refl
+
 -- one more at the end of what stands before
 pub has_last : (q : OutPoint) (g : ℕ → OutPoint) (j i : ℕ) → has q (span g j (suc i)) ≡ cond (has q (span g j i)) true (eq_point q (g (j + i)))
 unfolding has span
