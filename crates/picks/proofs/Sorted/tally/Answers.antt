@@ -1,5 +1,5 @@
 use Rattle.picks.proofs.Ways.{ways}
-use Rattle.picks.proofs.tally.Goals as goal
+use Rattle.picks.proofs.Sorted.tally.Goals as goal
 
 pub loop-i-init : goal.loop-i-init
 loop-i-init c = search ways

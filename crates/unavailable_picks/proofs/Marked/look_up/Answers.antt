@@ -1,8 +1,8 @@
 use Rattle.unavailable_picks.proofs.Ways.{ways}
-use Rattle.unavailable_picks.proofs.look_up.Goals as goal
+use Rattle.unavailable_picks.proofs.Marked.look_up.Goals as goal
 
-pub returns-then-busy : goal.returns-then-busy
-returns-then-busy c = search ways
+pub returns-then-is_busy : goal.returns-then-is_busy
+returns-then-is_busy c = search ways
 
-pub returns-else-busy : goal.returns-else-busy
-returns-else-busy c = search ways
+pub returns-else-is_busy : goal.returns-else-is_busy
+returns-else-is_busy c = search ways
