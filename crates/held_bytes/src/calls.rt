@@ -1,4 +1,5 @@
-// The calls on a lent table of holds. A table of another length is refused before all else, and a refusal leaves its bytes and the buffers as they were.
+// The calls on a lent table of holds. A table of another length is refused before all else, and a refusal leaves its bytes and the buffers as they were. Parameters
+// stand one by one, as in the C functions of the calls: a struct would be made there for each single call.
 ghost use Rattle.std.specs.Prelude.{◌≡◌, List, length};
 ghost use Rattle.error.specs.Refusal.{answered};
 ghost use Rattle.out_points.specs.Tables.{Outcome, told};

@@ -8,6 +8,8 @@ use native.Mathlib.Omega.{arith}
 use borrow.Author.Tests.{eqb-true, eqb-false, ne_eqb}
 use lib.Dec.{eqb}
 use lib.ListN.{length, drop, take, length-drop}
+use Rattle.std.proofs.Math.Logic.{∥∥₁_elim}
+use Rattle.std.proofs.Props.{props}
 use Rattle.std.specs.Option.{option_eq}
 use Rattle.std.specs.Prelude.{nat_eq, Option, Some, None, unwrap_or}
 use Rattle.std.specs.List.{position}
@@ -118,7 +120,7 @@ module _ {cells picked spent s : List ℕ} (o : Places cells picked spent s) whe
       y = fix_item list 36 k
 
       found : r ≡ position (eq_bytes y) (span g 0 n)
-      found = f o.index ∙ ap (λ (z : List ℕ). position (eq_bytes z) (span g 0 n)) e
+      found = ∥∥₁_elim o.index (Prim.hlevel props) (λ i. f i ∙ ap (λ (z : List ℕ). position (eq_bytes z) (span g 0 n)) e)
 
       inside : (at : ℕ) → r ≡ Some at → at < n
       inside at q = let b = (position-Some (eq_bytes y) (span g 0 n) at [] (sym found ∙ q)).0 in omega (arith, span-length g 0 n)
@@ -167,7 +169,7 @@ pub places_are : (cells picked spent s : List ℕ) (n a b : ℕ) → AllWhole ce
 places_are cells picked spent s n a b w m f p q =
     let o = f p q in
     let z : length (take n s) ≡ n = length-take-le n s o.room in
-    record { whole = w; some = omega arith; index = index_front o }
+    record { whole = w; some = omega arith; index = ∣ index_front o ∣₁ }
 
 pub whole-all : {cells picked spent : List ℕ} → Whole cells → Whole picked → Whole spent → AllWhole cells picked spent
 whole-all a b c = record { held = a; picks = b; gone = c }

@@ -22,7 +22,7 @@ pub record AllWhole (cells picked spent : List ℕ) : Type 0 where
 pub record Places (cells picked spent s : List ℕ) : Type 0 where
   pub whole : AllWhole cells picked spent
   pub some : length s ≤ fix_count picked
-  pub index : Index (key_of picked 36 0) (length s) s
+  pub index : ∥ Index (key_of picked 36 0) (length s) s ∥₁
 
 -- the first of n picks g that is q, or n
 pub record FirstAt (g : ℕ → OutPoint) (n : ℕ) (q : OutPoint) (at : ℕ) : Type 0 where

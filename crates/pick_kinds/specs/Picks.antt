@@ -2,9 +2,9 @@
 use Rattle.std.specs.Prelude.{ℕ, List, Bool}
 use Rattle.out_points.specs.declared.{OutPoint.OutPoint}
 use Rattle.out_points.specs.OutPoints.{point_of, points}
-use Rattle.pick_kinds.specs.declared.{Kind.Kind, Picks.Picks, Indexed.Indexed}
+use Rattle.pick_kinds.specs.declared.{Kind.Kind, Picks.Picks}
 use Rattle.pick_kinds.specs.Kinds.{is_among, Kinds}
-use Rattle.pick_kinds.specs.Indexed.{AllWhole, Places}
+use Rattle.pick_kinds.specs.Indexed.{AllWhole}
 
 -- p is on a cell that is held, or spent
 abbrev pub among_of : Picks → OutPoint → Bool
@@ -17,7 +17,3 @@ KindsOf p n kinds = Kinds (among_of p) (point_of p.picked.now) n kinds
 -- all three lists have their items whole
 abbrev pub AreWhole : Picks → Type 0
 AreWhole p = AllWhole p.cells.now p.picked.now p.spent.now
-
--- the places are the index of the first picks
-abbrev pub IsIndexed : Indexed → Type 0
-IsIndexed x = Places x.picks.cells.now x.picks.picked.now x.picks.spent.now x.places.now

@@ -6,8 +6,8 @@ ghost use Rattle.std.specs.Prelude.{◌≡◌, true, ◌≤◌, ◌<◌, min, le
 ghost use Rattle.molecule.specs.Layout.{fix_count};
 ghost use Rattle.out_points.specs.OutPoints.{point_of, points};
 ghost use Rattle.pick_kinds.specs.Kinds.{none_is, kind_of, Kinds};
-ghost use Rattle.pick_kinds.specs.Indexed.{Whole, First, Adds};
-ghost use Rattle.pick_kinds.specs.Picks.{KindsOf, AreWhole, IsIndexed};
+ghost use Rattle.pick_kinds.specs.Indexed.{Whole, Places, First, Adds};
+ghost use Rattle.pick_kinds.specs.Picks.{KindsOf, AreWhole};
 
 use item_index::Keys;
 
@@ -41,6 +41,7 @@ pub struct Picks<'a> {
 struct Indexed<'a> {
     picks: Picks<'a>,
     places: &'a [u32],
+    ghost are_places: { Places picks.cells.now picks.picked.now picks.spent.now places.now },
 }
 
 // Whether the list has all its items whole.
@@ -53,7 +54,6 @@ fn is_whole(s: &[u8]) -> bool
 impl<'a> Indexed<'a> {
     // The first pick that is item k of the list.
     fn find(self, list: &[u8], k: usize) -> Option<usize>
-        requires indexed { IsIndexed self }
         requires whole { Whole list.now }
         requires k_bound { k < fix_count list.now }
         ensures { First (point_of self.entry.picks.picked.now) (length self.entry.places.now) (point_of list.now k) result }
@@ -68,7 +68,6 @@ impl<'a> Indexed<'a> {
 
     // What pick i is where nothing is busy.
     fn kind(self, i: usize) -> Kind
-        requires indexed { IsIndexed self }
         requires i_bound { i < length self.places.now }
         ensures { result ≡ kind_of none_is (point_of self.entry.picks.picked.now) i }
     {
@@ -77,7 +76,6 @@ impl<'a> Indexed<'a> {
     }
 
     fn set_kinds(self, kinds: &mut [Kind])
-        requires indexed { IsIndexed self }
         requires in_bounds { length self.places.now ≤ length kinds.old }
         ensures { Kinds none_is (point_of self.entry.picks.picked.now) (length self.entry.places.now) kinds.new }
     {
@@ -88,7 +86,6 @@ impl<'a> Indexed<'a> {
 
     // The list's cells are busy too.
     fn mark_busy(self, list: &[u8], kinds: &mut [Kind])
-        requires indexed { IsIndexed self }
         requires whole { Whole list.now }
         requires in_bounds { length self.places.now ≤ length kinds.old }
         ensures after { Adds (point_of self.entry.picks.picked.now) (length self.entry.places.now) (points list.now) kinds.old kinds.new }
@@ -104,7 +101,6 @@ impl<'a> Indexed<'a> {
 
     // Puts the kinds of the indexed picks.
     fn put_kinds(self, kinds: &mut [Kind])
-        requires indexed { IsIndexed self }
         requires in_bounds { length self.places.now ≤ length kinds.old }
         ensures { KindsOf self.entry.picks (length self.entry.places.now) kinds.new }
     {

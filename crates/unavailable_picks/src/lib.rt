@@ -8,10 +8,10 @@ ghost use Rattle.out_points.specs.OutPoints.{slot_of, point_of, points, bytes_of
 ghost use Rattle.out_points.specs.Tables.{has_room};
 ghost use Rattle.hold_records.specs.Holds.{records_of, is_busy, firsts};
 ghost use Rattle.hold_records.specs.Rules.{put_if};
-ghost use Rattle.pick_kinds.specs.Kinds.{kind_of};
+ghost use Rattle.pick_kinds.specs.Kinds.{kind_of, Kinds};
 ghost use Rattle.pick_kinds.specs.Picks.{among_of, KindsOf};
-ghost use Rattle.unavailable_picks.specs.Unavailable.{marked, is_first};
-ghost use Rattle.unavailable_picks.specs.Picks.{AreMarked, AreKnown, named_of};
+ghost use Rattle.unavailable_picks.specs.Unavailable.{marked, Marks, is_first};
+ghost use Rattle.unavailable_picks.specs.Picks.{named_of};
 
 use hold_records::{Held, MOST_RECORDS};
 use molecule::write;
@@ -57,6 +57,7 @@ fn mark_both(picks: Picks<'_>, marks: &mut [u8])
 struct Marked<'a> {
     picks: Picks<'a>,
     marks: &'a [u8],
+    ghost are_marks: { Marks (points picks.cells.now) (points picks.spent.now) marks.now },
 }
 
 // The same, with the kinds of the first picks, which have been sorted out: the others are looked up.
@@ -64,12 +65,12 @@ struct Marked<'a> {
 struct Known<'a> {
     marked: Marked<'a>,
     kinds: &'a [Kind],
+    ghost are_kinds: { Kinds (among_of marked.picks) (point_of marked.picks.picked.now) (length kinds.now) kinds.now },
 }
 
 impl<'a> Marked<'a> {
     // Whether p is one of the cells, which are held, or spent. Where its mark is not set, nothing is searched.
     fn is_busy(self, p: OutPoint) -> bool
-        requires { AreMarked self }
         ensures { result ≡ among_of self.entry.picks p }
     {
         self.marks[out_points::slot(p)] != 0
@@ -80,7 +81,6 @@ impl<'a> Marked<'a> {
     // What pick i is, looked up.
     fn kind_at(self, i: usize) -> Kind
         requires i_bound { i < fix_count self.picks.picked.now }
-        requires marked { AreMarked self }
         ensures { result ≡ kind_of (among_of self.entry.picks) (point_of self.entry.picks.picked.now) i }
     {
         let p = out_points::point_of(self.picks.picked, i);
@@ -95,7 +95,6 @@ impl<'a> Marked<'a> {
 
     // Puts what the picks from `from` on are, as far as kinds goes.
     fn look_up_from(self, from: usize, kinds: &mut [Kind])
-        requires marked { AreMarked self }
         requires known { KindsOf self.picks from kinds.old }
         ensures { KindsOf self.entry.picks (min (fix_count self.entry.picks.picked.now) (length kinds.new)) kinds.new }
     {
@@ -110,7 +109,6 @@ impl<'a> Marked<'a> {
     // Whether pick i is busy, and no pick before it is the same: both are looked up.
     fn look_up(self, i: usize) -> bool
         requires i_bound { i < fix_count self.picks.picked.now }
-        requires marked { AreMarked self }
         ensures { result ≡ is_first (among_of self.entry.picks) (point_of self.entry.picks.picked.now) i }
     {
         let p = out_points::point_of(self.picks.picked, i);
@@ -119,7 +117,6 @@ impl<'a> Marked<'a> {
 
     // Puts the list of the busy picks by an index of the picks.
     fn index_busy(self, out: &mut [u8]) -> bool
-        requires { AreMarked self }
         ensures value { result ≡ has_room (named_of self.entry.picks) out.old }
         ensures out_after { out.new ≡ put_if (named_of self.entry.picks) out.old }
     {
@@ -134,7 +131,6 @@ impl<'a> Marked<'a> {
 
     // The same. A few picks are looked up one by one.
     fn put_among(self, out: &mut [u8]) -> bool
-        requires { AreMarked self }
         ensures value { result ≡ has_room (named_of self.entry.picks) out.old }
         ensures out_after { out.new ≡ put_if (named_of self.entry.picks) out.old }
     {
@@ -153,7 +149,6 @@ impl<'a> Known<'a> {
     // Whether pick i is busy, and no pick before it is the same.
     fn is_first(self, i: usize) -> bool
         requires i_bound { i < fix_count self.marked.picks.picked.now }
-        requires known { AreKnown self }
         ensures { result ≡ is_first (among_of self.entry.marked.picks) (point_of self.entry.marked.picks.picked.now) i }
     {
         if i < self.kinds.len() {
@@ -164,7 +159,6 @@ impl<'a> Known<'a> {
 
     // How many picks are busy, each counted once.
     fn count_busy(self) -> u32
-        requires { AreKnown self }
         ensures { result ≡ length (named_of self.entry.marked.picks) }
     {
         let mut count: u32 = 0;
@@ -178,7 +172,6 @@ impl<'a> Known<'a> {
 
     // Puts those picks, one after the other from `at` on.
     fn put_busy(self, out: &mut [u8], at: usize) -> usize
-        requires known { AreKnown self }
         requires in_bounds { at + 36 * length (named_of self.marked.picks) ≤ length out.old }
         ensures { Put out.old at (bytes_of (named_of self.entry.marked.picks)) out.new result }
     {
@@ -194,7 +187,6 @@ impl<'a> Known<'a> {
 
     // Puts the list of the busy picks at the start of out, and answers whether there is room for all of it: else it puts nothing.
     fn put_list(self, out: &mut [u8]) -> bool
-        requires { AreKnown self }
         ensures value { result ≡ has_room (named_of self.entry.marked.picks) out.old }
         ensures out_after { out.new ≡ put_if (named_of self.entry.marked.picks) out.old }
     {
