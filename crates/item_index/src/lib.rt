@@ -1,6 +1,6 @@
 // An index over a list of items of one size: the places of its items, in the order of the items' bytes. Places are sorted by merging, in room that the caller
 // lends, and an item is looked up by halves, so that the time goes by n log n comparisons whatever the bytes.
-#![tactic(auto)]
+#![tactic(auto, using(crate::proofs::Ways::ways))]
 
 pub mod ordering;
 

@@ -20,7 +20,7 @@ use Rattle.hold_records.specs.Holds.{records_of, cells_of, is_busy, firsts}
 use Rattle.pick_kinds.specs.declared.{Kind.Kind}
 use Rattle.pick_kinds.specs.Kinds.{is_among, kind_of, Kinds}
 use Rattle.pick_kinds.proofs.KindLaws.{kinds_none, kind_put}
-use Rattle.unavailable_picks.specs.Unavailable.{Marks, Looked, is_first, select, named}
+use Rattle.unavailable_picks.specs.Unavailable.{is_first, select, named}
 use Rattle.out_points.specs.Tables.{has_room}
 use Rattle.hold_records.specs.Rules.{put_if}
 use Rattle.hold_records.proofs.WriteLaws.{Listing, list_start, list_more, list_end, list_long, room_no, room_yes, put_no, put_yes, list_put}
@@ -67,31 +67,21 @@ module _ (f : OutPoint → Bool) (g : ℕ → OutPoint) (i : ℕ) {p : OutPoint}
 abbrev is-busy : Kind → Bool
 is-busy k = sameb the_type k Kind.Busy
 
-module _ {cells picked spent marks : List ℕ} {kinds : List Kind} (k : Looked cells picked spent marks kinds) where
-  pub looked_marks : Marks (points cells) (points spent) marks
-  looked_marks = k.marks_are
+pub busy_is : {f : OutPoint → Bool} {g : ℕ → OutPoint} {kinds : List Kind} → Kinds f g (length kinds) kinds → (i : ℕ) → i < length kinds → is-busy (get_or kinds i Kind.Again) ≡ is_first f g i
+unfolding is_first kind_of
+busy_is {f} {g} k i l = ap is-busy (k.each i l) ∙ by (has (g i) (span g 0 i)) (f (g i))
+  where
+    by : (b c : Bool) → is-busy (cond b Kind.Again (cond c Kind.Busy Kind.Free)) ≡ cond c (not b) false
+    by true true = refl
+    by true false = refl
+    by false true = refl
+    by false false = refl
 
-  pub looked_is : (i : ℕ) → i < length kinds → is-busy (get_or kinds i Kind.Again) ≡ is_first (is_among (points cells) (points spent)) (point_of picked) i
-  unfolding is_first kind_of
-  looked_is i l =
-      ap is-busy (k.kinds_are.each i l)
-      ∙ by (has (point_of picked i) (span (point_of picked) 0 i)) (is_among (points cells) (points spent) (point_of picked i))
-    where
-      by : (b c : Bool) → is-busy (cond b Kind.Again (cond c Kind.Busy Kind.Free)) ≡ cond c (not b) false
-      by true true = refl
-      by true false = refl
-      by false true = refl
-      by false false = refl
-
-pub looked_so : {cells picked spent marks : List ℕ} {kinds : List Kind} {known : ℕ} → Marks (points cells) (points spent) marks
-    → Kinds (is_among (points cells) (points spent)) (point_of picked) known kinds → Looked cells picked spent marks (take known kinds)
-looked_so {kinds = kinds} {known = known} m k =
+-- those that were sorted out
+pub kinds_front : {f : OutPoint → Bool} {g : ℕ → OutPoint} {kinds : List Kind} {known : ℕ} → Kinds f g known kinds → Kinds f g (length (take known kinds)) (take known kinds)
+kinds_front {kinds = kinds} {known = known} k =
     let z : length (take known kinds) ≡ known = length-take-le known kinds k.room in
-    record { marks_are = m; kinds_are = record { room = omega arith; each = λ i l. get_or-take known kinds i Kind.Again (omega arith) ∙ k.each i (omega arith) } }
-
--- nothing was sorted out
-pub looked_none : {cells picked spent marks : List ℕ} → Marks (points cells) (points spent) marks → Looked cells picked spent marks []
-looked_none {cells} {picked} {spent} m = record { marks_are = m; kinds_are = kinds_none (is_among (points cells) (points spent)) (point_of picked) [] }
+    record { room = omega arith; each = λ i l. get_or-take known kinds i Kind.Again (omega arith) ∙ k.each i (omega arith) }
 
 pub pick-below : {n m i : ℕ} → n ≡ m → i < n → i < m
 pick-below e l = omega arith
