@@ -19,7 +19,7 @@ use Rattle.hold_records.specs.declared.{Held.Held}
 use Rattle.hold_records.specs.Holds.{records_of, cells_of, is_busy, firsts}
 use Rattle.pick_kinds.specs.declared.{Kind.Kind}
 use Rattle.pick_kinds.specs.Kinds.{is_among, kind_of, Kinds}
-use Rattle.pick_kinds.proofs.KindLaws.{kinds_none, kind_put}
+use Rattle.pick_kinds.proofs.KindLaws.{kind_put}
 use Rattle.unavailable_picks.specs.Unavailable.{is_first, select, named}
 use Rattle.out_points.specs.Tables.{has_room}
 use Rattle.hold_records.specs.Rules.{put_if}

@@ -2,7 +2,7 @@
 use Rattle.std.specs.Prelude.{◌≡◌, ℕ, zero, suc, Bool, false, not, cond, List, [], ◌∷◌, length, get_or, set}
 use Rattle.molecule.specs.Layout.{span}
 use Rattle.out_points.specs.declared.{OutPoint.OutPoint}
-use Rattle.out_points.specs.OutPoints.{slot_of, has, point_of, points}
+use Rattle.out_points.specs.OutPoints.{slot_of, has, points}
 use Rattle.hold_records.specs.Holds.{firsts}
 use Rattle.pick_kinds.specs.Kinds.{is_among}
 

@@ -3,9 +3,6 @@ use Rattle.picks.proofs.TakenLaws.{both-room, left_is}
 use Rattle.picks.proofs.Ways.{ways}
 use Rattle.picks.proofs.Sorted.take.Goals as goal
 
-pub overflow_sub-rest : goal.overflow_sub-rest
-overflow_sub-rest c = search ways
-
 pub returns-then-not-both_fit-clause-refused_after : goal.returns-then-not-both_fit-clause-refused_after
 returns-then-not-both_fit-clause-refused_after c = λ h. search ways
 

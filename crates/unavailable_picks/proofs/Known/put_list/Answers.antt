@@ -1,8 +1,5 @@
 use Rattle.unavailable_picks.proofs.Ways.{ways}
 use Rattle.unavailable_picks.proofs.Known.put_list.Goals as goal
 
-pub put_busy-requires : goal.put_busy-requires
-put_busy-requires c = search ways
-
 pub returns-clause-out_after : goal.returns-clause-out_after
 returns-clause-out_after c = search ways
