@@ -15,7 +15,7 @@ use Rattle.molecule.specs.Layout.{span, fix_count}
 use Rattle.lists.proofs.EqualLaws.{not_so}
 use Rattle.out_points.specs.declared.{OutPoint.OutPoint}
 use Rattle.out_points.specs.OutPoints.{eq_point, has, point_of, points}
-use Rattle.out_points.proofs.EqualLaws.{point-same, point_refl, has_last}
+use Rattle.out_points.proofs.EqualLaws.{point-same, point_refl, flip, has_last}
 use Rattle.item_index.proofs.OrderLaws.{three}
 use Rattle.pick_kinds.specs.declared.{Kind.Kind}
 use Rattle.pick_kinds.specs.Kinds.{is_among, none_is, kind_of, Kinds}
@@ -42,10 +42,6 @@ has_one q g (suc i) j l e = has_last q g 0 i ∙ both (λ m. has_one q g i j m e
         (λ m. rw (earlier m))
         (λ m. by (has q (span g 0 i)) (ap (λ (v : ℕ). eq_point q (g v)) (zero-add i ∙ sym m) ∙ e))
         (λ m. absurd (omega arith))
-
-flip : (p q : OutPoint) (b : Bool) → eq_point p q ≡ b → eq_point q p ≡ b
-flip p q true e = ap (λ (x : OutPoint). eq_point q x) (point-same p q e) ∙ point_refl q
-flip p q false e = not_so (eq_point q p) (λ h. false≢true (sym e ∙ ap (λ (x : OutPoint). eq_point p x) (point-same q p h) ∙ point_refl p))
 
 -- ---- a pick by itself
 
