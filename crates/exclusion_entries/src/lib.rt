@@ -95,7 +95,7 @@ pub fn has_hash(x: &[u8], hash: Byte32) -> bool
     ensures { result ≡ has_hash hash (entry_of x.now) }
 {
     little_endian::u64_at(x, 0) == hash.a
-        && out_points::same_hash(out_points::byte32_at(x, 0), hash)
+        && out_points::byte32_at(x, 0) == hash
 }
 
 // Whether it is pending, or was committed after what `truncate` drops at this tip.

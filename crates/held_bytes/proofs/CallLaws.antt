@@ -1,5 +1,5 @@
 -- The calls on a lent table: one law for each way out.
-use mathlib.Core.Path.{◌≡◌, refl, sym, ap, ◌∙◌}
+use mathlib.Core.Path.{◌≡◌, refl, ◌∙◌}
 use Prim.Native.Nat.{ℕ, ◌≤◌}
 use native.Mathlib.Omega.{arith}
 use mathlib.Core.Bool.{Bool, true, false}
@@ -12,9 +12,9 @@ use Rattle.molecule.specs.Write.{put_at}
 use Rattle.out_points.specs.Tables.{keep, Outcome, told, has_room}
 use Rattle.hold_records.specs.declared.{Hold.Hold, Held.Held, Rule.Rule, Taker.Taker}
 use Rattle.hold_records.specs.Rules.{is_kept, put_if}
-use Rattle.hold_records.specs.Holds.{records_of, outcome_on, cells_of, hold_funding, release_for_watchtower, hold_for_watchtower, lock_held, unavailable, take_cells}
-use Rattle.table_bytes.specs.Lent.{After, leaving, lent_table, lent_with, lent_with_two, lent_read, with_bytes}
-use Rattle.table_bytes.proofs.LentLaws.{lent_is, with_is, two_is, only-is, leave_done, leave_refused}
+use Rattle.hold_records.specs.Holds.{records_of, outcome_on, cells_of, lock_held, unavailable, take_cells}
+use Rattle.table_bytes.specs.Lent.{After, leaving, lent_with, lent_with_two, lent_read, with_bytes}
+use Rattle.table_bytes.proofs.LentLaws.{with_is, two_is, only-is, leave_done, leave_refused}
 use Rattle.held_cells.proofs.CallLaws.{lock_short, lock-done}
 use Rattle.held_bytes.specs.HeldBytes.{held_size, held_of, held_at, held_bytes}
 
@@ -31,15 +31,6 @@ module _ (s : List ℕ) (h : Held) where
 module _ (s : List ℕ) (r : Result Held Refusal) {h : Held} (l : length s ≡ held_size) (e : h ≡ held_of s) where
   abbrev before : Outcome Held (List Hold)
   before = outcome_on (held_of s) r
-
-  pub hold-call : (holder : ℕ) (cells : List ℕ) {a : After (List Hold)} → outcome_on h r ≡ hold_funding h holder cells → a ≡ leaving held_bytes s before → a ≡ lent_table held_bytes held_size s (hold_funding (held_of s) holder cells)
-  hold-call holder cells k b = lent_is held_bytes held_size s (hold_funding (held_of s) holder cells) l (b ∙ ap (leaving held_bytes s) (ap (λ (x : Held). outcome_on x r) (sym e) ∙ k ∙ rw e))
-
-  pub release-call : (cells : List ℕ) {a : After (List Hold)} → outcome_on h r ≡ release_for_watchtower h cells → a ≡ leaving held_bytes s before → a ≡ lent_table held_bytes held_size s (release_for_watchtower (held_of s) cells)
-  release-call cells k b = lent_is held_bytes held_size s (release_for_watchtower (held_of s) cells) l (b ∙ ap (leaving held_bytes s) (ap (λ (x : Held). outcome_on x r) (sym e) ∙ k ∙ rw e))
-
-  pub watch-call : (cells : List ℕ) (time : Millis) {a : After (List Hold)} → outcome_on h r ≡ hold_for_watchtower h cells time → a ≡ leaving held_bytes s before → a ≡ lent_table held_bytes held_size s (hold_for_watchtower (held_of s) cells time)
-  watch-call cells time k b = lent_is held_bytes held_size s (hold_for_watchtower (held_of s) cells time) l (b ∙ ap (leaving held_bytes s) (ap (λ (x : Held). outcome_on x r) (sym e) ∙ k ∙ rw e))
 
   pub take-call : (picked spent : List ℕ) (taker : Taker) (time : Millis) (out₁ out₂ : List ℕ) {a : After (List Hold)} {b₁ b₂ : List ℕ} → (outcome_on h r, b₁, b₂) ≡ take_cells h picked spent taker time out₁ out₂
       → a ≡ leaving held_bytes s before → (a, b₁, b₂) ≡ lent_with_two held_bytes held_size s out₁ out₂ (take_cells (held_of s) picked spent taker time out₁ out₂)

@@ -1,7 +1,9 @@
-// The calls on a lent table of holds. A table of another length is refused before all else, and a refusal leaves its bytes and the buffers as they were.
-ghost use Rattle.std.specs.Prelude.{◌≡◌, length};
+// The calls on a lent table of holds. A table of another length is refused before all else, and a refusal leaves its bytes and the buffers as they were. Parameters
+// stand one by one, as in the C functions of the calls: a struct would be made there for each single call.
+ghost use Rattle.std.specs.Prelude.{◌≡◌, List, length};
 ghost use Rattle.error.specs.Refusal.{answered};
-ghost use Rattle.out_points.specs.Tables.{told};
+ghost use Rattle.out_points.specs.Tables.{Outcome, told};
+ghost use Rattle.hold_records.specs.declared.{Hold.Hold, Held.Held};
 ghost use Rattle.hold_records.specs.Holds.{outcome_on, hold_funding, release_for_watchtower, hold_for_watchtower, lock_held, unavailable, take_cells};
 ghost use Rattle.table_bytes.specs.Lent.{leaving, lent_table, lent_with, lent_with_two, lent_read, with_bytes};
 ghost use Rattle.held_bytes.specs.HeldBytes.{held_size, held_of, held_at, held_bytes};
@@ -21,40 +23,40 @@ fn leave(s: &mut [u8], r: Result<Held, Refusal>) -> Answer
     Ok(())
 }
 
+// Makes a call on the lent table, by value.
+fn on_table<F: FnOnce(Held) -> Result<Held, Refusal>>(s: &mut [u8], call: F) -> Answer
+    requires { F.IsAlwaysCallable call }
+    ensures { (o : Outcome Held (List Hold)) → ((r : _) → F.post call (held_of s.old) r → outcome_on (held_of s.old) r ≡ o) → told (with_bytes held_at) result s.new ≡ lent_table held_bytes held_size s.old o }
+{
+    if s.len() != HELD_BYTES {
+        return Err(Refusal::LentBytesUnreadable);
+    }
+    let r = call(crate::read_held(s));
+    leave(s, r)
+}
+
 // The funding inputs that `holder` holds now, in place of the ones that it held before.
 pub fn hold_funding(held: &mut [u8], holder: u64, cells: &[u8]) -> Answer
     ensures { told (with_bytes held_at) result held.new ≡ lent_table held_bytes held_size held.old (hold_funding (held_of held.old) holder cells.now) }
 {
-    if held.len() != HELD_BYTES {
-        return Err(Refusal::LentBytesUnreadable);
-    }
-    let h = crate::read_held(held);
-    let r = held_cells::hold_funding(h, holder, cells);
-    leave(held, r)
+    on_table(held, |h| held_cells::hold_funding(h, holder, cells))
 }
 
 // The cells of a transaction that the watchtower sent are held from `time` on.
 pub fn hold_for_watchtower(held: &mut [u8], cells: &[u8], time: Millis) -> Answer
     ensures { told (with_bytes held_at) result held.new ≡ lent_table held_bytes held_size held.old (hold_for_watchtower (held_of held.old) cells.now time) }
 {
-    if held.len() != HELD_BYTES {
-        return Err(Refusal::LentBytesUnreadable);
-    }
-    let h = crate::read_held(held);
-    let r = watchtower_holds::hold_for_watchtower(h, cells, time);
-    leave(held, r)
+    on_table(
+        held,
+        |h| watchtower_holds::hold_for_watchtower(h, cells, time),
+    )
 }
 
 // The cells of a transaction that the watchtower could not send are free again.
 pub fn release_for_watchtower(held: &mut [u8], cells: &[u8]) -> Answer
     ensures { told (with_bytes held_at) result held.new ≡ lent_table held_bytes held_size held.old (release_for_watchtower (held_of held.old) cells.now) }
 {
-    if held.len() != HELD_BYTES {
-        return Err(Refusal::LentBytesUnreadable);
-    }
-    let h = crate::read_held(held);
-    let r = watchtower_holds::release_for_watchtower(h, cells);
-    leave(held, r)
+    on_table(held, |h| watchtower_holds::release_for_watchtower(h, cells))
 }
 
 // Writes every cell that is held at `time`; watchtower records that have ended are dropped.

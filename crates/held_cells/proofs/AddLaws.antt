@@ -22,7 +22,7 @@ pub record Adding (hold : OutPoint → Hold) (s : List ℕ) (h g : Held) (n i : 
   pub long : length g.records ≡ 256
   pub added : records_of g ++ map hold (span (point_of s) i (n - i)) ≡ records_of h ++ map hold (points s)
 
-pub add_none : (hold : OutPoint → Hold) (s : List ℕ) (h : Held) {n : ℕ} → h.count + n ≤ 256 → n ≡ fix_count s → length h.records ≡ 256 → Adding hold s h h n 0
+pub add_none : (hold : OutPoint → Hold) (s : List ℕ) (h : Held) {n : ℕ} → h.count + fix_count s ≤ 256 → n ≡ fix_count s → length h.records ≡ 256 → Adding hold s h h n 0
 add_none hold s h {n} r e l = record {
   within = omega arith;
   room = omega arith;

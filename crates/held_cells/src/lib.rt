@@ -1,5 +1,6 @@
 // The node's own cells that a transaction of its own spends before it is committed: the table goes in by value and comes back by value, and the
-// caller of a refused call still has the very table that it lent.
+// caller of a refused call still has the very table that it lent. Parameters stand one by one, as in the C functions of the calls: a struct would be made there for
+// each single call.
 #![tactic(auto, using(crate::proofs::Ways::ways))]
 
 ghost use Rattle.std.specs.Prelude.{◌≡◌, ◌++◌, map, ◌+◌, ◌-◌, ◌<◌, ◌≤◌, IfOk};
@@ -17,14 +18,14 @@ use units::Millis;
 // How long a cell that the watchtower took stays held while its transaction is built and sent.
 pub const WATCHTOWER_PICK_HOLD_MS: u64 = 60_000;
 
-// The table with a funding record last for each of the n cells.
-fn append(h: Held, holder: u64, cells: &[u8], n: usize) -> Held
-    requires { (h.count + n ≤ 256) × (n ≡ fix_count cells.now) }
+// The table with a funding record last for each of the cells.
+fn append(h: Held, holder: u64, cells: &[u8]) -> Held
+    requires { h.count + fix_count cells.now ≤ 256 }
     ensures result_value { records_of result ≡ records_of h ++ map (held_by (Owner.Funding holder)) (points cells.now) }
     ensures count_bound { result.count ≤ 256 }
 {
     let mut g = h;
-    for i in 0..n {
+    for i in 0..molecule::fix_count(cells) as usize {
         let point = out_points::point_of(cells, i);
         let owner = Owner::Funding(holder);
         let last = g.count;
@@ -60,7 +61,7 @@ pub fn hold_funding(held: Held, holder: u64, cells: &[u8]) -> Result<Held, Refus
     if MOST_RECORDS - count < n {
         return Err(Refusal::TooManyHolds);
     }
-    Ok(append(rest, holder, cells, n))
+    Ok(append(rest, holder, cells))
 }
 
 // Every cell that is held, for a collector to pick none of them. The watchtower's cells past their hold are let go first.

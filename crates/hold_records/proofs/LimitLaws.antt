@@ -7,12 +7,9 @@ use Rattle.std.proofs.Common.{Ok, Err}
 use lib.ListN.{length}
 use Rattle.error.specs.declared.{Refusal.Refusal}
 use Rattle.error.specs.Refusal.{number}
-use Rattle.out_points.specs.Tables.{Outcome, done, refused}
+use Rattle.out_points.specs.Tables.{done, refused}
 use Rattle.hold_records.specs.declared.{Hold.Hold, Held.Held}
 use Rattle.hold_records.specs.Holds.{records_of, at_most_256, outcome_on}
-
-abbrev pub After : Type 0
-After = Outcome Held (List Hold)
 
 pub over : (h : Held) (l : List Hold) → 256 < length l → at_most_256 h l ≡ refused 14 h
 unfolding at_most_256

@@ -36,8 +36,8 @@ pub enum Taker {
     Watchtower,
 }
 
-// The first `count` records stand; where `count` is beyond the array, all of it. No ==: what is behind them is of no account.
-#[derive(Clone, Copy)]
+// The first `count` records stand; where `count` is beyond the array, all of it. No ==: one that is derived would tell tables apart by what is behind those.
+#[derive(Clone, Copy, Debug)]
 pub struct Held {
     pub records: [Hold; 256],
     pub count: usize,

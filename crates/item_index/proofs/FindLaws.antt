@@ -11,7 +11,7 @@ use lib.ListN.{length, get_or, take}
 use Rattle.std.proofs.Common.{length-take-le, not}
 use Rattle.std.proofs.lemmas.List.{get_or-take}
 use Rattle.std.specs.Option.{option_eq}
-use Rattle.std.specs.Prelude.{nat_eq, Option, Some, None, Result, Ok, Err, unwrap_or}
+use Rattle.std.specs.Prelude.{nat_eq, Some, None, Result, Ok, Err, unwrap_or}
 use Rattle.std.specs.declared.cmp.Ordering.{Ordering}
 use Rattle.std.specs.Ordering.{is_lt, ordering_index}
 use Rattle.std.specs.Result.{is_ok, MatchResult}
@@ -270,18 +270,9 @@ module _ (f : ℕ → List ℕ) (s x : List ℕ) (o : Index f (length s) s) {at 
 
 -- ---- the ways out of the functions that are lent an index of the first n
 
-pub search_short : (f : ℕ → List ℕ) (s x : List ℕ) (n : ℕ) → length s < n → Index f n s → false ≡ contains x (span f 0 n)
-search_short f s x n h o = absurd (let r = o.room in omega arith)
-
-pub place_short : (f : ℕ → List ℕ) (s x : List ℕ) (n : ℕ) → length s < n → Index f n s → n ≡ place_in x (span f 0 n)
-place_short f s x n h o = absurd (let r = o.room in omega arith)
-
 module _ (f : ℕ → List ℕ) (s x : List ℕ) (n : ℕ) (o : Index f n s) where
   whole_of : length (take n s) ≡ n
   whole_of = length-take-le n s o.room
 
   pub search_front : {r : Bool} → (Index f (length (take n s)) (take n s) → r ≡ contains x (span f 0 (length (take n s)))) → r ≡ contains x (span f 0 n)
   search_front h = rw whole_of at (h (index_front o))
-
-  pub place_front : {r : Option ℕ} {p : ℕ} → (Index f (length (take n s)) (take n s) → r ≡ position (eq_bytes x) (span f 0 (length (take n s)))) → p ≡ unwrap_or r n → p ≡ place_in x (span f 0 n)
-  place_front {r} h e = e ∙ ap (λ (t : Option ℕ). unwrap_or t n) (rw whole_of at (h (index_front o))) ∙ place_of_position x (span f 0 n) n (span-length f 0 n)

@@ -1,13 +1,13 @@
 // An index over a list of items of one size: the places of its items, in the order of the items' bytes. Places are sorted by merging, in room that the caller
 // lends, and an item is looked up by halves, so that the time goes by n log n comparisons whatever the bytes.
-#![tactic(auto)]
+#![tactic(auto, using(crate::proofs::Ways::ways))]
 
 pub mod ordering;
 
 ghost use Rattle.std.specs.Prelude.{◌≡◌, ◌+◌, ◌^◌, ◌≤◌, ◌<◌, ◌++◌, length, position, IsPermutation};
 ghost use Rattle.molecule.specs.Layout.{span};
 ghost use Rattle.lists.specs.Lists.{eq_bytes, contains};
-ghost use Rattle.item_index.specs.Index.{key_of, comes, place_in, Rises, Index, Counts};
+ghost use Rattle.item_index.specs.Index.{comes, Rises, Index, Counts};
 ghost use Rattle.item_index.specs.Keys.{keys_of};
 ghost use Rattle.item_index.specs.Order.{order_of};
 
@@ -93,7 +93,7 @@ impl<'a> Keys<'a> {
         if s.len() < m || t.len() < m {
             return;
         }
-        number(&mut s[..m]);
+        count_up(&mut s[..m]);
         self.sort(&mut s[..m], &mut t[..m]);
     }
 
@@ -129,55 +129,11 @@ impl<'a> Keys<'a> {
 }
 
 // Puts 0, 1 and so on.
-fn number(s: &mut [u32])
+fn count_up(s: &mut [u32])
     requires { length s.old < 2 ^ 32 }
     ensures { Counts (length s.new) s.new }
 {
     for (i, place) in s.iter_mut().enumerate() {
         *place = i as u32;
     }
-}
-
-// The same of the items of k bytes in b, by what stands from `skip` on.
-pub fn build(b: &[u8], k: u32, skip: usize, n: u32, s: &mut [u32], t: &mut [u32])
-    ensures { n ≤ length s.old → n ≤ length t.old → Index (key_of b.now k skip) n s.new }
-{
-    let keys = Keys {
-        items: b,
-        size: k,
-        skip,
-    };
-    keys.build(n, s, t)
-}
-
-// The first place at which x stands among the first n items, and n where it stands nowhere, if s is their index.
-pub fn place_of(b: &[u8], k: u32, skip: usize, s: &[u32], n: u32, x: &[u8]) -> usize
-    ensures { Index (key_of b.now k skip) n s.now → result ≡ place_in x.now (span (key_of b.now k skip) 0 n) }
-{
-    let m = n as usize;
-    if s.len() < m {
-        return m;
-    }
-    let keys = Keys {
-        items: b,
-        size: k,
-        skip,
-    };
-    keys.place_of(&s[..m], x).unwrap_or(m)
-}
-
-// Whether x stands among the first n items, if s is their index.
-pub fn has(b: &[u8], k: u32, skip: usize, s: &[u32], n: u32, x: &[u8]) -> bool
-    ensures { Index (key_of b.now k skip) n s.now → result ≡ contains x.now (span (key_of b.now k skip) 0 n) }
-{
-    let m = n as usize;
-    if s.len() < m {
-        return false;
-    }
-    let keys = Keys {
-        items: b,
-        size: k,
-        skip,
-    };
-    keys.has(&s[..m], x)
 }

@@ -1,7 +1,9 @@
 -- When two out points are the same: one law for each way out of the tests, and that the tests say equality.
 use Rattle.std.proofs.Common.{◌≡◌, ℕ, zero, suc, ◌+◌, ◌-◌, ◌*◌, ◌<◌, ◌≤◌, Bool, true, false, cond, ◌&&◌, eqb, List, take, drop, sym, refl, ap, ◌∙◌, arith, eq-eqb, eqb-true}
+use mathlib.Core.Bool.{false≢true}
 use Rattle.molecule.specs.Layout.{span, fix_count, fix_item}
 use Rattle.molecule.proofs.LayoutLaws.{fix_count_said}
+use Rattle.lists.proofs.EqualLaws.{not_so}
 use Rattle.lists.proofs.RunLaws.{item_run}
 use Rattle.lists.proofs.SpanLaws.{span-on, span-end, span-whole}
 use Rattle.out_points.specs.declared.{Byte32.Byte32, OutPoint.OutPoint}
@@ -58,6 +60,21 @@ point-same p q e =
 pub point_refl : (p : OutPoint) → eq_point p p ≡ true
 unfolding eq_point
 point_refl p = rw (eq-eqb p.index p.index refl, hash_refl p.hash)
+
+pub flip : (p q : OutPoint) (b : Bool) → eq_point p q ≡ b → eq_point q p ≡ b
+flip p q true e = ap (λ (x : OutPoint). eq_point q x) (point-same p q e) ∙ point_refl q
+flip p q false e = not_so (eq_point q p) (λ h. false≢true (sym e ∙ ap (λ (x : OutPoint). eq_point p x) (point-same q p h) ∙ point_refl p))
+
+-- `==` of out points, field by field
+pub points_are : (p q : OutPoint) {r : Bool} → r ≡ ((eqb p.hash.a q.hash.a && (eqb p.hash.b q.hash.b && (eqb p.hash.c q.hash.c && eqb p.hash.d q.hash.d))) && eqb p.index q.index) → r ≡ eq_point p q
+unfolding eq_point eq_hash
+points_are p q e = e ∙ turned (eq_hash p.hash q.hash) (eqb p.index q.index)
+  where
+    turned : (a b : Bool) → (a && b) ≡ (b && a)
+    turned true true = refl
+    turned true false = refl
+    turned false true = refl
+    turned false false = refl
 
 -- one more at the end of what stands before
 pub has_last : (q : OutPoint) (g : ℕ → OutPoint) (j i : ℕ) → has q (span g j (suc i)) ≡ cond (has q (span g j i)) true (eq_point q (g (j + i)))

@@ -6,7 +6,7 @@ ghost use Rattle.std.specs.Prelude.{◌≡◌, ◌+◌, ◌*◌, ◌<◌, ◌≤
 ghost use Rattle.arithmetic.specs.LittleEndian.{to_le};
 ghost use Rattle.molecule.specs.Layout.{span, fix_count};
 ghost use Rattle.molecule.specs.Write.{put_at, put_end, Put};
-ghost use Rattle.out_points.specs.OutPoints.{eq_hash, eq_point, slot_of, byte32_at, out_point_at, point_of, points, has, hash_bytes, point_bytes};
+ghost use Rattle.out_points.specs.OutPoints.{eq_point, slot_of, byte32_at, out_point_at, point_of, points, has, hash_bytes, point_bytes};
 
 use arithmetic::little_endian;
 use molecule::write;
@@ -27,20 +27,6 @@ pub struct Byte32 {
 pub struct OutPoint {
     pub hash: Byte32,
     pub index: u32,
-}
-
-// Whether the two are the same hash.
-pub fn same_hash(x: Byte32, y: Byte32) -> bool
-    ensures { result ≡ eq_hash x y }
-{
-    x == y
-}
-
-// Whether the two name the same output. Hashes tell most of them apart by their first word.
-pub fn same_point(p: OutPoint, q: OutPoint) -> bool
-    ensures { result ≡ eq_point p q }
-{
-    p == q
 }
 
 // How many slots there are for marks and hints by which a search is spared.
@@ -121,7 +107,7 @@ fn same_within(s: &[u8], i: usize, p: OutPoint) -> bool
     p.hash.a == little_endian::u64_at(x, 0) && p == out_point_at(x, 0)
 }
 
-// Whether p is among the first n items. Where the bytes end before the last of them, what is missing is read as zeros.
+// Whether p is among the first n items, which no slice of their own has: they stand in Molecule bytes, which may go on behind them or end before the last. Where the bytes end before the last of them, what is missing is read as zeros.
 fn has_among(s: &[u8], n: usize, p: OutPoint) -> bool
     requires { (n ≤ fix_count s.now) × (n < 4294967296) }
     ensures { result ≡ has p (span (point_of s.now) 0 n) }
@@ -135,14 +121,14 @@ fn has_among(s: &[u8], n: usize, p: OutPoint) -> bool
         return false;
     }
     for j in 0..n {
-        if same_point(p, point_of(s, j)) {
+        if p == point_of(s, j) {
             return true;
         }
     }
     false
 }
 
-// Whether p is among the first n items of the lent list, or among all where it has fewer.
+// Whether p is among the first n items of the lent list, or among all where it has fewer; n as in `has_among`.
 pub fn has_before(s: &[u8], n: usize, p: OutPoint) -> bool
     ensures { result ≡ has p (span (point_of s.now) 0 (min n (fix_count s.now))) }
 {

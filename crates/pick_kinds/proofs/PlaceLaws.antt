@@ -2,10 +2,18 @@
 use mathlib.Core.Path.{◌≡◌, refl, sym, ap, ap₂, ◌∙◌}
 use Prim.Native.Nat.{ℕ, zero, suc, ◌+◌, ◌*◌, ◌≤◌, ◌<◌}
 use mathlib.Core.Bool.{Bool, true, false, cond, false≢true}
-use mathlib.Core.List.{List}
+use mathlib.Core.List.{List, []}
 use native.Mathlib.Nat.{zero-add}
 use native.Mathlib.Omega.{arith}
-use lib.ListN.{length, drop, length-drop}
+use borrow.Author.Tests.{eqb-true, eqb-false, ne_eqb}
+use lib.Dec.{eqb}
+use lib.ListN.{length, drop, take, length-drop}
+use Rattle.std.proofs.Math.Logic.{∥∥₁_elim}
+use Rattle.std.proofs.Props.{props}
+use Rattle.std.specs.Option.{option_eq}
+use Rattle.std.specs.Prelude.{nat_eq, Option, Some, None, unwrap_or}
+use Rattle.std.specs.List.{position}
+use Rattle.std.proofs.lemmas.List.Quantifiers.{position-Some}
 use lib.Seq.{length-take-le}
 use Rattle.molecule.specs.Layout.{span, fix_count, fix_item}
 use Rattle.lists.specs.Lists.{eq_bytes}
@@ -16,8 +24,10 @@ use Rattle.out_points.specs.OutPoints.{eq_point, out_point_at, point_of, point_b
 use Rattle.out_points.proofs.EqualLaws.{point-same, point_refl}
 use Rattle.out_points.proofs.AgainLaws.{point_again, item-bytes}
 use Rattle.molecule.proofs.LayoutLaws.{fix_count_said}
+use Rattle.molecule.proofs.Offsets.{span-length}
 use Rattle.item_index.specs.Index.{key_of, place_in, Index}
-use Rattle.pick_kinds.specs.Indexed.{Whole, AllWhole, Indexed, FirstAt}
+use Rattle.item_index.proofs.FindLaws.{index_front, place_of_position}
+use Rattle.pick_kinds.specs.Indexed.{Whole, AllWhole, Places, First}
 
 -- ---- lists that have their items whole
 
@@ -78,51 +88,88 @@ place_most x f j (suc k) = by (eq_bytes x (f j)) (place_most x f (suc j) k)
 
 -- ---- the ways out
 
-module _ {picked s : List ℕ} {n : ℕ} (o : Indexed picked s n) where
-  pub indexed_whole : Whole picked
-  indexed_whole = o.whole
+option_at : (r : Option ℕ) (n i : ℕ) → i < n → option_eq nat_eq r (Some i) ≡ eqb (unwrap_or r n) i
+option_at (Some a) n i l = refl
+option_at None n i l = sym (ne_eqb n i (λ e. omega arith))
 
-  pub indexed_below : {i : ℕ} → i < n → i < fix_count picked
-  indexed_below l = let m = o.some in omega arith
+module _ {cells picked spent s : List ℕ} (o : Places cells picked spent s) where
+  pub places_whole : Whole picked
+  places_whole = o.whole.picks
 
-  pub first-at : (list : List ℕ) (k : ℕ) {x : List ℕ} {at : ℕ} → Whole list → k < fix_count list → x ≡ fix_item list 36 k
-      → (Index (key_of picked 36 0) n s → at ≡ place_in x (span (key_of picked 36 0) 0 n)) → FirstAt (point_of picked) n (point_of list k) at
+  pub places_held : Whole cells
+  places_held = o.whole.held
+
+  pub places_gone : Whole spent
+  places_gone = o.whole.gone
+
+  pub places_below : {i : ℕ} → i < length s → i < fix_count picked
+  places_below l = let m = o.some in omega arith
+
+  pub first-is : (list : List ℕ) (k : ℕ) {x : List ℕ} {r : Option ℕ} → Whole list → k < fix_count list → x ≡ fix_item list 36 k
+      → (Index (key_of picked 36 0) (length s) s → r ≡ position (eq_bytes x) (span (key_of picked 36 0) 0 (length s))) → First (point_of picked) (length s) (point_of list k) r
   unfolding key_of
-  first-at list k {x} {at} w h e f = record { before = before; there = there }
+  first-is list k {x} {r} w h e f = record { inside = inside; first = record { before = before; there = there } }
     where
-      place : at ≡ place_in (fix_item list 36 k) (span (fix_item picked 36) 0 n)
-      place = f o.index ∙ ap (λ (y : List ℕ). place_in y (span (fix_item picked 36) 0 n)) e
+      n : ℕ
+      n = length s
+
+      g : ℕ → List ℕ
+      g = fix_item picked 36
+
+      y : List ℕ
+      y = fix_item list 36 k
+
+      found : r ≡ position (eq_bytes y) (span g 0 n)
+      found = ∥∥₁_elim o.index (Prim.hlevel props) (λ i. f i ∙ ap (λ (z : List ℕ). position (eq_bytes z) (span g 0 n)) e)
+
+      inside : (at : ℕ) → r ≡ Some at → at < n
+      inside at q = let b = (position-Some (eq_bytes y) (span g 0 n) at [] (sym found ∙ q)).0 in omega (arith, span-length g 0 n)
+
+      at : ℕ
+      at = unwrap_or r n
+
+      place : at ≡ place_in y (span g 0 n)
+      place = ap (λ (t : Option ℕ). unwrap_or t n) found ∙ place_of_position y (span g 0 n) n (span-length g 0 n)
 
       most : at ≤ n
-      most = let l = place_most (fix_item list 36 k) (fix_item picked 36) 0 n in let p = place in omega arith
+      most = let l = place_most y g 0 n in let p = place in omega arith
 
       before : (i : ℕ) → i < at → eq_point (point_of list k) (point_of picked i) ≡ false
       before i l =
           let m = o.some in
           let p = place in
           let q = most in
-          let r : i < place_in (fix_item list 36 k) (span (fix_item picked 36) 0 n) = omega arith in
-          sym (same_bytes w o.whole k i h (omega arith))
-          ∙ ap (λ (v : ℕ). eq_bytes (fix_item list 36 k) (fix_item picked 36 v)) (sym (zero-add i))
-          ∙ place-before (fix_item list 36 k) (fix_item picked 36) 0 n i r
+          let r : i < place_in y (span g 0 n) = omega arith in
+          sym (same_bytes w o.whole.picks k i h (omega arith))
+          ∙ ap (λ (v : ℕ). eq_bytes y (g v)) (sym (zero-add i))
+          ∙ place-before y g 0 n i r
 
       there : at < n → eq_point (point_of list k) (point_of picked at) ≡ true
       there l =
           let m = o.some in
           let p = place in
-          let r : place_in (fix_item list 36 k) (span (fix_item picked 36) 0 n) < n = omega arith in
-          let z : at ≡ 0 + place_in (fix_item list 36 k) (span (fix_item picked 36) 0 n) = omega arith in
-          sym (same_bytes w o.whole k at h (omega arith))
-          ∙ ap (λ (v : ℕ). eq_bytes (fix_item list 36 k) (fix_item picked 36 v)) z
-          ∙ place_is (fix_item list 36 k) (fix_item picked 36) 0 n r
+          let r : place_in y (span g 0 n) < n = omega arith in
+          let z : at ≡ 0 + place_in y (span g 0 n) = omega arith in
+          sym (same_bytes w o.whole.picks k at h (omega arith))
+          ∙ ap (λ (v : ℕ). eq_bytes y (g v)) z
+          ∙ place_is y g 0 n r
 
-pub indexed_is : (cells picked spent s : List ℕ) (n a b : ℕ) → AllWhole cells picked spent → n ≤ fix_count picked
-    → (n ≤ a → n ≤ b → Index (key_of picked 36 0) n s) → n ≤ a → n ≤ b → Indexed picked s n
-indexed_is cells picked spent s n a b w m f p q = record { whole = w.picks; some = m; index = f p q }
+module _ {g : ℕ → OutPoint} {n : ℕ} {q : OutPoint} where
+  pub first_in : {at : ℕ} → First g n q (Some at) → at < n
+  first_in {at} w = w.inside at refl
 
-module _ {cells picked spent : List ℕ} (w : AllWhole cells picked spent) where
-  pub whole-held : Whole cells
-  whole-held = w.held
+  pub first-yes : {r : Option ℕ} {i : ℕ} {b : Bool} → First g n q r → i < n → b ≡ option_eq nat_eq r (Some i) → b ≡ true → unwrap_or r n ≡ i
+  first-yes {r} {i} w l e t = eqb-true (unwrap_or r n) i (sym (option_at r n i l) ∙ sym e ∙ t)
 
-  pub whole-gone : Whole spent
-  whole-gone = w.gone
+  pub first-no : {r : Option ℕ} {i : ℕ} {b : Bool} → First g n q r → i < n → b ≡ option_eq nat_eq r (Some i) → b ≡ false → (unwrap_or r n ≡ i → ⊥)
+  first-no {r} {i} w l e t = eqb-false (unwrap_or r n) i (sym (option_at r n i l) ∙ sym e ∙ t)
+
+pub places_are : (cells picked spent s : List ℕ) (n a b : ℕ) → AllWhole cells picked spent → n ≤ fix_count picked
+    → (n ≤ a → n ≤ b → Index (key_of picked 36 0) n s) → n ≤ a → n ≤ b → Places cells picked spent (take n s)
+places_are cells picked spent s n a b w m f p q =
+    let o = f p q in
+    let z : length (take n s) ≡ n = length-take-le n s o.room in
+    record { whole = w; some = omega arith; index = ∣ index_front o ∣₁ }
+
+pub whole-all : {cells picked spent : List ℕ} → Whole cells → Whole picked → Whole spent → AllWhole cells picked spent
+whole-all a b c = record { held = a; picks = b; gone = c }

@@ -3,6 +3,7 @@ use Rattle.std.specs.Prelude.{◌≡◌, ℕ, ◌≤◌, ◌<◌, Bool, true, fa
 use Rattle.molecule.specs.Layout.{span}
 use Rattle.out_points.specs.declared.{OutPoint.OutPoint}
 use Rattle.out_points.specs.OutPoints.{has}
+use Rattle.pick_kinds.specs.declared.{Kind.Kind}
 
 -- p is among the cells that are held, or spent: `is_busy` (crate hold_records) of the list of the records' cells
 unfoldable pub is_among : List OutPoint → List OutPoint → OutPoint → Bool
@@ -11,11 +12,11 @@ is_among cells spent p = cond (has p cells) true (has p spent)
 unfoldable pub none_is : OutPoint → Bool
 none_is p = false
 
--- pick i of g, where `busy` says which cells are: 0 if an earlier pick is the same, else 1 if it is free and 2 if it is busy
-unfoldable pub kind_of : (OutPoint → Bool) → (ℕ → OutPoint) → ℕ → ℕ
-kind_of busy g i = cond (has (g i) (span g 0 i)) 0 (cond (busy (g i)) 2 1)
+-- pick i of g, where `busy` says which cells are
+unfoldable pub kind_of : (OutPoint → Bool) → (ℕ → OutPoint) → ℕ → Kind
+kind_of busy g i = cond (has (g i) (span g 0 i)) Kind.Again (cond (busy (g i)) Kind.Busy Kind.Free)
 
 -- what the first n picks are
-pub record Kinds (busy : OutPoint → Bool) (g : ℕ → OutPoint) (n : ℕ) (kinds : List ℕ) : Type 0 where
+pub record Kinds (busy : OutPoint → Bool) (g : ℕ → OutPoint) (n : ℕ) (kinds : List Kind) : Type 0 where
   pub room : n ≤ length kinds
-  pub each : (i : ℕ) → i < n → get_or kinds i 0 ≡ kind_of busy g i
+  pub each : (i : ℕ) → i < n → get_or kinds i Kind.Again ≡ kind_of busy g i

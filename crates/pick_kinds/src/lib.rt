@@ -2,11 +2,14 @@
 // are held and those that are spent go through the index once, so that the time goes by (picks + held + spent) log picks comparisons whatever the bytes.
 #![tactic(auto, using(crate::proofs::Ways::ways))]
 
-ghost use Rattle.std.specs.Prelude.{◌≡◌, true, ◌≤◌, ◌<◌, min, length, set};
+ghost use Rattle.std.specs.Prelude.{◌≡◌, true, ◌≤◌, ◌<◌, min, length};
 ghost use Rattle.molecule.specs.Layout.{fix_count};
 ghost use Rattle.out_points.specs.OutPoints.{point_of, points};
-ghost use Rattle.pick_kinds.specs.Kinds.{is_among, none_is, kind_of, Kinds};
-ghost use Rattle.pick_kinds.specs.Indexed.{Whole, AllWhole, Indexed, FirstAt, Adds};
+ghost use Rattle.pick_kinds.specs.Kinds.{none_is, kind_of, Kinds};
+ghost use Rattle.pick_kinds.specs.Indexed.{Whole, Places, First, Adds};
+ghost use Rattle.pick_kinds.specs.Picks.{KindsOf, AreWhole};
+
+use item_index::Keys;
 
 // How many bytes an out point has.
 const OUT_POINT_BYTES: u32 = 36;
@@ -17,13 +20,29 @@ pub const MOST_PICKS: usize = 7394;
 // So many are indexed in less room, which is sooner cleared.
 const SOME_PICKS: usize = 1024;
 
-// What stands for a pick, in numbers, and not an enum: where nothing is sorted out the marks, which are bytes, stand in for the kinds. An earlier one is the same; it is
-// the first on its cell and free; it is the first and busy.
-pub const AGAIN: u8 = 0;
+// What a pick is: the same as an earlier one; the first on its cell, and free; the first, and busy.
+#[derive(Clone, Copy, Debug, PartialEq, Eq, Hash)]
+pub enum Kind {
+    Again,
+    Free,
+    Busy,
+}
 
-pub const FREE: u8 = 1;
+// The picks, and what makes a cell busy: the cells that are held and those that are spent.
+#[derive(Clone, Copy)]
+pub struct Picks<'a> {
+    pub cells: &'a [u8],
+    pub picked: &'a [u8],
+    pub spent: &'a [u8],
+}
 
-pub const BUSY: u8 = 2;
+// The same with the index of the first picks, as many as it has places.
+#[derive(Clone, Copy)]
+struct Indexed<'a> {
+    picks: Picks<'a>,
+    places: &'a [u32],
+    ghost are_places: { Places picks.cells.now picks.picked.now picks.spent.now places.now },
+}
 
 // Whether the list has all its items whole.
 fn is_whole(s: &[u8]) -> bool
@@ -32,134 +51,122 @@ fn is_whole(s: &[u8]) -> bool
     4 + 36 * molecule::fix_count(s) as usize <= s.len()
 }
 
-fn are_whole(cells: &[u8], picked: &[u8], spent: &[u8]) -> bool
-    ensures { result ≡ true → AllWhole cells.now picked.now spent.now }
-{
-    is_whole(cells) && is_whole(picked) && is_whole(spent)
-}
+impl<'a> Indexed<'a> {
+    // The first pick that is item k of the list.
+    fn find(self, list: &[u8], k: usize) -> Option<usize>
+        requires whole { Whole list.now }
+        requires k_bound { k < fix_count list.now }
+        ensures { First (point_of self.entry.picks.picked.now) (length self.entry.places.now) (point_of list.now k) result }
+    {
+        let keys = Keys {
+            items: self.picks.picked,
+            size: OUT_POINT_BYTES,
+            skip: 0,
+        };
+        keys.place_of(self.places, molecule::fix_item(list, OUT_POINT_BYTES, k))
+    }
 
-// The first of n picks that is item k of the list, and n where none is.
-fn first_place(picked: &[u8], s: &[u32], n: u32, list: &[u8], k: usize) -> usize
-    requires indexed { Indexed picked.now s.now n }
-    requires whole { Whole list.now }
-    requires k_bound { k < fix_count list.now }
-    ensures { FirstAt (point_of picked.now) n (point_of list.now k) result }
-{
-    let x = molecule::fix_item(list, OUT_POINT_BYTES, k);
-    item_index::place_of(picked, OUT_POINT_BYTES, 0, s, n, x)
-}
+    // What pick i is where nothing is busy.
+    fn kind(self, i: usize) -> Kind
+        requires i_bound { i < length self.places.now }
+        ensures { result ≡ kind_of none_is (point_of self.entry.picks.picked.now) i }
+    {
+        let first = self.find(self.picks.picked, i) == Some(i);
+        if first { Kind::Free } else { Kind::Again }
+    }
 
-// What pick i is where nothing is busy.
-fn kind_of(picked: &[u8], s: &[u32], n: u32, i: usize) -> u8
-    requires indexed { Indexed picked.now s.now n }
-    requires i_lt_n { i < n }
-    ensures { result ≡ kind_of none_is (point_of picked.now) i }
-{
-    let at = first_place(picked, s, n, picked, i);
-    if at == i { FREE } else { AGAIN }
-}
+    fn set_kinds(self, kinds: &mut [Kind])
+        requires in_bounds { length self.places.now ≤ length kinds.old }
+        ensures { Kinds none_is (point_of self.entry.picks.picked.now) (length self.entry.places.now) kinds.new }
+    {
+        for i in 0..self.places.len() {
+            kinds[i] = self.kind(i);
+        }
+    }
 
-fn set_kinds(picked: &[u8], s: &[u32], n: u32, kinds: &mut [u8])
-    requires indexed { Indexed picked.now s.now n }
-    requires n_in_bounds { n ≤ length kinds.old }
-    ensures { Kinds none_is (point_of picked.now) n kinds.new }
-{
-    for i in 0..n as usize {
-        kinds[i] = kind_of(picked, s, n, i);
+    // The list's cells are busy too.
+    fn mark_busy(self, list: &[u8], kinds: &mut [Kind])
+        requires whole { Whole list.now }
+        requires in_bounds { length self.places.now ≤ length kinds.old }
+        ensures after { Adds (point_of self.entry.picks.picked.now) (length self.entry.places.now) (points list.now) kinds.old kinds.new }
+        ensures kept_length { length kinds.new ≡ length kinds.old }
+    {
+        for k in 0..molecule::fix_count(list) as usize {
+            let Some(at) = self.find(list, k) else {
+                continue;
+            };
+            kinds[at] = Kind::Busy;
+        }
+    }
+
+    // Puts the kinds of the indexed picks.
+    fn put_kinds(self, kinds: &mut [Kind])
+        requires in_bounds { length self.places.now ≤ length kinds.old }
+        ensures { KindsOf self.entry.picks (length self.entry.places.now) kinds.new }
+    {
+        self.set_kinds(kinds);
+        self.mark_busy(self.picks.cells, kinds);
+        self.mark_busy(self.picks.spent, kinds);
     }
 }
 
-fn set_busy(kinds: &mut [u8], at: usize)
-    ensures { kinds.new ≡ set kinds.old at 2 }
-{
-    if at < kinds.len() {
-        kinds[at] = BUSY;
+impl<'a> Picks<'a> {
+    // Whether all three lists have their items whole.
+    fn are_whole(self) -> bool
+        ensures { result ≡ true → AreWhole self.entry }
+    {
+        is_whole(self.cells) && is_whole(self.picked) && is_whole(self.spent)
     }
-}
 
-// The list's cells are busy too.
-fn mark_busy(picked: &[u8], s: &[u32], n: u32, list: &[u8], kinds: &mut [u8])
-    requires indexed { Indexed picked.now s.now n }
-    requires whole { Whole list.now }
-    ensures { Adds (point_of picked.now) n (points list.now) kinds.old kinds.new }
-{
-    let m = molecule::fix_count(list) as usize;
-    for k in 0..m {
-        set_busy(kinds, first_place(picked, s, n, list, k));
+    // Puts the kinds of the first n picks by an index of them, in room for so many.
+    fn kinds_in<const ROOM: usize>(self, n: u32, kinds: &mut [Kind])
+        requires are_whole { AreWhole self }
+        requires n_bound { n ≤ fix_count self.picked.now }
+        requires n_bound_2 { n ≤ ROOM }
+        requires room { ROOM ≤ 7394 }
+        requires in_bounds { n ≤ length kinds.old }
+        ensures { KindsOf self.entry n kinds.new }
+    {
+        let mut s = [0u32; ROOM];
+        let mut t = [0u32; ROOM];
+        let keys = Keys {
+            items: self.picked,
+            size: OUT_POINT_BYTES,
+            skip: 0,
+        };
+        keys.build(n, &mut s, &mut t);
+        let indexed = Indexed {
+            picks: self,
+            places: &s[..n as usize],
+        };
+        indexed.put_kinds(kinds);
     }
-}
 
-// Puts the kinds of the first n picks, by their index.
-fn put_kinds(cells: &[u8], picked: &[u8], spent: &[u8], s: &[u32], n: u32, kinds: &mut [u8])
-    requires all_whole { AllWhole cells.now picked.now spent.now }
-    requires indexed { Indexed picked.now s.now n }
-    requires n_in_bounds { n ≤ length kinds.old }
-    ensures { Kinds (is_among (points cells.now) (points spent.now)) (point_of picked.now) n kinds.new }
-{
-    set_kinds(picked, s, n, kinds);
-    mark_busy(picked, s, n, cells, kinds);
-    mark_busy(picked, s, n, spent, kinds);
-}
-
-// The same by an index that is made in s; t is work room.
-fn index_kinds(
-    cells: &[u8],
-    picked: &[u8],
-    spent: &[u8],
-    n: u32,
-    s: &mut [u32],
-    t: &mut [u32],
-    kinds: &mut [u8],
-)
-    requires all_whole { AllWhole cells.now picked.now spent.now }
-    requires n_bound { n ≤ fix_count picked.now }
-    requires n_in_bounds { n ≤ length s.old }
-    requires n_in_bounds_2 { n ≤ length t.old }
-    requires n_in_bounds_3 { n ≤ length kinds.old }
-    ensures { Kinds (is_among (points cells.now) (points spent.now)) (point_of picked.now) n kinds.new }
-{
-    item_index::build(picked, OUT_POINT_BYTES, 0, n, s, t);
-    put_kinds(cells, picked, spent, s, n, kinds);
-}
-
-// The same in room for so many picks.
-fn kinds_in<const ROOM: usize>(cells: &[u8], picked: &[u8], spent: &[u8], n: u32, kinds: &mut [u8])
-    requires all_whole { AllWhole cells.now picked.now spent.now }
-    requires n_bound { n ≤ fix_count picked.now }
-    requires n_bound_2 { n ≤ ROOM }
-    requires room { ROOM ≤ 7394 }
-    requires n_in_bounds { n ≤ length kinds.old }
-    ensures { Kinds (is_among (points cells.now) (points spent.now)) (point_of picked.now) n kinds.new }
-{
-    let mut s = [0u32; ROOM];
-    let mut t = [0u32; ROOM];
-    index_kinds(cells, picked, spent, n, &mut s, &mut t, kinds);
-}
-
-// How many picks are indexed.
-fn indexed(picked: &[u8]) -> u32
-    ensures { result ≡ min (fix_count picked.now) 7394 }
-{
-    molecule::fix_count(picked).min(MOST_PICKS as u32)
-}
-
-// Puts what each pick is, where the cells that are held and those that are spent are busy, and answers for how many picks it does so: for the first 7,394, and for
-// none where kinds is too short or a list ends before its items do.
-pub fn sort_out(cells: &[u8], picked: &[u8], spent: &[u8], kinds: &mut [u8]) -> usize
-    ensures { Kinds (is_among (points cells.now) (points spent.now)) (point_of picked.now) result kinds.new }
-{
-    if !are_whole(cells, picked, spent) {
-        return 0;
+    // How many picks are indexed.
+    fn indexed(self) -> u32
+        ensures { result ≡ min (fix_count self.entry.picked.now) 7394 }
+    {
+        molecule::fix_count(self.picked).min(MOST_PICKS as u32)
     }
-    let n = indexed(picked);
-    let m = n as usize;
-    if kinds.len() < m {
-        return 0;
+
+    // Puts what each pick is, and answers for how many picks it does so: for the first 7,394, and for none where kinds is too short or a list ends before its items
+    // do.
+    pub fn sort_out(self, kinds: &mut [Kind]) -> usize
+        ensures { KindsOf self.entry result kinds.new }
+    {
+        if !self.are_whole() {
+            return 0;
+        }
+        let n = self.indexed();
+        let m = n as usize;
+        if kinds.len() < m {
+            return 0;
+        }
+        if m <= SOME_PICKS {
+            self.kinds_in::<SOME_PICKS>(n, kinds);
+            return m;
+        }
+        self.kinds_in::<MOST_PICKS>(n, kinds);
+        m
     }
-    if m <= SOME_PICKS {
-        kinds_in::<SOME_PICKS>(cells, picked, spent, n, kinds);
-        return m;
-    }
-    kinds_in::<MOST_PICKS>(cells, picked, spent, n, kinds);
-    m
 }

@@ -4,7 +4,7 @@ use Prim.Native.Nat.{ℕ, ◌+◌, ◌-◌, ◌*◌, ◌≤◌, ◌<◌, min}
 use native.Mathlib.Omega.{arith}
 use mathlib.Core.Bool.{Bool, true, false, not}
 use mathlib.Core.List.{List, ◌∷◌, ◌++◌, map, append-nil}
-use lib.Dec.{eqb}
+use denote.Enum.Bare.{sameb}
 use lib.ListN.{length, get_or, take, set, length-set}
 use lib.Seq.{append_snoc}
 use Rattle.molecule.specs.Layout.{fix_count}
@@ -17,22 +17,30 @@ use Rattle.hold_records.proofs.ListLaws.{take_put}
 use Rattle.hold_records.proofs.LoopLaws.{trim_is}
 use Rattle.unavailable_picks.specs.Unavailable.{select}
 use Rattle.unavailable_picks.proofs.PickLaws.{select_yes, select_no, select-end, select-whole, Naming, name-start, name_yes, name_no}
-use Rattle.picks.specs.Places.{is_free, is_left, free_of, left_of, Tallied}
+use Rattle.pick_kinds.specs.declared.{Kind.Kind}
+use Rattle.pick_kinds.specs.contracts.Kind.{the_type}
+use Rattle.picks.specs.Places.{is_free_kind, is_free, is_left, free_of, left_of, Tallied}
 
-pub free_is : (kinds : List ℕ) (i : ℕ) → eqb (get_or kinds i 0) 1 ≡ is_free kinds i
-unfolding is_free
-free_is kinds i = refl
+-- `== Kind::Free`
+pub free_is : (kinds : List Kind) (i : ℕ) → sameb the_type (get_or kinds i Kind.Again) Kind.Free ≡ is_free kinds i
+unfolding is_free is_free_kind
+free_is kinds i = by (get_or kinds i Kind.Again)
+  where
+    by : (k : Kind) → sameb the_type k Kind.Free ≡ is_free_kind k
+    by Kind.Again = refl
+    by Kind.Free = refl
+    by Kind.Busy = refl
 
 pub kinds_in : {n m c i : ℕ} → n ≡ m → m ≤ c → i < n → i < c
 kinds_in e r l = omega arith
 
 -- the picks to take from i on
-abbrev Free : List ℕ → List ℕ → ℕ → ℕ → List OutPoint
+abbrev Free : List ℕ → List Kind → ℕ → ℕ → List OutPoint
 Free picked kinds i n = select (is_free kinds) (point_of picked) i (n - i)
 
 -- ---- the taken ones counted, and recorded as far as there is room
 
-pub record Tallying (owner : Owner) (picked kinds : List ℕ) (h g : Held) (n i count : ℕ) : Type 0 where
+pub record Tallying (owner : Owner) (picked : List ℕ) (kinds : List Kind) (h g : Held) (n i count : ℕ) : Type 0 where
   pub within : i ≤ n
   pub below : count ≤ i
   pub whole : length h.records ≡ 256
@@ -41,7 +49,7 @@ pub record Tallying (owner : Owner) (picked kinds : List ℕ) (h g : Held) (n i 
   pub long : length g.records ≡ 256
   pub added : min h.count 256 + count ≤ 256 → records_of g ++ map (held_by owner) (Free picked kinds i n) ≡ records_of h ++ map (held_by owner) (free_of picked kinds)
 
-pub tally-start : (owner : Owner) (picked kinds : List ℕ) {n u : ℕ} (h : Held) → n ≡ fix_count picked → u ≡ min h.count 256 → length h.records ≡ 256
+pub tally-start : (owner : Owner) (picked : List ℕ) (kinds : List Kind) {n u : ℕ} (h : Held) → n ≡ fix_count picked → u ≡ min h.count 256 → length h.records ≡ 256
     → Tallying owner picked kinds (record { records = h.records; count = u }) (record { records = h.records; count = u }) n 0 0
 unfolding free_of
 tally-start owner picked kinds {n} {u} h e b l =
@@ -56,7 +64,7 @@ tally-start owner picked kinds {n} {u} h e b l =
       added = λ _. ap (λ (x : List OutPoint). records_of (record { records = h.records; count = u }) ++ map (held_by owner) x) (sym q);
     }
 
-module _ {owner : Owner} {picked kinds : List ℕ} {h g : Held} {n i count : ℕ} (k : Tallying owner picked kinds h g n i count) where
+module _ {owner : Owner} {picked : List ℕ} {kinds : List Kind} {h g : Held} {n i count : ℕ} (k : Tallying owner picked kinds h g n i count) where
   module _ {b : Bool} (l : i < n) (e : b ≡ is_free kinds i) where
     pub tally_no : b ≡ false → Tallying owner picked kinds h g n (i + 1) count
     tally_no t =
@@ -109,7 +117,7 @@ module _ {owner : Owner} {picked kinds : List ℕ} {h g : Held} {n i count : ℕ
         }
 
 -- the table that the loop begins with is h with its count cut to the array
-pub tally-end : {owner : Owner} {picked kinds : List ℕ} (h : Held) {g : Held} {u n i count : ℕ} → u ≡ min h.count 256
+pub tally-end : {owner : Owner} {picked : List ℕ} {kinds : List Kind} (h : Held) {g : Held} {u n i count : ℕ} → u ≡ min h.count 256
     → Tallying owner picked kinds (record { records = h.records; count = u }) g n i count → n ≤ i → Tallied owner (free_of picked kinds) h g count
 tally-end {owner} {picked} {kinds} h {g} {u} {n} {i} {count} b k l =
     let q = select-end (is_free kinds) (point_of picked) i n l in
@@ -125,12 +133,12 @@ tally-end {owner} {picked} {kinds} h {g} {u} {n} {i} {count} b k l =
 
 -- ---- the others written
 
-pub leave_start : (picked kinds : List ℕ) {n : ℕ} (out : List ℕ) (at : ℕ) → n ≡ fix_count picked → at + 36 * length (left_of picked kinds) ≤ length out
+pub leave_start : (picked : List ℕ) (kinds : List Kind) {n : ℕ} (out : List ℕ) (at : ℕ) → n ≡ fix_count picked → at + 36 * length (left_of picked kinds) ≤ length out
     → Naming (is_left kinds) (point_of picked) (left_of picked kinds) n 0 out at out at
 unfolding left_of
 leave_start picked kinds out at e = name-start (is_left kinds) (point_of picked) out at e refl
 
-module _ (picked kinds : List ℕ) {all : List OutPoint} {n i : ℕ} {out₀ : List ℕ} {at₀ : ℕ} {out : List ℕ} {at : ℕ} (v : Naming (is_left kinds) (point_of picked) all n i out₀ at₀ out at) {b : Bool} (l : i < n) (e : b ≡ is_free kinds i) where
+module _ (picked : List ℕ) (kinds : List Kind) {all : List OutPoint} {n i : ℕ} {out₀ : List ℕ} {at₀ : ℕ} {out : List ℕ} {at : ℕ} (v : Naming (is_left kinds) (point_of picked) all n i out₀ at₀ out at) {b : Bool} (l : i < n) (e : b ≡ is_free kinds i) where
   pub leave_put : {p : OutPoint} {o : List ℕ} {a : ℕ} → b ≡ false → p ≡ point_of picked i → o ≡ put_at out at (point_bytes p) → a ≡ put_end out at (point_bytes p)
       → Naming (is_left kinds) (point_of picked) all n (i + 1) out₀ at₀ o a
   unfolding is_left

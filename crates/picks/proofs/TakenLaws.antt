@@ -5,7 +5,7 @@ use native.Mathlib.Omega.{arith}
 use borrow.Author.Tests.{leb-true, le-leb, lt-leb}
 use mathlib.Core.Bool.{Bool, true, false, not, ◌&&◌, cond, false≢true}
 use mathlib.Core.List.{List, [], ◌∷◌, ◌++◌, map}
-use lib.Dec.{leb, eqb}
+use lib.Dec.{leb}
 use lib.ListN.{length, drop}
 use Rattle.std.proofs.Common.{Ok, Err}
 use Rattle.error.specs.declared.{Refusal.Refusal}
@@ -21,10 +21,11 @@ use Rattle.hold_records.specs.Holds.{records_of, outcome_on, cells_of, firsts, o
 use Rattle.hold_records.specs.Rules.{put_if}
 use Rattle.hold_records.proofs.LoopLaws.{stands}
 use Rattle.hold_records.proofs.WriteLaws.{room_yes, put_yes}
+use Rattle.pick_kinds.specs.declared.{Kind.Kind}
 use Rattle.pick_kinds.specs.Kinds.{is_among, kind_of, Kinds}
 use Rattle.unavailable_picks.specs.Unavailable.{is_first, select}
 use Rattle.unavailable_picks.proofs.FirstLaws.{is_other, firsts-select, others-select}
-use Rattle.picks.specs.Places.{is_free, is_left, free_of, left_of, Tallied, take_lists, take_from}
+use Rattle.picks.specs.Places.{is_free_kind, is_free, is_left, free_of, left_of, Tallied, take_lists, take_from}
 
 -- ---- a table with the taken cells last
 
@@ -71,11 +72,11 @@ module _ (f h : ℕ → Bool) (g : ℕ → OutPoint) where
   same_from on i zero l = refl
   same_from on i (suc k) l = rw (on i (omega arith), same_from on (suc i) k (omega arith))
 
-both_are : (picked kinds : List ℕ) → length (free_of picked kinds) + length (left_of picked kinds) ≡ fix_count picked
+both_are : (picked : List ℕ) (kinds : List Kind) → length (free_of picked kinds) + length (left_of picked kinds) ≡ fix_count picked
 unfolding free_of left_of is_left
 both_are picked kinds = both-from (is_free kinds) (is_left kinds) (point_of picked) (λ j. refl) 0 (fix_count picked)
 
-module _ (picked kinds : List ℕ) {owner : Owner} {k g : Held} {c : ℕ} (t : Tallied owner (free_of picked kinds) k g c) {n : ℕ} (en : n ≡ fix_count picked) where
+module _ (picked : List ℕ) (kinds : List Kind) {owner : Owner} {k g : Held} {c : ℕ} (t : Tallied owner (free_of picked kinds) k g c) {n : ℕ} (en : n ≡ fix_count picked) where
   -- as many picks are left as are not taken
   pub left-fits : c ≤ n
   left-fits = let q = t.counted in omega (arith, both_are picked kinds)
@@ -87,17 +88,17 @@ abbrev not_among : List OutPoint → List OutPoint → OutPoint → Bool
 not_among cells spent p = not (is_among cells spent p)
 
 -- by kinds, and by the lists of cells
-module _ (cells spent : List OutPoint) (picked kinds : List ℕ) (k : Kinds (is_among cells spent) (point_of picked) (min (fix_count picked) (length kinds)) kinds) (l : fix_count picked ≤ length kinds) where
+module _ (cells spent : List OutPoint) (picked : List ℕ) (kinds : List Kind) (k : Kinds (is_among cells spent) (point_of picked) (min (fix_count picked) (length kinds)) kinds) (l : fix_count picked ≤ length kinds) where
   abbrev F : OutPoint → Bool
   F = not_among cells spent
 
   free_is : (j : ℕ) → j < fix_count picked → is_free kinds j ≡ is_first F (point_of picked) j
-  unfolding is_free is_first kind_of
+  unfolding is_free is_free_kind is_first kind_of
   free_is j b =
-      ap (λ (v : ℕ). eqb v 1) (k.each j (omega arith))
+      ap is_free_kind (k.each j (omega arith))
       ∙ by (has (point_of picked j) (span (point_of picked) 0 j)) (is_among cells spent (point_of picked j))
     where
-      by : (b c : Bool) → eqb (cond b 0 (cond c 2 1)) 1 ≡ cond (not c) (not b) false
+      by : (b c : Bool) → is_free_kind (cond b Kind.Again (cond c Kind.Busy Kind.Free)) ≡ cond (not c) (not b) false
       by true true = refl
       by true false = refl
       by false true = refl
@@ -138,7 +139,7 @@ both-room x y n m e t = let l : 4 + 36 * n ≤ min m 133116 = both_second x y (4
 
 -- ---- the calls
 
-module _ (h k : Held) (picked kinds : List ℕ) (owner : Owner) (out₁ out₂ : List ℕ) (g : Held) {c : ℕ} (t : Tallied owner (free_of picked kinds) k g c) {n : ℕ} (en : n ≡ fix_count picked) where
+module _ (h k : Held) (picked : List ℕ) (kinds : List Kind) (owner : Owner) (out₁ out₂ : List ℕ) (g : Held) {c : ℕ} (t : Tallied owner (free_of picked kinds) k g c) {n : ℕ} (en : n ≡ fix_count picked) where
   abbrev T : List OutPoint
   T = free_of picked kinds
 
@@ -243,7 +244,7 @@ take_many h k cells picked spent owner out₁ out₂ {n} en m =
     (over l r out₁ out₂ (omega arith))
 
 -- what is taken by a list of cells is taken by the records that they are of
-pub take_known : (h k : Held) (cells picked spent kinds : List ℕ) (owner : Owner) (out₁ out₂ : List ℕ) {z : ℕ} {x : Outcome Held (List Hold) × List ℕ × List ℕ}
+pub take_known : (h k : Held) (cells picked spent : List ℕ) (kinds : List Kind) (owner : Owner) (out₁ out₂ : List ℕ) {z : ℕ} {x : Outcome Held (List Hold) × List ℕ × List ℕ}
     → (9220 ≤ z → points cells ≡ cells_of (records_of k)) → 9220 ≤ z → Kinds (is_among (points cells) (points spent)) (point_of picked) (min (fix_count picked) (length kinds)) kinds
     → fix_count picked ≤ length kinds → x ≡ take_lists h (records_of k) (free_of picked kinds) (left_of picked kinds) owner out₁ out₂
     → x ≡ take_from h (records_of k) (cells_of (records_of k)) (points picked) (points spent) owner out₁ out₂

@@ -1,26 +1,32 @@
 -- What the functions of this crate answer; no call's contract cites it.
-use Rattle.std.specs.Prelude.{◌≡◌, ℕ, ◌+◌, ◌≤◌, min, Bool, not, List, [], ◌++◌, map, leb, eqb, length, get_or}
+use Rattle.std.specs.Prelude.{◌≡◌, ℕ, ◌+◌, ◌≤◌, min, Bool, true, false, not, List, [], ◌++◌, map, leb, length, get_or}
 use Rattle.molecule.specs.Layout.{fix_count}
 use Rattle.out_points.specs.declared.{OutPoint.OutPoint}
 use Rattle.out_points.specs.OutPoints.{point_of}
 use Rattle.out_points.specs.Tables.{Outcome, done, refused, check, has_room, written}
 use Rattle.hold_records.specs.declared.{Owner.Owner, Hold.Hold, Held.Held}
 use Rattle.hold_records.specs.Holds.{records_of, held_by, firsts, others}
+use Rattle.pick_kinds.specs.declared.{Kind.Kind}
 use Rattle.pick_kinds.specs.Kinds.{is_among}
 use Rattle.unavailable_picks.specs.Unavailable.{select}
 
 -- pick i is to be taken: its kind (`kind_of`, crate pick_kinds) is that of a free one, the first on its cell
-unfoldable pub is_free : List ℕ → ℕ → Bool
-is_free kinds i = eqb (get_or kinds i 0) 1
+unfoldable pub is_free_kind : Kind → Bool
+is_free_kind Kind.Again = false
+is_free_kind Kind.Free = true
+is_free_kind Kind.Busy = false
 
-unfoldable pub is_left : List ℕ → ℕ → Bool
+unfoldable pub is_free : List Kind → ℕ → Bool
+is_free kinds i = is_free_kind (get_or kinds i Kind.Again)
+
+unfoldable pub is_left : List Kind → ℕ → Bool
 is_left kinds i = not (is_free kinds i)
 
 -- the picks to take, and the others
-unfoldable pub free_of : List ℕ → List ℕ → List OutPoint
+unfoldable pub free_of : List ℕ → List Kind → List OutPoint
 free_of picked kinds = select (is_free kinds) (point_of picked) 0 (fix_count picked)
 
-unfoldable pub left_of : List ℕ → List ℕ → List OutPoint
+unfoldable pub left_of : List ℕ → List Kind → List OutPoint
 left_of picked kinds = select (is_left kinds) (point_of picked) 0 (fix_count picked)
 
 -- the table g is h with a record of the owner's last for each of the out points l, if there is room; `count` is how many they are

@@ -14,91 +14,14 @@ ghost use Rattle.picks.specs.Places.{is_free, free_of, left_of, Tallied, take_li
 use error::Refusal;
 use hold_records::{Held, Hold, MOST_RECORDS, Owner};
 use molecule::write;
-use pick_kinds::{FREE, MOST_PICKS};
+use pick_kinds::{Kind, MOST_PICKS, Picks};
 use unavailable_picks::CELLS_BYTES;
 
-// Whether pick i is free, and no pick before it is the same.
-fn is_free(kinds: &[u8], i: usize) -> bool
-    requires { i < length kinds.now }
-    ensures { result ≡ is_free kinds.now i }
-{
-    kinds[i] == FREE
-}
-
-// How many picks are taken, and the table with a record for each, as far as there is room.
+// How many picks are taken, and the table with a record for each, as far as there is room. No ==: `Held` has none.
 #[derive(Clone, Copy)]
 struct Taken {
     held: Held,
     count: u32,
-}
-
-fn tally(h: Held, picked: &[u8], kinds: &[u8], owner: Owner) -> Taken
-    requires { fix_count picked.now ≤ length kinds.now }
-    ensures { Tallied owner (free_of picked.now kinds.now) h result.held result.count }
-{
-    let n = molecule::fix_count(picked) as usize;
-    let from = hold_records::used(h.count);
-    let mut g = h;
-    g.count = from;
-    let mut count: u32 = 0;
-    for i in 0..n {
-        if !is_free(kinds, i) {
-            continue;
-        }
-        count += 1;
-        let last = g.count;
-        if MOST_RECORDS <= last {
-            continue;
-        }
-        let point = out_points::point_of(picked, i);
-        g.records[last] = Hold { point, owner };
-        g.count = last + 1;
-    }
-    Taken { held: g, count }
-}
-
-// Puts the picks that are not taken, one after the other from `at` on.
-fn put_refused(picked: &[u8], kinds: &[u8], out: &mut [u8], at: usize) -> usize
-    requires { (fix_count picked.now ≤ length kinds.now) × (at + 36 * length (left_of picked.now kinds.now) ≤ length out.old) }
-    ensures { Put out.old at (bytes_of (left_of picked.now kinds.now)) out.new result }
-{
-    let n = molecule::fix_count(picked) as usize;
-    let mut to = at;
-    for i in 0..n {
-        if is_free(kinds, i) {
-            continue;
-        }
-        let p = out_points::point_of(picked, i);
-        to = out_points::put_out_point(out, to, p);
-    }
-    to
-}
-
-// Puts the list of those n picks at the start of out.
-fn put_refused_list(picked: &[u8], kinds: &[u8], n: u32, out: &mut [u8])
-    requires { (fix_count picked.now ≤ length kinds.now) × (n ≡ length (left_of picked.now kinds.now)) × (4 + 36 * n ≤ length out.old) }
-    ensures { out.new ≡ written (left_of picked.now kinds.now) out.old }
-{
-    let at = write::put_u32(out, 0, n);
-    put_refused(picked, kinds, out, at);
-}
-
-// Puts both lists: the cells of the records from `from` on, and the n picks that are not taken.
-fn put_taken_and_refused(
-    g: Held,
-    from: usize,
-    picked: &[u8],
-    kinds: &[u8],
-    n: u32,
-    taken: &mut [u8],
-    refused: &mut [u8],
-)
-    requires { (fix_count picked.now ≤ length kinds.now) × (n ≡ length (left_of picked.now kinds.now)) × (4 + 36 * n ≤ length refused.old) }
-    ensures taken_after { taken.new ≡ put_if (cells_of (drop from (records_of g))) taken.old }
-    ensures refused_after { refused.new ≡ written (left_of picked.now kinds.now) refused.old }
-{
-    hold_records::put_cells(g, from, taken);
-    put_refused_list(picked, kinds, n, refused);
 }
 
 // Whether lists of so many out points may be written to buffers of so many bytes.
@@ -108,33 +31,111 @@ fn both_fit(count: u32, taken: usize, rest: u32, refused: usize) -> bool
     out_points::fits(count, taken) && out_points::fits(rest, refused)
 }
 
-// Takes the free picks.
-fn take_free(
-    live: Held,
-    picked: &[u8],
-    kinds: &[u8],
-    owner: Owner,
-    taken: &mut [u8],
-    refused: &mut [u8],
-) -> Result<Held, Refusal>
-    requires { fix_count picked.now ≤ length kinds.now }
-    ensures refused_after { (h : Held) → (outcome_on h result, taken.new, refused.new) ≡ take_lists h (records_of live) (free_of picked.now kinds.now) (left_of picked.now kinds.now) owner taken.old refused.old }
-    ensures count_bound { IfOk result (λ g. g.count ≤ 256) }
-{
-    let t = tally(live, picked, kinds, owner);
-    let count = t.count;
-    let n = molecule::fix_count(picked);
-    let rest = n - count;
-    if !both_fit(count, taken.len(), rest, refused.len()) {
-        return Err(Refusal::BufferTooShort);
+// The picks, and what each of them is.
+#[derive(Clone, Copy)]
+struct Sorted<'a> {
+    picked: &'a [u8],
+    kinds: &'a [Kind],
+    ghost enough: { fix_count picked.now ≤ length kinds.now },
+}
+
+impl<'a> Sorted<'a> {
+    // Whether pick i is free, and no pick before it is the same.
+    fn is_free(self, i: usize) -> bool
+        requires { i < length self.kinds.now }
+        ensures { result ≡ is_free self.entry.kinds.now i }
+    {
+        self.kinds[i] == Kind::Free
     }
-    let from = hold_records::used(live.count);
-    if MOST_RECORDS - from < count as usize {
-        return Err(Refusal::TooManyHolds);
+
+    fn tally(self, h: Held, owner: Owner) -> Taken
+        ensures { Tallied owner (free_of self.entry.picked.now self.entry.kinds.now) h result.held result.count }
+    {
+        let n = molecule::fix_count(self.picked) as usize;
+        let from = hold_records::used(h.count);
+        let mut g = h;
+        g.count = from;
+        let mut count: u32 = 0;
+        for i in 0..n {
+            if !self.is_free(i) {
+                continue;
+            }
+            count += 1;
+            let last = g.count;
+            if MOST_RECORDS <= last {
+                continue;
+            }
+            let point = out_points::point_of(self.picked, i);
+            g.records[last] = Hold { point, owner };
+            g.count = last + 1;
+        }
+        Taken { held: g, count }
     }
-    let after = t.held;
-    put_taken_and_refused(after, from, picked, kinds, rest, taken, refused);
-    Ok(after)
+
+    // Puts the picks that are not taken, one after the other from `at` on.
+    fn put_refused(self, out: &mut [u8], at: usize) -> usize
+        requires { at + 36 * length (left_of self.picked.now self.kinds.now) ≤ length out.old }
+        ensures { Put out.old at (bytes_of (left_of self.entry.picked.now self.entry.kinds.now)) out.new result }
+    {
+        let n = molecule::fix_count(self.picked) as usize;
+        let mut to = at;
+        for i in 0..n {
+            if self.is_free(i) {
+                continue;
+            }
+            let p = out_points::point_of(self.picked, i);
+            to = out_points::put_out_point(out, to, p);
+        }
+        to
+    }
+
+    // Puts the list of those picks, which are n, at the start of out.
+    fn put_refused_list(self, n: u32, out: &mut [u8])
+        requires n_value { n ≡ length (left_of self.picked.now self.kinds.now) }
+        requires in_bounds { 4 + 36 * n ≤ length out.old }
+        ensures { out.new ≡ written (left_of self.entry.picked.now self.entry.kinds.now) out.old }
+    {
+        let at = write::put_u32(out, 0, n);
+        self.put_refused(out, at);
+    }
+
+    // Puts both lists: the cells of the records from `from` on, and the n picks that are not taken.
+    fn put_both(self, g: Held, from: usize, n: u32, taken: &mut [u8], refused: &mut [u8])
+        requires n_value { n ≡ length (left_of self.picked.now self.kinds.now) }
+        requires in_bounds { 4 + 36 * n ≤ length refused.old }
+        ensures taken_after { taken.new ≡ put_if (cells_of (drop from (records_of g))) taken.old }
+        ensures refused_after { refused.new ≡ written (left_of self.entry.picked.now self.entry.kinds.now) refused.old }
+    {
+        hold_records::put_cells(g, from, taken);
+        self.put_refused_list(n, refused);
+    }
+
+    // Takes the free picks.
+    fn take(
+        self,
+        live: Held,
+        owner: Owner,
+        taken: &mut [u8],
+        refused: &mut [u8],
+    ) -> Result<Held, Refusal>
+        ensures refused_after { (h : Held) → (outcome_on h result, taken.new, refused.new) ≡ take_lists h (records_of live) (free_of self.entry.picked.now self.entry.kinds.now) (left_of self.entry.picked.now self.entry.kinds.now) owner taken.old refused.old }
+        ensures count_bound { IfOk result (λ g. g.count ≤ 256) }
+    {
+        let t = self.tally(live, owner);
+        let count = t.count;
+        let n = molecule::fix_count(self.picked);
+        let rest = n - count;
+        if !both_fit(count, taken.len(), rest, refused.len()) {
+            return Err(Refusal::BufferTooShort);
+        }
+        let from = hold_records::used(live.count);
+        if MOST_RECORDS - from < count as usize {
+            return Err(Refusal::TooManyHolds);
+        }
+        let after = t.held;
+        self.put_both(after, from, rest, taken, refused);
+        Ok(after)
+    }
 }
 
 // Takes the picks that no record of `live` holds. More picks than two lists hold are refused.
@@ -155,7 +156,16 @@ pub fn take_from(
     }
     let mut cells = [0u8; CELLS_BYTES];
     hold_records::list_cells(live, &mut cells);
-    let mut kinds = [0u8; MOST_PICKS];
-    unavailable_picks::put_kinds(&cells, picked, spent, &mut kinds);
-    take_free(live, picked, &kinds, owner, taken, refused)
+    let picks = Picks {
+        cells: &cells,
+        picked,
+        spent,
+    };
+    let mut kinds = [Kind::Again; MOST_PICKS];
+    unavailable_picks::put_kinds(picks, &mut kinds);
+    let sorted = Sorted {
+        picked,
+        kinds: &kinds,
+    };
+    sorted.take(live, owner, taken, refused)
 }

@@ -136,7 +136,7 @@ fn is_record(hold: &Hold, item: &[u8], points: &[u8], i: usize) -> bool {
     let (kind, number) = recorded(hold.owner);
     kind == little_endian::byte(item, 0)
         && number == little_endian::u64_at(item, 1)
-        && out_points::same_point(hold.point, out_points::point_of(points, i))
+        && hold.point == out_points::point_of(points, i)
 }
 
 // Whether the table has these records, in this order, and no others.
@@ -152,6 +152,7 @@ fn is_table(held: &Held, owners: &[u8], points: &[u8]) -> bool {
         ))
 }
 
+// No ==: `Held` has none.
 #[derive(Drop)]
 struct Holds {
     held: Held,

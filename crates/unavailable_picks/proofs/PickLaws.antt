@@ -5,8 +5,11 @@ use native.Mathlib.Nat.{zero-add}
 use native.Mathlib.Omega.{arith}
 use mathlib.Core.Bool.{Bool, true, false, not, cond}
 use mathlib.Core.List.{List, [], ◌∷◌}
-use lib.Dec.{eqb}
-use lib.ListN.{length, get_or, set, length-set}
+use denote.Enum.Bare.{sameb}
+use Rattle.pick_kinds.specs.contracts.Kind.{the_type}
+use lib.ListN.{length, get_or, set, take, length-set}
+use Rattle.std.proofs.Common.{length-take-le}
+use Rattle.std.proofs.lemmas.List.{get_or-take}
 use Rattle.arithmetic.specs.LittleEndian.{to_le}
 use Rattle.molecule.specs.Layout.{span, fix_count}
 use Rattle.molecule.specs.Write.{put_at, put_end, Put}
@@ -14,9 +17,10 @@ use Rattle.out_points.specs.declared.{OutPoint.OutPoint}
 use Rattle.out_points.specs.OutPoints.{has, point_of, points, point_bytes, bytes_of}
 use Rattle.hold_records.specs.declared.{Held.Held}
 use Rattle.hold_records.specs.Holds.{records_of, cells_of, is_busy, firsts}
+use Rattle.pick_kinds.specs.declared.{Kind.Kind}
 use Rattle.pick_kinds.specs.Kinds.{is_among, kind_of, Kinds}
-use Rattle.pick_kinds.proofs.KindLaws.{kinds_none, kind_put}
-use Rattle.unavailable_picks.specs.Unavailable.{Marks, Looked, is_first, select, named}
+use Rattle.pick_kinds.proofs.KindLaws.{kind_put}
+use Rattle.unavailable_picks.specs.Unavailable.{is_first, select, named}
 use Rattle.out_points.specs.Tables.{has_room}
 use Rattle.hold_records.specs.Rules.{put_if}
 use Rattle.hold_records.proofs.WriteLaws.{Listing, list_start, list_more, list_end, list_long, room_no, room_yes, put_no, put_yes, list_put}
@@ -44,47 +48,40 @@ module _ (f : OutPoint → Bool) (g : ℕ → OutPoint) (i : ℕ) {p : OutPoint}
     before-is : has (g i) (span g 0 i) ≡ b
     before-is = let k : min i m ≡ i = omega arith in sym (rw (ep, k) at eb)
 
-    pub kind_repeat : b ≡ true → 0 ≡ kind_of f g i
+    pub kind_repeat : b ≡ true → Kind.Again ≡ kind_of f g i
     unfolding kind_of
     kind_repeat t = rw (before-is, t)
 
     module _ (t : b ≡ false) {a : Bool} (ea : a ≡ f p) where
-      pub kind_busy : a ≡ true → 2 ≡ kind_of f g i
+      pub kind_busy : a ≡ true → Kind.Busy ≡ kind_of f g i
       unfolding kind_of
       kind_busy u = rw (before-is, t, ← ep, ← ea, u)
 
-      pub kind_free : a ≡ false → 1 ≡ kind_of f g i
+      pub kind_free : a ≡ false → Kind.Free ≡ kind_of f g i
       unfolding kind_of
       kind_free u = rw (before-is, t, ← ep, ← ea, u)
 
 -- ---- what was sorted out
 
-module _ {cells picked spent marks kinds : List ℕ} {known : ℕ} (k : Looked cells picked spent marks kinds known) where
-  pub looked_marks : Marks (points cells) (points spent) marks
-  looked_marks = k.marks_are
+-- `== Kind::Busy`
+abbrev is-busy : Kind → Bool
+is-busy k = sameb the_type k Kind.Busy
 
-  pub looked_in : {i : ℕ} → i < known → i < length kinds
-  looked_in l = let r = k.kinds_are.room in omega arith
+pub busy_is : {f : OutPoint → Bool} {g : ℕ → OutPoint} {kinds : List Kind} → Kinds f g (length kinds) kinds → (i : ℕ) → i < length kinds → is-busy (get_or kinds i Kind.Again) ≡ is_first f g i
+unfolding is_first kind_of
+busy_is {f} {g} k i l = ap is-busy (k.each i l) ∙ by (has (g i) (span g 0 i)) (f (g i))
+  where
+    by : (b c : Bool) → is-busy (cond b Kind.Again (cond c Kind.Busy Kind.Free)) ≡ cond c (not b) false
+    by true true = refl
+    by true false = refl
+    by false true = refl
+    by false false = refl
 
-  pub looked_is : (i : ℕ) → i < known → eqb (get_or kinds i 0) 2 ≡ is_first (is_among (points cells) (points spent)) (point_of picked) i
-  unfolding is_first kind_of
-  looked_is i l =
-      ap (λ (v : ℕ). eqb v 2) (k.kinds_are.each i l)
-      ∙ by (has (point_of picked i) (span (point_of picked) 0 i)) (is_among (points cells) (points spent) (point_of picked i))
-    where
-      by : (b c : Bool) → eqb (cond b 0 (cond c 2 1)) 2 ≡ cond c (not b) false
-      by true true = refl
-      by true false = refl
-      by false true = refl
-      by false false = refl
-
-pub looked_so : {cells picked spent marks kinds : List ℕ} {known : ℕ} → Marks (points cells) (points spent) marks
-    → Kinds (is_among (points cells) (points spent)) (point_of picked) known kinds → Looked cells picked spent marks kinds known
-looked_so m k = record { marks_are = m; kinds_are = k }
-
--- nothing was sorted out
-pub looked_none : {cells picked spent marks : List ℕ} → Marks (points cells) (points spent) marks → Looked cells picked spent marks marks 0
-looked_none {cells} {picked} {spent} {marks} m = record { marks_are = m; kinds_are = kinds_none (is_among (points cells) (points spent)) (point_of picked) marks }
+-- those that were sorted out
+pub kinds_front : {f : OutPoint → Bool} {g : ℕ → OutPoint} {kinds : List Kind} {known : ℕ} → Kinds f g known kinds → Kinds f g (length (take known kinds)) (take known kinds)
+kinds_front {kinds = kinds} {known = known} k =
+    let z : length (take known kinds) ≡ known = length-take-le known kinds k.room in
+    record { room = omega arith; each = λ i l. get_or-take known kinds i Kind.Again (omega arith) ∙ k.each i (omega arith) }
 
 pub pick-below : {n m i : ℕ} → n ≡ m → i < n → i < m
 pick-below e l = omega arith
@@ -92,22 +89,21 @@ pick-below e l = omega arith
 -- ---- kinds, put one after the other
 
 module _ (f : OutPoint → Bool) (g : ℕ → OutPoint) where
-  kinds_fewer : {n j : ℕ} {m : List ℕ} → j ≤ n → Kinds f g n m → Kinds f g j m
+  kinds_fewer : {n j : ℕ} {m : List Kind} → j ≤ n → Kinds f g n m → Kinds f g j m
   kinds_fewer l k = let r = k.room in record { room = omega arith; each = λ i h. k.each i (omega arith) }
 
-  pub record Filling (n i : ℕ) (m₀ m : List ℕ) : Type 0 where
+  pub record Filling (n i : ℕ) (m₀ m : List Kind) : Type 0 where
     pub long : length m ≡ length m₀
     pub kinds : Kinds f g i m
 
-pub fill_start : {cells picked spent marks kinds : List ℕ} {known : ℕ} (n : ℕ) → Looked cells picked spent marks kinds known
-    → Filling (is_among (points cells) (points spent)) (point_of picked) n known kinds kinds
-fill_start n k = record { long = refl; kinds = k.kinds_are }
+pub fill_start : {f : OutPoint → Bool} {g : ℕ → OutPoint} {m : List Kind} {known : ℕ} (n : ℕ) → Kinds f g known m → Filling f g n known m m
+fill_start n k = record { long = refl; kinds = k }
 
-module _ {f : OutPoint → Bool} {g : ℕ → OutPoint} {n i : ℕ} {m₀ m : List ℕ} (k : Filling f g n i m₀ m) where
+module _ {f : OutPoint → Bool} {g : ℕ → OutPoint} {n i : ℕ} {m₀ m : List Kind} (k : Filling f g n i m₀ m) where
   pub fill_long : length m ≡ length m₀
   fill_long = k.long
 
-  pub fill_more : {v : ℕ} → i < length m → v ≡ kind_of f g i → Filling f g n (i + 1) m₀ (set m i v)
+  pub fill_more : {v : Kind} → i < length m → v ≡ kind_of f g i → Filling f g n (i + 1) m₀ (set m i v)
   fill_more {v} l e = record { long = length-set m i v ∙ k.long; kinds = kind_put f g l e k.kinds }
 
   pub fill_end : (c : ℕ) → n ≡ min (length m₀) c → n ≤ i → Kinds f g (min c (length m)) m

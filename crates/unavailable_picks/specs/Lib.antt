@@ -1,1 +1,2 @@
 pub mod Unavailable
+pub mod Picks

@@ -2,9 +2,9 @@
 use Rattle.std.specs.Prelude.{◌≡◌, ℕ, zero, suc, Bool, false, not, cond, List, [], ◌∷◌, length, get_or, set}
 use Rattle.molecule.specs.Layout.{span}
 use Rattle.out_points.specs.declared.{OutPoint.OutPoint}
-use Rattle.out_points.specs.OutPoints.{slot_of, has, point_of, points}
+use Rattle.out_points.specs.OutPoints.{slot_of, has, points}
 use Rattle.hold_records.specs.Holds.{firsts}
-use Rattle.pick_kinds.specs.Kinds.{is_among, Kinds}
+use Rattle.pick_kinds.specs.Kinds.{is_among}
 
 -- the marks with those of the out points set: one for each slot
 unfoldable pub marked : List OutPoint → List ℕ → List ℕ
@@ -15,11 +15,6 @@ marked (p ∷ l) m = marked l (set m (slot_of p) 1)
 pub record Marks (cells spent : List OutPoint) (m : List ℕ) : Type 0 where
   pub enough : length m ≡ 4093
   pub unmarked : (p : OutPoint) → get_or m (slot_of p) 0 ≡ 0 → is_among cells spent p ≡ false
-
--- marks, and what the first `known` picks are
-pub record Looked (cells picked spent marks kinds : List ℕ) (known : ℕ) : Type 0 where
-  pub marks_are : Marks (points cells) (points spent) marks
-  pub kinds_are : Kinds (is_among (points cells) (points spent)) (point_of picked) known kinds
 
 -- pick i passes the test, and no pick before it is the same
 unfoldable pub is_first : (OutPoint → Bool) → (ℕ → OutPoint) → ℕ → Bool

@@ -8,13 +8,15 @@ ghost use Rattle.out_points.specs.OutPoints.{slot_of, point_of, points, bytes_of
 ghost use Rattle.out_points.specs.Tables.{has_room};
 ghost use Rattle.hold_records.specs.Holds.{records_of, is_busy, firsts};
 ghost use Rattle.hold_records.specs.Rules.{put_if};
-ghost use Rattle.pick_kinds.specs.Kinds.{is_among, kind_of, Kinds};
-ghost use Rattle.unavailable_picks.specs.Unavailable.{marked, Marks, Looked, is_first, named};
+ghost use Rattle.pick_kinds.specs.Kinds.{kind_of, Kinds};
+ghost use Rattle.pick_kinds.specs.Picks.{among_of, KindsOf};
+ghost use Rattle.unavailable_picks.specs.Unavailable.{marked, Marks, is_first};
+ghost use Rattle.unavailable_picks.specs.Picks.{named_of};
 
 use hold_records::{Held, MOST_RECORDS};
 use molecule::write;
 use out_points::{OutPoint, SLOTS};
-use pick_kinds::{AGAIN, BUSY, FREE, MOST_PICKS};
+use pick_kinds::{Kind, MOST_PICKS, Picks};
 
 // How many bytes the list of a table's cells has at most.
 pub const CELLS_BYTES: usize = 4 + 36 * MOST_RECORDS;
@@ -42,211 +44,203 @@ fn mark_list(s: &[u8], marks: &mut [u8])
     }
 }
 
-// Sets the marks of both lists.
-fn mark_both(cells: &[u8], spent: &[u8], marks: &mut [u8])
-    ensures { marks.new ≡ marked (points spent.now) (marked (points cells.now) marks.old) }
+// Sets the marks of the cells that are busy.
+fn mark_both(picks: Picks<'_>, marks: &mut [u8])
+    ensures { marks.new ≡ marked (points picks.entry.spent.now) (marked (points picks.entry.cells.now) marks.old) }
 {
-    mark_list(cells, marks);
-    mark_list(spent, marks);
+    mark_list(picks.cells, marks);
+    mark_list(picks.spent, marks);
 }
 
-// Whether p is one of the cells, which are held, or spent. Where its mark is not set, nothing is searched.
-fn busy(cells: &[u8], spent: &[u8], marks: &[u8], p: OutPoint) -> bool
-    requires { Marks (points cells.now) (points spent.now) marks.now }
-    ensures { result ≡ is_among (points cells.now) (points spent.now) p }
-{
-    marks[out_points::slot(p)] != 0
-        && (out_points::has_point(cells, p) || out_points::has_point(spent, p))
+// The picks, with the marks of the cells that are busy.
+#[derive(Clone, Copy)]
+struct Marked<'a> {
+    picks: Picks<'a>,
+    marks: &'a [u8],
+    ghost are_marks: { Marks (points picks.cells.now) (points picks.spent.now) marks.now },
 }
 
-// What pick i is, looked up.
-fn kind_at(cells: &[u8], picked: &[u8], spent: &[u8], marks: &[u8], i: usize) -> u8
-    requires i_bound { i < fix_count picked.now }
-    requires marks { Marks (points cells.now) (points spent.now) marks.now }
-    ensures { result ≡ kind_of (is_among (points cells.now) (points spent.now)) (point_of picked.now) i }
-{
-    let p = out_points::point_of(picked, i);
-    if out_points::has_before(picked, i, p) {
-        return AGAIN;
+// The same, with the kinds of the first picks, which have been sorted out: the others are looked up.
+#[derive(Clone, Copy)]
+struct Known<'a> {
+    marked: Marked<'a>,
+    kinds: &'a [Kind],
+    ghost are_kinds: { Kinds (among_of marked.picks) (point_of marked.picks.picked.now) (length kinds.now) kinds.now },
+}
+
+impl<'a> Marked<'a> {
+    // Whether p is one of the cells, which are held, or spent. Where its mark is not set, nothing is searched.
+    fn is_busy(self, p: OutPoint) -> bool
+        ensures { result ≡ among_of self.entry.picks p }
+    {
+        self.marks[out_points::slot(p)] != 0
+            && (out_points::has_point(self.picks.cells, p)
+                || out_points::has_point(self.picks.spent, p))
     }
-    if busy(cells, spent, marks, p) {
-        return BUSY;
+
+    // What pick i is, looked up.
+    fn kind_at(self, i: usize) -> Kind
+        requires i_bound { i < fix_count self.picks.picked.now }
+        ensures { result ≡ kind_of (among_of self.entry.picks) (point_of self.entry.picks.picked.now) i }
+    {
+        let p = out_points::point_of(self.picks.picked, i);
+        if out_points::has_before(self.picks.picked, i, p) {
+            return Kind::Again;
+        }
+        if self.is_busy(p) {
+            return Kind::Busy;
+        }
+        Kind::Free
     }
-    FREE
+
+    // Puts what the picks from `from` on are, as far as kinds goes.
+    fn look_up_from(self, from: usize, kinds: &mut [Kind])
+        requires known { KindsOf self.picks from kinds.old }
+        ensures { KindsOf self.entry.picks (min (fix_count self.entry.picks.picked.now) (length kinds.new)) kinds.new }
+    {
+        let n = kinds
+            .len()
+            .min(molecule::fix_count(self.picks.picked) as usize);
+        for i in from..n {
+            kinds[i] = self.kind_at(i);
+        }
+    }
+
+    // Whether pick i is busy, and no pick before it is the same: both are looked up.
+    fn look_up(self, i: usize) -> bool
+        requires i_bound { i < fix_count self.picks.picked.now }
+        ensures { result ≡ is_first (among_of self.entry.picks) (point_of self.entry.picks.picked.now) i }
+    {
+        let p = out_points::point_of(self.picks.picked, i);
+        self.is_busy(p) && !out_points::has_before(self.picks.picked, i, p)
+    }
+
+    // Puts the list of the busy picks by an index of the picks.
+    fn index_busy(self, out: &mut [u8]) -> bool
+        ensures value { result ≡ has_room (named_of self.entry.picks) out.old }
+        ensures out_after { out.new ≡ put_if (named_of self.entry.picks) out.old }
+    {
+        let mut kinds = [Kind::Again; MOST_PICKS];
+        let n = self.picks.sort_out(&mut kinds);
+        let known = Known {
+            marked: self,
+            kinds: &kinds[..n],
+        };
+        known.put_list(out)
+    }
+
+    // The same. A few picks are looked up one by one.
+    fn put_among(self, out: &mut [u8]) -> bool
+        ensures value { result ≡ has_room (named_of self.entry.picks) out.old }
+        ensures out_after { out.new ≡ put_if (named_of self.entry.picks) out.old }
+    {
+        if FEW_PICKS < molecule::fix_count(self.picks.picked) as usize {
+            return self.index_busy(out);
+        }
+        let known = Known {
+            marked: self,
+            kinds: &[],
+        };
+        known.put_list(out)
+    }
 }
 
-// Puts what the picks from `from` on are, as far as kinds goes.
-fn look_up_from(
-    cells: &[u8],
-    picked: &[u8],
-    spent: &[u8],
-    marks: &[u8],
-    from: usize,
-    kinds: &mut [u8],
-)
-    requires { Looked cells.now picked.now spent.now marks.now kinds.old from }
-    ensures { Kinds (is_among (points cells.now) (points spent.now)) (point_of picked.now) (min (fix_count picked.now) (length kinds.new)) kinds.new }
-{
-    let n = kinds.len().min(molecule::fix_count(picked) as usize);
-    for i in from..n {
-        kinds[i] = kind_at(cells, picked, spent, marks, i);
+impl<'a> Known<'a> {
+    // Whether pick i is busy, and no pick before it is the same.
+    fn is_first(self, i: usize) -> bool
+        requires i_bound { i < fix_count self.marked.picks.picked.now }
+        ensures { result ≡ is_first (among_of self.entry.marked.picks) (point_of self.entry.marked.picks.picked.now) i }
+    {
+        if i < self.kinds.len() {
+            return self.kinds[i] == Kind::Busy;
+        }
+        self.marked.look_up(i)
+    }
+
+    // How many picks are busy, each counted once.
+    fn count_busy(self) -> u32
+        ensures { result ≡ length (named_of self.entry.marked.picks) }
+    {
+        let mut count: u32 = 0;
+        for i in 0..molecule::fix_count(self.marked.picks.picked) as usize {
+            if self.is_first(i) {
+                count += 1;
+            }
+        }
+        count
+    }
+
+    // Puts those picks, one after the other from `at` on.
+    fn put_busy(self, out: &mut [u8], at: usize) -> usize
+        requires in_bounds { at + 36 * length (named_of self.marked.picks) ≤ length out.old }
+        ensures { Put out.old at (bytes_of (named_of self.entry.marked.picks)) out.new result }
+    {
+        let picked = self.marked.picks.picked;
+        let mut to = at;
+        for i in 0..molecule::fix_count(picked) as usize {
+            if self.is_first(i) {
+                to = out_points::put_out_point(out, to, out_points::point_of(picked, i));
+            }
+        }
+        to
+    }
+
+    // Puts the list of the busy picks at the start of out, and answers whether there is room for all of it: else it puts nothing.
+    fn put_list(self, out: &mut [u8]) -> bool
+        ensures value { result ≡ has_room (named_of self.entry.marked.picks) out.old }
+        ensures out_after { out.new ≡ put_if (named_of self.entry.marked.picks) out.old }
+    {
+        let n = self.count_busy();
+        if !out_points::fits(n, out.len()) {
+            return false;
+        }
+        let at = write::put_u32(out, 0, n);
+        self.put_busy(out, at);
+        true
     }
 }
 
 // Puts what the picks are by an index of them, unless they are few, and answers for how many it does so.
-fn sort_many(cells: &[u8], picked: &[u8], spent: &[u8], kinds: &mut [u8]) -> usize
-    ensures { Kinds (is_among (points cells.now) (points spent.now)) (point_of picked.now) result kinds.new }
+fn sort_many(picks: Picks<'_>, kinds: &mut [Kind]) -> usize
+    ensures { KindsOf picks.entry result kinds.new }
 {
-    let n = molecule::fix_count(picked) as usize;
-    if n <= FEW_PICKS {
+    if molecule::fix_count(picks.picked) as usize <= FEW_PICKS {
         return 0;
     }
-    pick_kinds::sort_out(cells, picked, spent, kinds)
+    picks.sort_out(kinds)
 }
 
-// Puts what each pick is, where the cells and the spent ones are busy, as far as kinds goes.
-pub fn put_kinds(cells: &[u8], picked: &[u8], spent: &[u8], kinds: &mut [u8])
-    ensures { Kinds (is_among (points cells.now) (points spent.now)) (point_of picked.now) (min (fix_count picked.now) (length kinds.new)) kinds.new }
+// Puts what each pick is, as far as kinds goes.
+pub fn put_kinds(picks: Picks<'_>, kinds: &mut [Kind])
+    ensures { KindsOf picks.entry (min (fix_count picks.entry.picked.now) (length kinds.new)) kinds.new }
 {
     let mut marks = [0u8; SLOTS];
-    mark_both(cells, spent, &mut marks);
-    let known = sort_many(cells, picked, spent, kinds);
-    look_up_from(cells, picked, spent, &marks, known, kinds);
+    mark_both(picks, &mut marks);
+    let known = sort_many(picks, kinds);
+    let marked = Marked {
+        picks,
+        marks: &marks,
+    };
+    marked.look_up_from(known, kinds);
 }
 
-// Whether pick i is busy, and no pick before it is the same: both are looked up.
-fn look_up(cells: &[u8], picked: &[u8], spent: &[u8], marks: &[u8], i: usize) -> bool
-    requires i_bound { i < fix_count picked.now }
-    requires marks { Marks (points cells.now) (points spent.now) marks.now }
-    ensures { result ≡ is_first (is_among (points cells.now) (points spent.now)) (point_of picked.now) i }
-{
-    let p = out_points::point_of(picked, i);
-    busy(cells, spent, marks, p) && !out_points::has_before(picked, i, p)
-}
-
-// The same. What the first `known` picks are has been sorted out.
-fn is_first(
-    cells: &[u8],
-    picked: &[u8],
-    spent: &[u8],
-    marks: &[u8],
-    kinds: &[u8],
-    known: usize,
-    i: usize,
-) -> bool
-    requires i_bound { i < fix_count picked.now }
-    requires looked { Looked cells.now picked.now spent.now marks.now kinds.now known }
-    ensures { result ≡ is_first (is_among (points cells.now) (points spent.now)) (point_of picked.now) i }
-{
-    if i < known {
-        return kinds[i] == BUSY;
-    }
-    look_up(cells, picked, spent, marks, i)
-}
-
-// How many picks are busy, each counted once.
-fn count_busy(
-    cells: &[u8],
-    picked: &[u8],
-    spent: &[u8],
-    marks: &[u8],
-    kinds: &[u8],
-    known: usize,
-) -> u32
-    requires { Looked cells.now picked.now spent.now marks.now kinds.now known }
-    ensures { result ≡ length (named cells.now picked.now spent.now) }
-{
-    let n = molecule::fix_count(picked) as usize;
-    let mut count: u32 = 0;
-    for i in 0..n {
-        if is_first(cells, picked, spent, marks, kinds, known, i) {
-            count += 1;
-        }
-    }
-    count
-}
-
-// Puts those picks, one after the other from `at` on.
-fn put_busy(
-    cells: &[u8],
-    picked: &[u8],
-    spent: &[u8],
-    marks: &[u8],
-    kinds: &[u8],
-    known: usize,
-    out: &mut [u8],
-    at: usize,
-) -> usize
-    requires looked { Looked cells.now picked.now spent.now marks.now kinds.now known }
-    requires spent_in_bounds { at + 36 * length (named cells.now picked.now spent.now) ≤ length out.old }
-    ensures { Put out.old at (bytes_of (named cells.now picked.now spent.now)) out.new result }
-{
-    let n = molecule::fix_count(picked) as usize;
-    let mut to = at;
-    for i in 0..n {
-        if is_first(cells, picked, spent, marks, kinds, known, i) {
-            let p = out_points::point_of(picked, i);
-            to = out_points::put_out_point(out, to, p);
-        }
-    }
-    to
-}
-
-// Puts the list of the busy picks at the start of out, and answers whether there is room for all of it: else it puts nothing.
-fn put_busy_list(
-    cells: &[u8],
-    picked: &[u8],
-    spent: &[u8],
-    marks: &[u8],
-    kinds: &[u8],
-    known: usize,
-    out: &mut [u8],
-) -> bool
-    requires { Looked cells.now picked.now spent.now marks.now kinds.now known }
-    ensures value { result ≡ has_room (named cells.now picked.now spent.now) out.old }
-    ensures out_after { out.new ≡ put_if (named cells.now picked.now spent.now) out.old }
-{
-    let n = count_busy(cells, picked, spent, marks, kinds, known);
-    if !out_points::fits(n, out.len()) {
-        return false;
-    }
-    let at = write::put_u32(out, 0, n);
-    put_busy(cells, picked, spent, marks, kinds, known, out, at);
-    true
-}
-
-// The same by an index of the picks.
-fn index_busy(cells: &[u8], picked: &[u8], spent: &[u8], marks: &[u8], out: &mut [u8]) -> bool
-    requires { Marks (points cells.now) (points spent.now) marks.now }
-    ensures value { result ≡ has_room (named cells.now picked.now spent.now) out.old }
-    ensures out_after { out.new ≡ put_if (named cells.now picked.now spent.now) out.old }
-{
-    let mut kinds = [0u8; MOST_PICKS];
-    let known = pick_kinds::sort_out(cells, picked, spent, &mut kinds);
-    put_busy_list(cells, picked, spent, marks, &kinds, known, out)
-}
-
-// The same. A few picks are looked up one by one.
-fn put_among(cells: &[u8], picked: &[u8], spent: &[u8], marks: &[u8], out: &mut [u8]) -> bool
-    requires { Marks (points cells.now) (points spent.now) marks.now }
-    ensures value { result ≡ has_room (named cells.now picked.now spent.now) out.old }
-    ensures out_after { out.new ≡ put_if (named cells.now picked.now spent.now) out.old }
-{
-    let n = molecule::fix_count(picked) as usize;
-    if n <= FEW_PICKS {
-        return put_busy_list(cells, picked, spent, marks, marks, 0, out);
-    }
-    index_busy(cells, picked, spent, marks, out)
-}
-
-// The same of the picks that a table holds, or that are spent.
+// Puts the list of the picks that a table holds, or that are spent, each once, and answers whether there is room for all of it: else it puts nothing.
 pub fn put_unavailable(h: Held, picked: &[u8], spent: &[u8], out: &mut [u8]) -> bool
     ensures value { result ≡ has_room (firsts (is_busy (records_of h) (points spent.now)) [] (points picked.now)) out.old }
     ensures out_after { out.new ≡ put_if (firsts (is_busy (records_of h) (points spent.now)) [] (points picked.now)) out.old }
 {
     let mut cells = [0u8; CELLS_BYTES];
     hold_records::list_cells(h, &mut cells);
+    let picks = Picks {
+        cells: &cells,
+        picked,
+        spent,
+    };
     let mut marks = [0u8; SLOTS];
-    mark_both(&cells, spent, &mut marks);
-    put_among(&cells, picked, spent, &marks, out)
+    mark_both(picks, &mut marks);
+    let marked = Marked {
+        picks,
+        marks: &marks,
+    };
+    marked.put_among(out)
 }

@@ -5,7 +5,7 @@ use native.Mathlib.Nat.{zero-add}
 use native.Mathlib.Numerals.{add-one}
 use native.Mathlib.Omega.{arith}
 use borrow.Author.Tests.{ltb-true, ltb-false, eqb-true, eqb-false}
-use mathlib.Core.Bool.{Bool, true, false, not, cond, false≢true}
+use mathlib.Core.Bool.{Bool, true, false, not, cond}
 use mathlib.Core.List.{List, []}
 use lib.Dec.{ltb, eqb}
 use lib.ListN.{length, get_or, set, replicate, length-set, length-replicate, get_or-replicate}
@@ -14,7 +14,7 @@ use Rattle.molecule.specs.Layout.{span, fix_count}
 use Rattle.lists.proofs.EqualLaws.{not_so}
 use Rattle.out_points.specs.declared.{OutPoint.OutPoint}
 use Rattle.out_points.specs.OutPoints.{eq_point, slot_of, has, point_of, points}
-use Rattle.out_points.proofs.EqualLaws.{point-same, point_refl, has_last}
+use Rattle.out_points.proofs.EqualLaws.{flip, has_last}
 use Rattle.hold_records.specs.declared.{Owner.Owner, Hold.Hold, Held.Held}
 use Rattle.hold_records.specs.Holds.{by_owner, is_tower_on, is_unnamed}
 use Rattle.hold_records.proofs.LoopLaws.{Keeping, keep_yes, keep_no}
@@ -107,10 +107,6 @@ marks_none l n e = record {
   room = ap length e ∙ length-replicate {A = ℕ} 256 0;
   each = λ j d b. (let z : ◌≡◌ {A = ℕ} (get_or (replicate 256 0) j 0) 0 = get_or-replicate {A = ℕ} 256 j 0 0 (omega arith) in rw (e, z) (sym (unnamed_none (get_or l j d))));
 }
-
-flip : (p q : OutPoint) (b : Bool) → eq_point p q ≡ b → eq_point q p ≡ b
-flip p q true e = ap (λ (x : OutPoint). eq_point q x) (point-same p q e) ∙ point_refl q
-flip p q false e = not_so (eq_point q p) (λ h. false≢true (sym e ∙ ap (λ (x : OutPoint). eq_point p x) (point-same q p h) ∙ point_refl p))
 
 -- one more cell
 unnamed_more : (s : List ℕ) (i : ℕ) (r : Hold) → is_unnamed (span (point_of s) 0 (i + 1)) r ≡ cond (is_tower_on (point_of s i) r) false (is_unnamed (span (point_of s) 0 i) r)

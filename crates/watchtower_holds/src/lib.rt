@@ -86,12 +86,13 @@ fn note_all(h: Held, hints: &mut [u8])
 }
 
 // Whether the record is the watchtower's on p.
+#[tactic(auto, using(crate::proofs::Ways::ways), unfolding(out_points::specs::OutPoints::eq_hash, out_points::specs::OutPoints::eq_point))]
 fn tower_on(r: Hold, p: OutPoint) -> bool
     ensures { result ≡ is_tower_on p r }
 {
     match r.owner {
         Owner::Funding(_) => false,
-        Owner::Watchtower(_) => out_points::same_point(p, r.point),
+        Owner::Watchtower(_) => p == r.point,
     }
 }
 

@@ -4,8 +4,5 @@ use Rattle.item_index.proofs.ordering.compare_words.Goals as goal
 pub returns-then-u-v : goal.returns-then-u-v
 returns-then-u-v c = search ways
 
-pub loop-i-preserved : goal.loop-i-preserved
-loop-i-preserved c = search ways
-
 pub returns : goal.returns
 returns c = search ways

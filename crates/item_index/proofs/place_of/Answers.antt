@@ -1,6 +1,0 @@
-use Rattle.item_index.specs.Index.{key_of}
-use Rattle.item_index.proofs.FindLaws.{place_front}
-use Rattle.item_index.proofs.place_of.Goals as goal
-
-pub returns : goal.returns
-returns c = λ o. place_front (key_of c.args.b.now c.args.k c.args.skip) c.args.s.now c.args.x.now c.args.n o c.place_of.ensures c.unwrap_or.ensures

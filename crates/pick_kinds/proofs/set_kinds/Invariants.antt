@@ -1,6 +1,0 @@
-use Rattle.out_points.specs.OutPoints.{point_of}
-use Rattle.pick_kinds.proofs.KindLaws.{Setting}
-use Rattle.pick_kinds.proofs.set_kinds.Given as goal
-
-abbrev pub invariant-loop-i : goal.invariant-loop-i
-invariant-loop-i l = Setting (point_of l.picked) l.n l.i l.initial.kinds l.kinds

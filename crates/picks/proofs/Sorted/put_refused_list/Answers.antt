@@ -1,0 +1,5 @@
+use Rattle.picks.proofs.Ways.{ways}
+use Rattle.picks.proofs.Sorted.put_refused_list.Goals as goal
+
+pub returns : goal.returns
+returns c = search ways

@@ -1,5 +1,0 @@
-use Rattle.picks.proofs.Ways.{ways}
-use Rattle.picks.proofs.put_refused.Goals as goal
-
-pub returns : goal.returns
-returns c = search ways

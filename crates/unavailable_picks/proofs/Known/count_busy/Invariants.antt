@@ -1,0 +1,10 @@
+use Rattle.std.proofs.Common.{length}
+use Rattle.out_points.specs.OutPoints.{point_of}
+use Rattle.pick_kinds.specs.Picks.{among_of}
+use Rattle.unavailable_picks.specs.Unavailable.{is_first}
+use Rattle.unavailable_picks.specs.Picks.{named_of}
+use Rattle.unavailable_picks.proofs.PickLaws.{Counting}
+use Rattle.unavailable_picks.proofs.Known.count_busy.Given as goal
+
+abbrev pub invariant-loop-i : goal.invariant-loop-i
+invariant-loop-i l = Counting (is_first (among_of l.self.marked.picks) (point_of l.self.marked.picks.picked.now)) (point_of l.self.marked.picks.picked.now) l.i-end l.i l.count (length (named_of l.self.marked.picks))

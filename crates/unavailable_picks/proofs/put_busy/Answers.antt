@@ -1,5 +1,0 @@
-use Rattle.unavailable_picks.proofs.Ways.{ways}
-use Rattle.unavailable_picks.proofs.put_busy.Goals as goal
-
-pub returns : goal.returns
-returns c = search ways

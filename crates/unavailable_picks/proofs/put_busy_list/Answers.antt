@@ -1,8 +1,0 @@
-use Rattle.unavailable_picks.proofs.Ways.{ways}
-use Rattle.unavailable_picks.proofs.put_busy_list.Goals as goal
-
-pub put_busy-requires-clause-spent_in_bounds : goal.put_busy-requires-clause-spent_in_bounds
-put_busy-requires-clause-spent_in_bounds c = search ways
-
-pub returns-clause-out_after : goal.returns-clause-out_after
-returns-clause-out_after c = search ways
