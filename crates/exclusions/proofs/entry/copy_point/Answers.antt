@@ -3,7 +3,7 @@ use Rattle.std.proofs.lemmas.Slice.{put_mid-paste}
 use Rattle.std.proofs.lemmas.List.{take_all}
 use lib.Seq.{length-take-le}
 use Rattle.molecule.specs.Write.{splice}
-use Rattle.exclusions.proofs.changes.copy_point.Goals as goal
+use Rattle.exclusions.proofs.entry.copy_point.Goals as goal
 
 pub returns : goal.returns
 unfolding splice
