@@ -1,5 +1,5 @@
 use Rattle.item_places.proofs.Ways.{ways}
-use Rattle.item_places.proofs.place_in.Goals as goal
+use Rattle.item_places.proofs.TxList.place.Goals as goal
 
 pub returns-in-CellDeps : goal.returns-in-CellDeps
 returns-in-CellDeps c = search ways
