@@ -5,6 +5,7 @@ ghost use Rattle.negotiation.specs.Law.{Lawful};
 ghost use Rattle.words.specs.Words.{writing};
 ghost use Rattle.answer_words.specs.Answers.{replay_words};
 
+use negotiation::Negotiation;
 use words::WORDS;
 
 // Judges a list of updates, each against the transaction that the one before it left in force.
@@ -20,6 +21,11 @@ pub extern "C" fn basinpantry_replay<'a>(
     ensures answers_after { ((result, values.new), answers.new) ≡ writing replay_words (leaves (replay_of lock.now udt.now start.now updates.now (length answers.old)) answers.old) values.old }
     ensures lawful { result ≡ 0 → Lawful lock.now udt.now start.now updates.now answers.old (get_or values.new 0 0) (get_or values.new 1 0) (get_or values.new 2 0) answers.new }
 {
-    let replayed = negotiation::replay(start, lock, udt, updates, answers);
-    answer_words::tell_replayed(replayed, values)
+    let negotiation = Negotiation {
+        start,
+        lock,
+        udt,
+        updates,
+    };
+    answer_words::tell_replayed(negotiation.replay(answers), values)
 }

@@ -194,11 +194,11 @@ module _ {rule : Rule} {s : List ℕ} {n : ℕ} {v : Survey} {at left i : ℕ} (
                     ∙ w.swept;
               }
 
-          pub sweep_touched : {z : ℕ} → z ≡ 48 + 36 * c → u ≡ turned (keeps rule (entry_of x)) (takes rule (entry_of x)) c v → Sweeping rule s n u (at + z) (left - c) (i + 1)
-          sweep_touched ez on = rw ez (turned-one on)
+          pub sweep_touched : {z : ℕ} → z ≡ 48 + 36 * c → u ≡ turned (keeps rule (entry_of x)) (takes rule (entry_of x)) (u32_at x 44) v → Sweeping rule s n u (at + z) (left - c) (i + 1)
+          sweep_touched ez on = rw ez (turned-one (rw (← ec) at on))
 
           pub sweep_passed : {o : Option Words} {m : Bool} {z : ℕ} → o ≡ words_of rule → m ≡ may_touch o x → z ≡ 48 + 36 * c → m ≡ false → u ≡ stayed c v → Sweeping rule s n u (at + z) (left - c) (i + 1)
-          sweep_passed eo em ez f e = sweep_touched ez (e ∙ passes rule c v x (ap (λ (y : Option Words). may_touch y x) (sym eo) ∙ sym em ∙ f))
+          sweep_passed eo em ez f e = rw ez (turned-one (e ∙ passes rule c v x (ap (λ (y : Option Words). may_touch y x) (sym eo) ∙ sym em ∙ f)))
 
   pub sweep-end : n ≤ i → Ok v ≡ survey_of rule s
   unfolding survey_of are_entries entries_in sweep

@@ -184,21 +184,6 @@ fn stayed(v: Survey, n: u32) -> Survey
     r
 }
 
-// After an entry with n out points.
-#[tactic(auto, unfolding(crate::specs::Survey::turned, crate::specs::Survey::lost_one, crate::specs::Survey::took_one))]
-fn turned(v: Survey, kept: bool, taken: bool, n: u32) -> Survey
-    requires { Small n v }
-    ensures { result ≡ turned kept taken n v }
-{
-    if !kept {
-        return Survey { lost: true, ..v };
-    }
-    if taken && !v.taken {
-        return Survey { taken: true, ..v };
-    }
-    stayed(v, n)
-}
-
 // The first words of the hashes that the rule goes by, if it goes by hashes.
 #[tactic(auto, unfolding(crate::specs::Survey::words_of))]
 fn words_of(rule: Rule) -> Option<Words>
@@ -227,14 +212,19 @@ fn may_touch(words: Option<Words>, x: &[u8]) -> bool
     }
 }
 
-// After the entry at the start of x, with n out points, that the rule may touch.
-fn touched(v: Survey, rule: Rule, x: &[u8], n: u32) -> Survey
-    requires { Small n v }
-    ensures { result ≡ turned (keeps rule (entry_of x.now)) (takes rule (entry_of x.now)) n v }
+// After the entry at the start of x, that the rule may touch.
+#[tactic(auto, unfolding(crate::specs::Survey::turned, crate::specs::Survey::lost_one, crate::specs::Survey::took_one))]
+fn touched(v: Survey, rule: Rule, x: &[u8]) -> Survey
+    requires { Small (u32_at x.now 44) v }
+    ensures { result ≡ turned (keeps rule (entry_of x.now)) (takes rule (entry_of x.now)) (u32_at x.now 44) v }
 {
-    let kept = keeps(rule, x);
-    let taken = takes(rule, x);
-    turned(v, kept, taken, n)
+    if !keeps(rule, x) {
+        return Survey { lost: true, ..v };
+    }
+    if !v.taken && takes(rule, x) {
+        return Survey { taken: true, ..v };
+    }
+    stayed(v, point_count(x))
 }
 
 // Reads a table, and finds what a call by this rule makes of it.
@@ -266,7 +256,7 @@ pub fn read_map(s: &[u8], rule: Rule) -> Result<Survey, Refusal>
         at += entry_size(c);
         // What the rule does not touch is passed over with no look at the rule.
         if touch {
-            v = touched(v, rule, x, c);
+            v = touched(v, rule, x);
         } else {
             v = stayed(v, c);
         }

@@ -16,6 +16,7 @@ use Rattle.molecule.specs.Molecule.{readable, option}
 use Rattle.molecule.specs.Write.{splice}
 use Rattle.molecule.proofs.WriteLaws.{put_yes}
 use Rattle.transaction.specs.Ckb.{Transaction}
+use Rattle.transaction.specs.Tx.{raw_field}
 use Rattle.out_points.specs.declared.{Byte32.Byte32}
 use Rattle.out_points.specs.OutPoints.{byte32_at}
 use Rattle.out_points.specs.Tables.{done, refused, told, keep, renew}
@@ -27,6 +28,7 @@ use Rattle.exclusion_entries.specs.Survey.{keeps, takes, stay, loses, survey_of}
 use Rattle.exclusion_entries.proofs.EntryLaws.{entries-size}
 use Rattle.exclusion_entries.proofs.MapLaws.{map-long, map-few, map-count, map-points, map_same, map-fits, map-size, splice-back}
 use Rattle.exclusion_entries.proofs.StayLaws.{stay-size, stay_all, told_lost, told_good}
+use Rattle.exclusions.specs.Steps.{spent_at, spent_by, entry_with}
 use Rattle.exclusion_entries.specs.LentMap.{lent_map, lent_tx, hash_of}
 use Rattle.exclusion_entries.proofs.LentLaws.{lent_unread, lent-on, stay-keep, keep_all, hash_bad, hash_good}
 
@@ -74,9 +76,14 @@ stay-truncated tip l = stay-keep (keeps (Rule.Truncate tip)) (takes (Rule.Trunca
 
 -- ---- add
 
-entering-some : (l : List Entry) (hash : Byte32) (tx : List ℕ) → (length tx ≡ 0 → ⊥) → fitting (renew (has_hash hash) (pending hash tx) l) ≡ entering l hash tx
+-- the new entry is that of the transaction
+added-is : {k h : Byte32} (tx : List ℕ) {f : List ℕ} → k ≡ h → f ≡ raw_field tx 3 → entry_with k f ≡ pending h tx
+unfolding entry_with spent_by spent_at pending
+added-is tx ek ef = rw (ek, ef)
+
+entering-some : (l : List Entry) {k h : Byte32} (tx : List ℕ) {f : List ℕ} → k ≡ h → f ≡ raw_field tx 3 → (length tx ≡ 0 → ⊥) → fitting (renew (has_hash h) (entry_with k f) l) ≡ entering l h tx
 unfolding entering
-entering-some l hash tx z = rw (ne_eqb (length tx) 0 z)
+entering-some l {k} {h} tx ek ef z = rw (ne_eqb (length tx) 0 z) (ap (λ (x : Entry). fitting (renew (has_hash h) x l)) (added-is tx ek ef))
 
 pub add_bad : (s hash tx : List ℕ) {e : Refusal} → Err e ≡ hash_of hash → told (with_bytes excluded_at) (Err e) s ≡ lent_map s (add_on (excluded_at s) hash tx)
 unfolding told add_on number
@@ -93,13 +100,13 @@ module _ (s hash tx : List ℕ) {h : Byte32} (eh : Ok h ≡ hash_of hash) where
       let i = told_good rule s ev in
       lent-on s (add_on (excluded_at s) hash tx) i (same_left s i b ∙ ap (leaving map_bytes s) (sym (rw (eq-eqb (length tx) 0 z)) ∙ enters))
 
-  pub add_done : {v : Survey} {a : After (List Entry)} → Ok v ≡ survey_of (Rule.Enter h) s → (length tx ≡ 0 → ⊥)
-      → a ≡ leaving map_bytes s (fitting (renew (takes (Rule.Enter h)) (pending h tx) (keep (keeps (Rule.Enter h)) (excluded_at s)))) → a ≡ lent_map s (add_on (excluded_at s) hash tx)
+  pub add_done : {k : Byte32} {f : List ℕ} {v : Survey} {a : After (List Entry)} → Ok v ≡ survey_of (Rule.Enter h) s → k ≡ h → f ≡ raw_field tx 3 → (length tx ≡ 0 → ⊥)
+      → a ≡ leaving map_bytes s (fitting (renew (takes (Rule.Enter h)) (entry_with k f) (keep (keeps (Rule.Enter h)) (excluded_at s)))) → a ≡ lent_map s (add_on (excluded_at s) hash tx)
   unfolding keeps takes
-  add_done ev z e =
+  add_done {k} {f} ev ek ef z e =
       lent-on s (add_on (excluded_at s) hash tx) (told_good (Rule.Enter h) s ev)
       (e ∙ ap (leaving map_bytes s)
-      (ap (λ (l : List Entry). fitting (renew (has_hash h) (pending h tx) l)) (keep_all (λ e. true) (λ e. refl) (excluded_at s)) ∙ entering-some (excluded_at s) h tx z ∙ enters))
+      (ap (λ (l : List Entry). fitting (renew (has_hash h) (entry_with k f) l)) (keep_all (λ e. true) (λ e. refl) (excluded_at s)) ∙ entering-some (excluded_at s) tx ek ef z ∙ enters))
 
 -- ---- remove, truncate
 
@@ -185,11 +192,11 @@ module _ (s old new tx : List ℕ) {o h : Byte32} (eo : Ok o ≡ hash_of old) (e
       let q : entered o (excluded_at s) ≡ false = sym is-entered ∙ u in
       lent-on s (migrate_on (excluded_at s) old new tx) i (same_left s i b ∙ ap (leaving map_bytes s) (rw q at goes))
 
-  pub migrate-done : {a : After (List Entry)} → v.lost ≡ true → (length tx ≡ 0 → ⊥)
-      → a ≡ leaving map_bytes s (fitting (renew (takes (Rule.Migrate o h)) (pending h tx) (keep (keeps (Rule.Migrate o h)) (excluded_at s)))) → a ≡ lent_map s (migrate_on (excluded_at s) old new tx)
+  pub migrate-done : {k : Byte32} {f : List ℕ} {a : After (List Entry)} → v.lost ≡ true → k ≡ h → f ≡ raw_field tx 3 → (length tx ≡ 0 → ⊥)
+      → a ≡ leaving map_bytes s (fitting (renew (takes (Rule.Migrate o h)) (entry_with k f) (keep (keeps (Rule.Migrate o h)) (excluded_at s)))) → a ≡ lent_map s (migrate_on (excluded_at s) old new tx)
   unfolding keeps takes without
-  migrate-done u z e =
+  migrate-done u ek ef z e =
       let i = told_good (Rule.Migrate o h) s ev in
       let q : entered o (excluded_at s) ≡ true = sym is-entered ∙ u in
       lent-on s (migrate_on (excluded_at s) old new tx) i
-      (e ∙ ap (leaving map_bytes s) (entering-some (without o (excluded_at s)) h tx z ∙ (rw q at goes)))
+      (e ∙ ap (leaving map_bytes s) (entering-some (without o (excluded_at s)) tx ek ef z ∙ (rw q at goes)))

@@ -20,7 +20,6 @@ use Rattle.molecule.proofs.HeaderLaws.{fixvec-readable, option_is}
 use Rattle.molecule.proofs.WriteLaws.{put_yes}
 use Rattle.transaction.specs.Ckb.{Transaction, RawTransaction, CellInput}
 use Rattle.transaction.specs.Tx.{raw_field, previous_output_of}
-use Rattle.transaction.proofs.FieldLaws.{bytes_raw}
 use Rattle.transaction.proofs.TableLaws.{raw_3, transaction_0}
 use Rattle.out_points.specs.declared.{Byte32.Byte32, OutPoint.OutPoint}
 use Rattle.out_points.specs.OutPoints.{Fit, out_point_at}
@@ -28,14 +27,15 @@ use Rattle.out_points.specs.Tables.{done, told, keep, renew}
 use Rattle.out_points.proofs.EqualLaws.{and_both}
 use Rattle.molecule.proofs.ItemsLaws.{bytes_drop, bytes_take}
 use Rattle.out_points.proofs.AgainLaws.{point-fits, item-bytes}
-use Rattle.exclusion_entries.specs.Exclusions.{Entry, excluded, pending, fitting}
+use Rattle.exclusion_entries.specs.Exclusions.{Entry, excluded, fitting}
 use Rattle.table_bytes.specs.Lent.{leaving, with_bytes}
 use Rattle.exclusion_entries.specs.declared.{Rule.Rule, Survey.Survey}
 use Rattle.exclusion_entries.specs.Entries.{block_of, map_bytes, FitEntry, excluded_at, is_map}
 use Rattle.exclusion_entries.specs.Survey.{keeps, takes, stay, ahead, behind, survey_of}
 use Rattle.exclusion_entries.proofs.MapLaws.{map-long, map-fits, map-size, splice-back}
-use Rattle.exclusion_entries.proofs.StayLaws.{stay-split, stay_all, renew-split, told_stays, told-points}
-use Rattle.exclusions.proofs.PutLaws.{pending-count}
+use Rattle.exclusion_entries.proofs.StayLaws.{stay-split, stay_all, renew-split, told_good, told_stays, told-points}
+use Rattle.exclusions.specs.Steps.{spent_at, spent_by, entry_with}
+use Rattle.exclusions.proofs.PutLaws.{entry-count}
 
 -- ---- the inputs of a readable transaction have their length
 
@@ -60,13 +60,12 @@ module _ (tx : List ℕ) (h : readable (option Transaction) tx ≡ true) (z : le
           let all : false ≡ readable Transaction tx = transaction_0 tx refl refl (rw (← raw)) in
           absurd (never (sym whole ∙ sym all))
 
-  pub inputs_sized : {n : ℕ} → n ≡ fix_count (raw_field tx 3) → length (raw_field tx 3) ≡ 4 + 44 * n
+  pub inputs_sized : {f : List ℕ} → f ≡ raw_field tx 3 → length f ≡ 4 + 44 * fix_count f
   unfolding size fixed
-  inputs_sized e =
-      let f = raw_field tx 3 in
-      let t : (ltb (length f) (2 ^ 32) && leb 4 (length f) && eqb (length f) (4 + 44 * fix_count f)) ≡ true = sym (fixvec-readable CellInput tt f) ∙ inputs_read in
+  inputs_sized {f} e =
+      let t : (ltb (length f) (2 ^ 32) && leb 4 (length f) && eqb (length f) (4 + 44 * fix_count f)) ≡ true = sym (fixvec-readable CellInput tt f) ∙ rw e inputs_read in
       let q = and_both (ltb (length f) (2 ^ 32) && leb 4 (length f)) (eqb (length f) (4 + 44 * fix_count f)) t in
-      eqb-true _ _ q.1 ∙ ap (λ (k : ℕ). 4 + 44 * k) (sym e)
+      eqb-true _ _ q.1
 
 -- ---- the numbers of the new entry fit
 
@@ -75,17 +74,17 @@ unfolding span previous_output_of part
 spent-fit f i zero b = tt
 spent-fit f i (suc k) b = (point-fits (take 36 (drop 8 (fix_item f 44 i))) (bytes_take 36 (drop 8 (fix_item f 44 i)) (bytes_drop 8 (fix_item f 44 i) (item-bytes f 44 i b))), spent-fit f (suc i) k b)
 
-module _ (hash : Byte32) (tx : List ℕ) (b : AllBytes tx) (fa : hash.a < 2 ^ 64) (fb : hash.b < 2 ^ 64) (fc : hash.c < 2 ^ 64) (fd : hash.d < 2 ^ 64) where
-  pending-fits : {n : ℕ} → n ≡ fix_count (raw_field tx 3) → n ≤ 512 → FitEntry (pending hash tx)
-  unfolding pending block_of
-  pending-fits {n} e h = record {
+module _ (hash : Byte32) (f : List ℕ) (b : AllBytes f) (fa : hash.a < 2 ^ 64) (fb : hash.b < 2 ^ 64) (fc : hash.c < 2 ^ 64) (fd : hash.d < 2 ^ 64) where
+  entry-fits : fix_count f ≤ 512 → FitEntry (entry_with hash f)
+  unfolding entry_with spent_by spent_at block_of
+  entry-fits h = record {
     a_fits = fa;
     b_fits = fb;
     c_fits = fc;
     d_fits = fd;
     block_fits = omega arith;
-    count_fits = let c = pending-count hash tx e in omega arith;
-    points-fit = spent-fit (raw_field tx 3) 0 (fix_count (raw_field tx 3)) (bytes_raw tx 3 b);
+    count_fits = let c = entry-count hash f in omega arith;
+    points-fit = spent-fit f 0 (fix_count f) b;
   }
 
 -- ---- the table with the new entry
@@ -99,9 +98,12 @@ all_between : (P : Entry → Type 0) (l r : List Entry) (x : Entry) → All P (l
 all_between P [] r x a p = (p, a)
 all_between P (e ∷ l) r x a p = (a.0, all_between P l r x a.1 p)
 
-module _ (rule : Rule) (s : List ℕ) (hash : Byte32) (tx : List ℕ) {v : Survey} (g : is_map s ≡ true) (ev : Ok v ≡ survey_of rule s) {n : ℕ} (en : n ≡ fix_count (raw_field tx 3)) where
+module _ (rule : Rule) (s : List ℕ) (hash : Byte32) (f : List ℕ) {v : Survey} (ev : Ok v ≡ survey_of rule s) {n : ℕ} (en : n ≡ fix_count f) where
+  g : is_map s ≡ true
+  g = told_good rule s ev
+
   abbrev after : List Entry
-  after = renew (takes rule) (pending hash tx) (keep (keeps rule) (excluded_at s))
+  after = renew (takes rule) (entry_with hash f) (keep (keeps rule) (excluded_at s))
 
   abbrev A : List Entry
   A = ahead (keeps rule) (takes rule) (excluded_at s)
@@ -109,23 +111,23 @@ module _ (rule : Rule) (s : List ℕ) (hash : Byte32) (tx : List ℕ) {v : Surve
   abbrev B : List Entry
   B = behind (keeps rule) (takes rule) (excluded_at s)
 
-  after_is : after ≡ A ++ (pending hash tx ∷ B)
-  after_is = renew-split (keeps rule) (takes rule) (pending hash tx) (excluded_at s)
+  after_is : after ≡ A ++ (entry_with hash f ∷ B)
+  after_is = renew-split (keeps rule) (takes rule) (entry_with hash f) (excluded_at s)
 
   split : stay (keeps rule) (takes rule) false (excluded_at s) ≡ A ++ B
   split = stay-split (keeps rule) (takes rule) (excluded_at s)
 
   after-count : length after ≡ v.stays + 1
-  after-count = ap length after_is ∙ length-append A (pending hash tx ∷ B) ∙ omega (arith, told_stays rule s ev, ap length split, length-append A B)
+  after-count = ap length after_is ∙ length-append A (entry_with hash f ∷ B) ∙ omega (arith, told_stays rule s ev, ap length split, length-append A B)
 
   after-points : length (excluded after) ≡ v.points + n
   unfolding excluded
   after-points =
-      let x = pending hash tx in
+      let x = entry_with hash f in
       let z : length (excluded (A ++ (x ∷ B))) ≡ length (excluded A) + (length x.points + length (excluded B)) =
       ap length (excluded-join A (x ∷ B)) ∙ length-append (excluded A) (x.points ++ excluded B) ∙ ap (λ (k : ℕ). length (excluded A) + k) (length-append x.points (excluded B)) in
       let y : v.points ≡ length (excluded A) + length (excluded B) = told-points rule s ev ∙ ap (λ (l : List Entry). length (excluded l)) split ∙ ap length (excluded-join A B) ∙ length-append (excluded A) (excluded B) in
-      ap (λ (l : List Entry). length (excluded l)) after_is ∙ z ∙ omega (arith, pending-count hash tx en)
+      ap (λ (l : List Entry). length (excluded l)) after_is ∙ z ∙ omega (arith, entry-count hash f)
 
   pub enter_many : 64 ≤ v.stays → told (with_bytes excluded_at) (Err Refusal.TooManyExclusions) s ≡ leaving map_bytes s (fitting after)
   unfolding told number leaving fitting
@@ -139,10 +141,10 @@ module _ (rule : Rule) (s : List ℕ) (hash : Byte32) (tx : List ℕ) {v : Surve
     put : o ≡ put_at s 0 (map_bytes after)
     put = eo ∙ sym (put_yes s 0 (map_bytes after) (omega (arith, map-size after, after-count, after-points, map-long s g)))
 
-    pub enter_done : AllBytes s → AllBytes tx → hash.a < 2 ^ 64 → hash.b < 2 ^ 64 → hash.c < 2 ^ 64 → hash.d < 2 ^ 64 → told (with_bytes excluded_at) (Ok tt) o ≡ leaving map_bytes s (fitting after)
+    pub enter_done : AllBytes s → AllBytes f → hash.a < 2 ^ 64 → hash.b < 2 ^ 64 → hash.c < 2 ^ 64 → hash.d < 2 ^ 64 → told (with_bytes excluded_at) (Ok tt) o ≡ leaving map_bytes s (fitting after)
     unfolding told leaving fitting with_bytes
     enter_done b bt fa fb fc fd =
         let fits : All FitEntry (A ++ B) = rw split at (stay_all (keeps rule) (takes rule) FitEntry false (excluded_at s) (map-fits s b)) in
-        let all : All FitEntry after = rw after_is (all_between FitEntry A B (pending hash tx) fits (pending-fits hash tx bt fa fb fc fd en (omega arith))) in
+        let all : All FitEntry after = rw after_is (all_between FitEntry A B (entry_with hash f) fits (entry-fits hash f bt fa fb fc fd (omega arith))) in
         let means : excluded_at o ≡ after = splice-back s after (omega (arith, after-count)) all eo in
         rw (le-leb (length after) 64 (omega (arith, after-count)), le-leb (length (excluded after)) 512 (omega (arith, after-points))) (ap₂ (λ (l : List Entry) (x : List ℕ). done (l, x)) means put)

@@ -17,7 +17,7 @@ use Rattle.molecule.proofs.WriteLaws.{did, and_put, as_bytes, put_yes, splice-le
 use Rattle.molecule.proofs.Offsets.{span-length}
 use Rattle.lists.proofs.RunLaws.{item_run}
 use Rattle.lists.proofs.SpanLaws.{span-on, span-end, span-whole}
-use Rattle.transaction.specs.Tx.{raw_field, previous_output_of}
+use Rattle.transaction.specs.Tx.{previous_output_of}
 use Rattle.out_points.specs.declared.{Byte32.Byte32}
 use Rattle.out_points.specs.OutPoints.{out_point_at, hash_bytes, point_bytes, bytes_of, point_list}
 use Rattle.out_points.specs.Tables.{keep, renew}
@@ -25,17 +25,17 @@ use Rattle.out_points.proofs.PointLaws.{length-hash}
 use Rattle.out_points.proofs.ListLaws.{length-bytes}
 use Rattle.molecule.proofs.ItemsLaws.{bytes_drop, bytes_take}
 use Rattle.out_points.proofs.AgainLaws.{point_again}
-use Rattle.exclusion_entries.specs.Exclusions.{Entry, pending}
+use Rattle.exclusion_entries.specs.Exclusions.{Entry}
 use Rattle.exclusion_entries.specs.declared.{Rule.Rule, Survey.Survey}
 use Rattle.exclusion_entries.specs.Entries.{kind_of, block_of, state_bytes, entry_bytes, entries_bytes, map_bytes, excluded_at, is_map}
 use Rattle.exclusion_entries.specs.Survey.{keeps, takes, stay, ahead, behind, survey_of}
 use Rattle.exclusion_entries.proofs.EntryLaws.{length-entry, entries-size, bytes-join}
 use Rattle.exclusion_entries.proofs.MapLaws.{map-long, map-few, map-count, map-points}
 use Rattle.exclusion_entries.proofs.SpliceLaws.{splice-none, splice-then, splice-under, splice-over, part-splice}
-use Rattle.exclusion_entries.proofs.StayLaws.{stay-split, stay-size, renew-split, told_stays, told-points, told-place}
+use Rattle.exclusion_entries.proofs.StayLaws.{stay-split, stay-size, renew-split, told_good, told_stays, told-points, told-place}
 use Rattle.std.specs.List.{copy_within}
 use Rattle.exclusions.proofs.MoveLaws.{within-splice}
-use Rattle.exclusions.specs.Steps.{head_bytes, spent_at, spent_by}
+use Rattle.exclusions.specs.Steps.{head_bytes, spent_at, spent_by, entry_with}
 
 -- ---- its first 48 bytes
 
@@ -43,9 +43,9 @@ length_head : (h : Byte32) (n : ℕ) → length (head_bytes h n) ≡ 48
 unfolding head_bytes state_bytes
 length_head h n = simp (length-append, length-hash, length-to_le)
 
-module _ (out : List ℕ) (at : ℕ) (h : Byte32) (n : ℕ) (r : at + 48 ≤ length out) {o₁ o₂ o₃ : List ℕ} {n₁ n₂ n₃ n₄ : ℕ} (e₁ : o₁ ≡ put_at out at (hash_bytes h)) (f₁ : n₁ ≡ put_end out at (hash_bytes h))
+module _ (out : List ℕ) (at : ℕ) (h : Byte32) (f : List ℕ) (r : at + 48 ≤ length out) {n : ℕ} (en : n ≡ fix_count f) {o₁ o₂ o₃ : List ℕ} {n₁ n₂ n₃ n₄ : ℕ} (e₁ : o₁ ≡ put_at out at (hash_bytes h)) (f₁ : n₁ ≡ put_end out at (hash_bytes h))
     (e₂ : o₂ ≡ put_at o₁ n₁ (to_le 4 0)) (f₂ : n₂ ≡ put_end o₁ n₁ (to_le 4 0)) (e₃ : o₃ ≡ put_at o₂ n₂ (to_le 8 0)) (f₃ : n₃ ≡ put_end o₂ n₂ (to_le 8 0)) (f₄ : n₄ ≡ put_end o₃ n₃ (to_le 4 n)) where
-  pub head_put : {o₄ : List ℕ} → o₄ ≡ put_at o₃ n₃ (to_le 4 n) → Put out at (head_bytes h n) o₄ n₄
+  pub head_put : {o₄ : List ℕ} → o₄ ≡ put_at o₃ n₃ (to_le 4 n) → Put out at (head_bytes h (fix_count f)) o₄ n₄
   unfolding head_bytes state_bytes kind_of block_of
   head_put e₄ =
       let a = length-hash h in
@@ -57,10 +57,10 @@ module _ (out : List ℕ) (at : ℕ) (h : Byte32) (n : ℕ) (r : at + 48 ≤ len
       let p₂ = and_put (to_le 4 0) p₁ e₂ f₂ (omega arith) in
       let p₃ = and_put (to_le 8 0) p₂ e₃ f₃ (omega (arith, length-append H (to_le 4 0))) in
       let p₄ = and_put (to_le 4 n) p₃ e₄ f₄ (omega (arith, length-append H (to_le 4 0), length-append (H ++ to_le 4 0) (to_le 8 0))) in
-      as_bytes (ap (λ (x : List ℕ). x ++ to_le 4 n) (append_assoc H (to_le 4 0) (to_le 8 0))) p₄
+      as_bytes (ap (λ (x : List ℕ). x ++ to_le 4 n) (append_assoc H (to_le 4 0) (to_le 8 0)) ∙ ap (λ (k : ℕ). H ++ (to_le 4 0 ++ to_le 8 0) ++ to_le 4 k) en) p₄
 
   pub head_end_lem : n₄ ≡ at + 48
-  head_end_lem = (head_put refl).end ∙ ap (λ (k : ℕ). at + k) (length_head h n)
+  head_end_lem = (head_put refl).end ∙ ap (λ (k : ℕ). at + k) (length_head h (fix_count f))
 
 -- ---- its out points
 
@@ -75,17 +75,17 @@ pub record Spending (inputs : List ℕ) (n : ℕ) (out₀ : List ℕ) (at : ℕ)
   pub room : at + 36 * n ≤ length out₀
   pub made : splice out to (bytes_of (map spent_at (span (fix_item inputs 44) k (n - k)))) ≡ splice out₀ at (bytes_of (spent_by inputs))
 
-pub spend_none : (inputs : List ℕ) (out : List ℕ) (at : ℕ) {n : ℕ} → AllBytes inputs → n ≡ fix_count inputs → length inputs ≡ 4 + 44 * n → at + 36 * n ≤ length out → Spending inputs n out at out at 12 0
+pub spend_none : (inputs : List ℕ) (out : List ℕ) (at : ℕ) {n : ℕ} → AllBytes inputs → n ≡ fix_count inputs → length inputs ≡ 4 + 44 * fix_count inputs → at + 36 * fix_count inputs ≤ length out → Spending inputs n out at out at 12 0
 unfolding spent_by
 spend_none inputs out at {n} b e l r = record {
   bytes = b;
   counted = e;
-  sized = l;
+  sized = l ∙ ap (λ (k : ℕ). 4 + 44 * k) (sym e);
   within = omega arith;
   there = omega arith;
   here = omega arith;
   long = refl;
-  room = r;
+  room = omega arith;
   made = ap (λ (x : List (List ℕ)). splice out at (bytes_of (map spent_at x))) (sym (span-whole (fix_item inputs 44) n) ∙ ap (span (fix_item inputs 44) 0) e);
 }
 
@@ -144,38 +144,38 @@ module _ {inputs : List ℕ} {n : ℕ} {out₀ : List ℕ} {at : ℕ} {out : Lis
 
 -- ---- the entry
 
-module _ (hash : Byte32) (tx : List ℕ) {n : ℕ} (en : n ≡ fix_count (raw_field tx 3)) where
-  pub pending-count : length (pending hash tx).points ≡ n
-  unfolding pending
-  pending-count = length-map (fix_items 44 (raw_field tx 3)) (λ i. out_point_at (previous_output_of i) 0) ∙ span-length (fix_item (raw_field tx 3) 44) 0 (fix_count (raw_field tx 3)) ∙ sym en
+module _ (hash : Byte32) (f : List ℕ) where
+  spent-count : length (spent_by f) ≡ fix_count f
+  unfolding spent_by
+  spent-count = length-map (fix_items 44 f) spent_at ∙ span-length (fix_item f 44) 0 (fix_count f)
 
-  pub pending-bytes : entry_bytes (pending hash tx) ≡ head_bytes hash n ++ bytes_of (spent_by (raw_field tx 3))
-  unfolding entry_bytes head_bytes point_list spent_by spent_at pending
-  pending-bytes =
-      let P = map spent_at (fix_items 44 (raw_field tx 3)) in
-      ap (λ (k : ℕ). hash_bytes hash ++ state_bytes none ++ (to_le 4 k ++ bytes_of P)) pending-count ∙ sym (append_assoc (hash_bytes hash ++ state_bytes none) (to_le 4 n) (bytes_of P))
+  pub entry-count : length (entry_with hash f).points ≡ fix_count f
+  unfolding entry_with
+  entry-count = spent-count
 
-  module _ {f : List ℕ} (ef : f ≡ raw_field tx 3) where
-    pub inputs-count : n ≡ fix_count f
-    inputs-count = rw ef en
+  entry-is : entry_bytes (entry_with hash f) ≡ head_bytes hash (fix_count f) ++ bytes_of (spent_by f)
+  unfolding entry_bytes head_bytes point_list entry_with
+  entry-is =
+      let B = bytes_of (spent_by f) in
+      ap (λ (k : ℕ). hash_bytes hash ++ state_bytes none ++ (to_le 4 k ++ B)) spent-count ∙ sym (append_assoc (hash_bytes hash ++ state_bytes none) (to_le 4 (fix_count f)) B)
 
-    pub inputs_long : length (raw_field tx 3) ≡ 4 + 44 * n → length f ≡ 4 + 44 * n
-    inputs_long l = rw ef l
+  entry-length : length (entry_bytes (entry_with hash f)) ≡ 48 + 36 * fix_count f
+  entry-length = length-entry (entry_with hash f) ∙ ap (λ (k : ℕ). 48 + 36 * k) entry-count
 
-    pub entry-room : (out : List ℕ) (at : ℕ) {o : List ℕ} {r : ℕ} → at + (48 + 36 * n) ≤ length out → Put out at (head_bytes hash n) o r → r ≡ at + 48 → r + 36 * n ≤ length o
-    entry-room out at h p e = omega (arith, length-kept p)
+  module _ (out : List ℕ) (at : ℕ) {o : List ℕ} {r : ℕ} (h : at + (48 + 36 * fix_count f) ≤ length out) (p : Put out at (head_bytes hash (fix_count f)) o r) where
+    pub entry-room : r ≡ at + 48 → r + 36 * fix_count f ≤ length o
+    entry-room e = omega (arith, length-kept p)
 
-    pub entry_put : (out : List ℕ) (at : ℕ) {o o₂ : List ℕ} {r : ℕ} → at + (48 + 36 * n) ≤ length out → Put out at (head_bytes hash n) o r → o₂ ≡ splice o r (bytes_of (spent_by f)) → o₂ ≡ splice out at (entry_bytes (pending hash tx))
-    entry_put out at {o} {o₂} {r} h p e =
-        let H = head_bytes hash n in
-        let B = bytes_of (spent_by (raw_field tx 3)) in
-        let l : length (entry_bytes (pending hash tx)) ≡ 48 + 36 * n = length-entry (pending hash tx) ∙ ap (λ (k : ℕ). 48 + 36 * k) pending-count in
-        e ∙ ap₂ (λ (x : List ℕ) (k : ℕ). splice x k (bytes_of (spent_by f))) p.bytes p.end ∙ ap (λ (x : List ℕ). splice (splice out at H) (at + length H) (bytes_of (spent_by x))) ef
-        ∙ splice-then out at H B (omega (arith, ap length pending-bytes, length-append H B)) ∙ ap (splice out at) (sym pending-bytes)
+    pub entry_put : {o₂ : List ℕ} → o₂ ≡ splice o r (bytes_of (spent_by f)) → o₂ ≡ splice out at (entry_bytes (entry_with hash f))
+    entry_put {o₂} e =
+        let H = head_bytes hash (fix_count f) in
+        let B = bytes_of (spent_by f) in
+        let l = entry-length in
+        e ∙ ap₂ (λ (x : List ℕ) (k : ℕ). splice x k B) p.bytes p.end ∙ splice-then out at H B (omega (arith, ap length entry-is, length-append H B)) ∙ ap (splice out at) (sym entry-is)
 
 -- ---- the entry at its place, the others behind it, and the count
 
-module _ (s : List ℕ) (v : Survey) (hash : Byte32) (tx : List ℕ) {n : ℕ} (en : n ≡ fix_count (raw_field tx 3)) (o : v.place ≤ 4 + 48 * v.stays + 36 * v.points) (h : 4 + 48 * v.stays + 36 * v.points + (48 + 36 * n) ≤ length s) where
+module _ (s : List ℕ) (v : Survey) (hash : Byte32) (f : List ℕ) {n : ℕ} (en : n ≡ fix_count f) (o : v.place ≤ 4 + 48 * v.stays + 36 * v.points) (h : 4 + 48 * v.stays + 36 * v.points + (48 + 36 * fix_count f) ≤ length s) where
   abbrev tail : List ℕ
   tail = take (4 + 48 * v.stays + 36 * v.points - v.place) (drop v.place s)
 
@@ -189,15 +189,15 @@ module _ (s : List ℕ) (v : Survey) (hash : Byte32) (tx : List ℕ) {n : ℕ} (
     length_moved : length s₂ ≡ length s
     length_moved = ap length e₂ ∙ splice-length s (v.place + z) tail (omega (arith, length_tail))
 
-    pub new_room : v.place + (48 + 36 * n) ≤ length s₂
+    pub new_room : v.place + (48 + 36 * fix_count f) ≤ length s₂
     new_room = omega (arith, length_moved)
 
-    pub new_put : {s₃ s₄ : List ℕ} → s₃ ≡ splice s₂ v.place (entry_bytes (pending hash tx)) → s₄ ≡ put_at s₃ 0 (to_le 4 (v.stays + 1))
-        → s₄ ≡ splice (splice s v.place (entry_bytes (pending hash tx) ++ tail)) 0 (to_le 4 (v.stays + 1))
+    pub new_put : {s₃ s₄ : List ℕ} → s₃ ≡ splice s₂ v.place (entry_bytes (entry_with hash f)) → s₄ ≡ put_at s₃ 0 (to_le 4 (v.stays + 1))
+        → s₄ ≡ splice (splice s v.place (entry_bytes (entry_with hash f) ++ tail)) 0 (to_le 4 (v.stays + 1))
     new_put {s₃} {s₄} e₃ e₄ =
-        let X = entry_bytes (pending hash tx) in
+        let X = entry_bytes (entry_with hash f) in
         let C = to_le 4 (v.stays + 1) in
-        let l : length X ≡ 48 + 36 * n = length-entry (pending hash tx) ∙ ap (λ (k : ℕ). 48 + 36 * k) (pending-count hash tx en) in
+        let l : length X ≡ 48 + 36 * n = entry-length hash f ∙ ap (λ (k : ℕ). 48 + 36 * k) (sym en) in
         let u : s₃ ≡ splice s v.place (X ++ tail) =
         e₃ ∙ ap (λ (x : List ℕ). splice x v.place X) (e₂ ∙ ap (λ (k : ℕ). splice s (v.place + k) tail) (ez ∙ sym l)) ∙ splice-under s v.place X tail (omega (arith, length_tail)) in
         let l₃ : length s₃ ≡ length s = ap length e₃ ∙ splice-length s₂ v.place X (omega (arith, length_moved)) ∙ length_moved in
@@ -205,8 +205,11 @@ module _ (s : List ℕ) (v : Survey) (hash : Byte32) (tx : List ℕ) {n : ℕ} (
 
 -- ---- the whole table: the entries that stay stand together in s₁
 
-module _ (rule : Rule) (s : List ℕ) {v : Survey} (g : is_map s ≡ true) (ev : Ok v ≡ survey_of rule s) {s₁ : List ℕ}
+module _ (rule : Rule) (s : List ℕ) {v : Survey} (ev : Ok v ≡ survey_of rule s) {s₁ : List ℕ}
     (e₁ : s₁ ≡ splice s 4 (entries_bytes (stay (keeps rule) (takes rule) false (excluded_at s)))) where
+  g : is_map s ≡ true
+  g = told_good rule s ev
+
   abbrev stays : List Entry
   stays = stay (keeps rule) (takes rule) false (excluded_at s)
 
@@ -243,21 +246,21 @@ module _ (rule : Rule) (s : List ℕ) {v : Survey} (g : is_map s ≡ true) (ev :
       e₂ ∙ put_yes s₁ 0 C (omega (arith, length-gathered, map-long s g)) ∙ ap (λ (x : List ℕ). splice x 0 C) (e₁ ∙ ap (λ (k : ℕ). splice s k (entries_bytes stays)) (sym z))
       ∙ splice-under s 0 C (entries_bytes stays) (omega (arith, stays_room)) ∙ ap (λ (k : ℕ). splice s 0 (to_le 4 k ++ entries_bytes stays)) (told_stays rule s ev)
 
-  module _ (hash : Byte32) (tx : List ℕ) {n : ℕ} (en : n ≡ fix_count (raw_field tx 3)) (few : v.stays < 64) (most : v.points + n ≤ 512) where
-    pub replace_room : 4 + 48 * v.stays + 36 * v.points + (48 + 36 * n) ≤ length s₁
+  module _ (hash : Byte32) (f : List ℕ) (few : v.stays < 64) (most : v.points + fix_count f ≤ 512) where
+    pub replace_room : 4 + 48 * v.stays + 36 * v.points + (48 + 36 * fix_count f) ≤ length s₁
     replace_room = omega (arith, length-gathered, map-long s g)
 
     pub replace_put : {s₂ : List ℕ}
-        → s₂ ≡ splice (splice s₁ v.place (entry_bytes (pending hash tx) ++ take (4 + 48 * v.stays + 36 * v.points - v.place) (drop v.place s₁))) 0 (to_le 4 (v.stays + 1))
-        → s₂ ≡ splice s 0 (map_bytes (renew (takes rule) (pending hash tx) (keep (keeps rule) (excluded_at s))))
+        → s₂ ≡ splice (splice s₁ v.place (entry_bytes (entry_with hash f) ++ take (4 + 48 * v.stays + 36 * v.points - v.place) (drop v.place s₁))) 0 (to_le 4 (v.stays + 1))
+        → s₂ ≡ splice s 0 (map_bytes (renew (takes rule) (entry_with hash f) (keep (keeps rule) (excluded_at s))))
     unfolding map_bytes entries_bytes
     replace_put e₂ =
-        let x = pending hash tx in
+        let x = entry_with hash f in
         let X = entry_bytes x in
         let bA = entries_bytes A in
         let bB = entries_bytes B in
         let C = to_le 4 (v.stays + 1) in
-        let lx : length X ≡ 48 + 36 * n = length-entry x ∙ ap (λ (k : ℕ). 48 + 36 * k) (pending-count hash tx en) in
+        let lx : length X ≡ 48 + 36 * fix_count f = entry-length hash f in
         let lC : length C ≡ 4 = length-to_le 4 (v.stays + 1) in
         let z : 0 + length C ≡ 4 = omega arith in
         let p : v.place ≡ 4 + length bA = told-place rule s ev in
@@ -267,7 +270,7 @@ module _ (rule : Rule) (s : List ℕ) {v : Survey} (g : is_map s ≡ true) (ev :
         let room : 4 + length bA + length bB ≤ length s = omega (arith, sizes) in
         let tail : take (4 + 48 * v.stays + 36 * v.points - v.place) (drop v.place s₁) ≡ bB = rw (q, p, t) (part-splice s 4 bA bB room) in
         let W = X ++ bB in
-        let lW : length W ≡ 48 + 36 * n + length bB = length-append X bB ∙ ap (λ (k : ℕ). k + length bB) lx in
+        let lW : length W ≡ 48 + 36 * fix_count f + length bB = length-append X bB ∙ ap (λ (k : ℕ). k + length bB) lx in
         let inner : splice s₁ v.place (X ++ take (4 + 48 * v.stays + 36 * v.points - v.place) (drop v.place s₁)) ≡ splice s 4 (bA ++ W) =
         rw tail (ap₂ (λ (a : List ℕ) (k : ℕ). splice a k W) (t ∙ sym (splice-then s 4 bA bB room)) p
         ∙ splice-over (splice s 4 bA) (4 + length bA) W bB (omega (arith, splice-length s 4 bA (omega arith), sizes)) (omega arith)

@@ -15,12 +15,12 @@ use Rattle.molecule.proofs.WriteLaws.{splice-length}
 use Rattle.molecule.proofs.ItemsLaws.{bytes_drop}
 use Rattle.exclusion_entries.specs.Exclusions.{Entry}
 use Rattle.exclusion_entries.specs.declared.{Rule.Rule, Survey.Survey}
-use Rattle.exclusion_entries.specs.Entries.{entry_bytes, entries_bytes, entry_of, size_of, entries_in, excluded_at, are_entries, map_size, is_map}
+use Rattle.exclusion_entries.specs.Entries.{entry_bytes, entries_bytes, entry_of, size_of, entries_in, excluded_at, are_entries, map_size}
 use Rattle.exclusion_entries.specs.Survey.{keeps, takes, stay, front, survey_of}
 use Rattle.exclusion_entries.proofs.EntryLaws.{from-here, entry_again, first-is, first-room, rest_are, entries-size, points_most, entries-long, bytes-join}
 use Rattle.exclusion_entries.proofs.MapLaws.{map-long, map-few, map_are, map_again, Cut, cut}
 use Rattle.exclusion_entries.proofs.SpliceLaws.{splice-none, drop-splice, splice-same, splice-then}
-use Rattle.exclusion_entries.proofs.StayLaws.{stay-front, front-is, stay-size, told-from, told-index}
+use Rattle.exclusion_entries.proofs.StayLaws.{stay-front, front-is, stay-size, told_good, told-from, told-index}
 use Rattle.std.specs.List.{copy_within}
 use Rattle.exclusions.proofs.MoveLaws.{within-splice}
 use Rattle.exclusions.specs.declared.{changes.Sift.Sift}
@@ -174,10 +174,11 @@ module _ {rule : Rule} {s₀ : List ℕ} {n : ℕ} {s : List ℕ} {c : Sift} {i 
       sym (splice-none s c.to) ∙ ap (λ (k : ℕ). splice s c.to (entries_bytes (stay (keeps rule) (takes rule) c.taken (entries_in k (drop c.at s₀))))) (sym z) ∙ w.made
 
 -- the entries that need not move are passed over
-module _ (rule : Rule) (s : List ℕ) {v : Survey} {n : ℕ} (b : AllBytes s) (g : is_map s ≡ true) (e : Ok v ≡ survey_of rule s) (en : n ≡ word s 0) where
+module _ (rule : Rule) (s : List ℕ) {v : Survey} {n : ℕ} (b : AllBytes s) (e : Ok v ≡ survey_of rule s) (en : n ≡ word s 0) where
   pub sift_start : Sifting rule s n s (record { at = v.from; to = v.from; taken = false }) v.index
   unfolding excluded_at word
   sift_start =
+      let g = told_good rule s e in
       let f = keeps rule in
       let p = takes rule in
       let x = drop 4 s in

@@ -8,6 +8,7 @@ use Rattle.transaction.specs.Tx.{previous_output_of}
 use Rattle.out_points.specs.declared.{Byte32.Byte32, OutPoint.OutPoint}
 use Rattle.out_points.specs.OutPoints.{out_point_at, hash_bytes}
 use Rattle.exclusion_entries.specs.declared.{Rule.Rule}
+use Rattle.exclusion_entries.specs.Exclusions.{Entry}
 use Rattle.exclusion_entries.specs.Entries.{state_bytes, entry_of, size_of}
 use Rattle.exclusion_entries.specs.Survey.{keeps, takes}
 use Rattle.exclusions.specs.declared.{changes.Sift.Sift}
@@ -42,3 +43,7 @@ spent_at i = out_point_at (previous_output_of i) 0
 
 unfoldable pub spent_by : List ℕ → List OutPoint
 spent_by inputs = map spent_at (fix_items 44 inputs)
+
+-- the entry of a transaction with this hash and these inputs
+unfoldable pub entry_with : Byte32 → List ℕ → Entry
+entry_with h inputs = record { hash = h; committed = none; points = spent_by inputs }

@@ -101,27 +101,27 @@ module _ (tx : List ℕ) (i : ℕ) {r : Place} where
   at_item n a m f h l s at =
       subst (λ (x : List ℕ). At tx x (place_in tx n i) r) (sym (item_there tx n i h f m l)) (subst (λ (b : ℕ). At tx (f i) b r) (s ∙ sym (place_there tx n i h)) at)
 
-  module _ {k : ListKind} (h : i < length (list_in tx (number_of k))) where
+  module _ {k : ListKind} {n : ℕ} (en : n ≡ length (list_in tx (number_of k))) (below : i < n) where
     pub at-cell-dep : k ≡ CellDeps → At tx (fix_item (raw_field tx 1) 37 i) (raw_start tx 1 + fix_start (raw_field tx 1) 37 i) r → At tx (item_in tx (number_of k) i) (place_in tx (number_of k) i) r
     unfolding list_of start_of
-    at-cell-dep g at = rw g (at_item 0 _ _ (fix_item (raw_field tx 1) 37) (rw g at h) refl refl at)
+    at-cell-dep g at = let h : i < length (list_in tx (number_of k)) = rw (← en) below in rw g (at_item 0 _ _ (fix_item (raw_field tx 1) 37) (rw g at h) refl refl at)
 
     pub at-header-dep : k ≡ HeaderDeps → At tx (fix_item (raw_field tx 2) 32 i) (raw_start tx 2 + fix_start (raw_field tx 2) 32 i) r → At tx (item_in tx (number_of k) i) (place_in tx (number_of k) i) r
     unfolding list_of start_of
-    at-header-dep g at = rw g (at_item 1 _ _ (fix_item (raw_field tx 2) 32) (rw g at h) refl refl at)
+    at-header-dep g at = let h : i < length (list_in tx (number_of k)) = rw (← en) below in rw g (at_item 1 _ _ (fix_item (raw_field tx 2) 32) (rw g at h) refl refl at)
 
     pub at-input : k ≡ Inputs → At tx (fix_item (raw_field tx 3) 44 i) (raw_start tx 3 + fix_start (raw_field tx 3) 44 i) r → At tx (item_in tx (number_of k) i) (place_in tx (number_of k) i) r
     unfolding list_of start_of
-    at-input g at = rw g (at_item 2 _ _ (fix_item (raw_field tx 3) 44) (rw g at h) refl refl at)
+    at-input g at = let h : i < length (list_in tx (number_of k)) = rw (← en) below in rw g (at_item 2 _ _ (fix_item (raw_field tx 3) 44) (rw g at h) refl refl at)
 
     pub at-output : k ≡ Outputs → At tx (item_of (raw_field tx 4) i) (raw_start tx 4 + item_start (raw_field tx 4) i) r → At tx (item_in tx (number_of k) i) (place_in tx (number_of k) i) r
     unfolding list_of start_of
-    at-output g at = rw g (at_item 3 _ _ (item_of (raw_field tx 4)) (rw g at h) refl refl at)
+    at-output g at = let h : i < length (list_in tx (number_of k)) = rw (← en) below in rw g (at_item 3 _ _ (item_of (raw_field tx 4)) (rw g at h) refl refl at)
 
     pub at-output_data : k ≡ OutputsData → At tx (entry_of (raw_field tx 5) i) (raw_start tx 5 + entry_start (raw_field tx 5) i) r → At tx (item_in tx (number_of k) i) (place_in tx (number_of k) i) r
     unfolding list_of start_of
-    at-output_data g at = rw g (at_item 4 _ _ (entry_of (raw_field tx 5)) (rw g at h) refl refl at)
+    at-output_data g at = let h : i < length (list_in tx (number_of k)) = rw (← en) below in rw g (at_item 4 _ _ (entry_of (raw_field tx 5)) (rw g at h) refl refl at)
 
     pub at_witness : k ≡ Witnesses → At tx (entry_of (witnesses_of tx) i) (field_start tx 2 1 + entry_start (witnesses_of tx) i) r → At tx (item_in tx (number_of k) i) (place_in tx (number_of k) i) r
     unfolding list_of start_of
-    at_witness g at = rw g (at_item 5 _ _ (entry_of (witnesses_of tx)) (rw g at h) refl refl at)
+    at_witness g at = let h : i < length (list_in tx (number_of k)) = rw (← en) below in rw g (at_item 5 _ _ (entry_of (witnesses_of tx)) (rw g at h) refl refl at)

@@ -1,5 +1,5 @@
 // Where the items of a list of a transaction stand, all of them after one reading, so that a caller goes through the list in its own bytes.
-#![tactic(auto, using(crate::proofs::Ways::ways))]
+#![tactic(auto, using(crate::proofs::Ways::ways), unfolding(molecule::specs::Layout::field_of, molecule::specs::Layout::field_start, molecule::specs::Layout::fix_item, molecule::specs::Layout::fix_start, molecule::specs::Layout::item_of, molecule::specs::Layout::item_start, molecule::specs::Layout::entry_of, molecule::specs::Layout::entry_start, molecule::specs::Layout::content, molecule::specs::Layout::content_start, transaction::specs::Tx::raw_field, transaction::specs::Tx::raw_start, transaction::specs::Tx::witnesses_of))]
 
 ghost use Rattle.std.specs.Prelude.{◌≡◌, ◌+◌, ◌*◌, ◌^◌, ◌≤◌, ◌<◌, min, length};
 ghost use mathlib.Core.List.{flatten};
@@ -50,7 +50,7 @@ fn on(outer: Place, inner: Place) -> Place
     }
 }
 
-// Item i of n.
+// Item i of n. This and the next three take what the functions of `molecule` take that answer the parts themselves: a struct of these would be made for one call.
 fn field_place(s: &[u8], n: usize, i: u32) -> Place
     ensures { FieldAt s.now n i result }
 {
@@ -104,33 +104,43 @@ fn raw_place(tx: &[u8], j: u32) -> Place
     on(outer, inner)
 }
 
-// Item i of a list, where there is one.
-fn place_in(tx: &[u8], list: ListKind, i: u32) -> Place
-    requires { i < length (list_in tx.now (number_of list)) }
-    ensures { AnItemIn tx.now (number_of list) i result }
-{
-    match list {
-        ListKind::CellDeps => on(raw_place(tx, 1), fix_place(fields::cell_deps(tx), 37, i)),
-        ListKind::HeaderDeps => on(raw_place(tx, 2), fix_place(fields::header_deps(tx), 32, i)),
-        ListKind::Inputs => on(raw_place(tx, 3), fix_place(fields::inputs(tx), 44, i)),
-        ListKind::Outputs => on(raw_place(tx, 4), item_place(fields::outputs(tx), i)),
-        ListKind::OutputsData => on(raw_place(tx, 5), entry_place(fields::outputs_data(tx), i)),
-        ListKind::Witnesses => on(field_place(tx, 2, 1), entry_place(fields::witnesses(tx), i)),
-    }
+// One of the lists of a transaction, and how many items it has.
+#[derive(Clone, Copy, Debug)]
+struct TxList<'a> {
+    tx: &'a [u8],
+    kind: ListKind,
+    count: u32,
+    ghost counted: { count ≡ length (list_in tx.now (number_of kind)) },
 }
 
-// ---- all of them
+impl TxList<'_> {
+    // Item i.
+    fn place(self, i: u32) -> Place
+        requires { i < self.count }
+        ensures { AnItemIn self.entry.tx.now (number_of self.entry.kind) i result }
+    {
+        let tx = self.tx;
+        match self.kind {
+            ListKind::CellDeps => on(raw_place(tx, 1), fix_place(fields::cell_deps(tx), 37, i)),
+            ListKind::HeaderDeps => on(raw_place(tx, 2), fix_place(fields::header_deps(tx), 32, i)),
+            ListKind::Inputs => on(raw_place(tx, 3), fix_place(fields::inputs(tx), 44, i)),
+            ListKind::Outputs => on(raw_place(tx, 4), item_place(fields::outputs(tx), i)),
+            ListKind::OutputsData => on(raw_place(tx, 5), entry_place(fields::outputs_data(tx), i)),
+            ListKind::Witnesses => on(field_place(tx, 2, 1), entry_place(fields::witnesses(tx), i)),
+        }
+    }
 
-// Sets two words for each of the n items, from the first word on.
-fn put_places(tx: &[u8], list: ListKind, n: u32, places: &mut [u64])
-    requires { (n ≡ length (list_in tx.now (number_of list))) × (2 * n ≤ length places.old) }
-    ensures { places.new ≡ splice places.old 0 (flatten (places_of tx.now (number_of list) n)) }
-{
-    for i in 0..n {
-        let p = place_in(tx, list, i);
-        let at = 2 * (i as usize);
-        places[at] = p.start as u64;
-        places[at + 1] = p.len as u64;
+    // Sets two words for each item, from the first word on.
+    fn put_places(self, places: &mut [u64])
+        requires { 2 * self.count ≤ length places.old }
+        ensures { places.new ≡ splice places.old 0 (flatten (places_of self.entry.tx.now (number_of self.entry.kind) self.entry.count)) }
+    {
+        for i in 0..self.count {
+            let p = self.place(i);
+            let at = 2 * (i as usize);
+            places[at] = p.start as u64;
+            places[at + 1] = p.len as u64;
+        }
     }
 }
 
@@ -139,11 +149,11 @@ fn put_places(tx: &[u8], list: ListKind, n: u32, places: &mut [u64])
 pub fn items(tx: &[u8], list: u32, places: &mut [u64]) -> Result<u32, Refusal>
     ensures { (told result, places.new) ≡ listed (places_found tx.now list (length places.old)) places.old }
 {
-    let n = transaction_lists::item_count(tx, list)?;
+    let count = transaction_lists::item_count(tx, list)?;
     let kind = ListKind::try_from(list)?;
-    if places.len() / 2 < n as usize {
+    if places.len() / 2 < count as usize {
         return Err(Refusal::BufferTooShort);
     }
-    put_places(tx, kind, n, places);
-    Ok(n)
+    TxList { tx, kind, count }.put_places(places);
+    Ok(count)
 }

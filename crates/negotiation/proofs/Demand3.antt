@@ -27,7 +27,7 @@ use Rattle.error.specs.declared.Refusal.{Refusal}
 use Rattle.negotiation.specs.Updates.{Updates, calls_of, call_at, transaction_at}
 use Rattle.words.specs.Words.{number_of, values_of, four_of, surplus_words}
 use Rattle.negotiation.specs.Words.{words, all_words}
-use Rattle.negotiation.specs.Replay.{Replayed, Summary, accepted_of, index_after, summary_of, replay_of, leaves, answered}
+use Rattle.negotiation.specs.Replay.{Summary, accepted_of, index_after, summary_of, replay_of, leaves, answered}
 use Rattle.negotiation.specs.Law.{answer_in, answers_in, Called, Lawful}
 use Rattle.negotiation.proofs.WordLaws.{all_length}
 use Rattle.negotiation.proofs.RunLaws.{length-verdicts, index_names}

@@ -90,32 +90,7 @@ pub fn transaction_at<'a>(start: &'a [u8], updates: &'a [u8], at: usize) -> &'a 
     bytes(updates, at - 1, 0)
 }
 
-// ---- one update
-
-// Judges update i against the transaction with index `at`, of which it is known whether it is readable: that is not read again, and the time goes by the
-// update's own bytes.
-fn judge_at<'a>(
-    start: &'a [u8],
-    lock: &[u8],
-    udt: &[u8],
-    updates: &'a [u8],
-    known: bool,
-    at: usize,
-    i: usize,
-) -> Update
-    requires { known ≡ readable (option Transaction) (transaction_at start.now updates.now at) }
-    ensures { told result ≡ judge lock.now udt.now (transaction_at start.now updates.now at) (call_at updates.now i) }
-{
-    if !known {
-        return Err(Refusal::OurTransactionUnreadable);
-    }
-    let ours = transaction_at(start, updates, at);
-    let peer = bytes(updates, i, 0);
-    let records = bytes(updates, i, 1);
-    let source = bytes(updates, i, 2);
-    let rate = rate(updates, i);
-    funding_tx::judge_against(ours, peer, lock, udt, source, rate, records)
-}
+// ---- one answer
 
 // Copies words to `at`, where there is room.
 fn copy(answers: &mut [u64], at: usize, words: &[u64])
@@ -146,55 +121,71 @@ fn after(update: Update, ours: usize, peer: usize) -> usize
     }
 }
 
-// ---- all updates
+// ---- the negotiation
 
-// Judges the n updates one after another. The start is read once: where it is readable so is every transaction that is accepted after it, and where it is not
-// none is accepted.
-fn judge_all<'a>(
-    start: &'a [u8],
-    lock: &[u8],
-    udt: &[u8],
-    updates: &'a [u8],
-    n: usize,
-    answers: &mut [u64],
-) -> Replayed
-    requires { (n ≡ item_count updates.now) × (5 * n ≤ length answers.old) }
-    ensures { (answered result, answers.new) ≡ leaves (fine (verdicts (update_for_peer lock.now udt.now) start.now (calls_of updates.now))) answers.old }
-{
-    let known = transaction::is_optional_transaction(start);
-    let mut at = 0;
-    let mut accepted = 0;
-    for i in 0..n {
-        let update = judge_at(start, lock, udt, updates, known, at, i);
-        put_words(answers, 5 * i, update);
-        at = after(update, at, i + 1);
-        accepted = after(update, accepted, accepted + 1);
-    }
-    Ok(Summary {
-        updates: n,
-        accepted,
-        at,
-    })
+// The transaction at its start, the expected lock and type, and the list of updates.
+#[derive(Clone, Copy, Debug)]
+pub struct Negotiation<'a> {
+    pub start: &'a [u8],
+    pub lock: &'a [u8],
+    pub udt: &'a [u8],
+    pub updates: &'a [u8],
 }
 
-// Judges a list of updates, each against the transaction that the one before it left in force, under one expected lock and type. For update k, five words of
-// `answers` from 5 k on are its number (0: accepted) and its values, or the halves of its surpluses. Refused, before any update is judged: 3 where
-// `updates` is no list of updates, 13 where `answers` has fewer than five words for each.
-pub fn replay<'a>(
-    start: &'a [u8],
-    lock: &[u8],
-    udt: &[u8],
-    updates: &'a [u8],
-    answers: &mut [u64],
-) -> Replayed
-    ensures { (answered result, answers.new) ≡ leaves (replay_of lock.now udt.now start.now updates.now (length answers.old)) answers.old }
-{
-    if !is_updates(updates) {
-        return Err(Refusal::LentBytesUnreadable);
+impl Negotiation<'_> {
+    // Judges update i against the transaction with index `at`, of which it is known whether it is readable: that is not read again, and the time goes by the
+    // update's own bytes.
+    fn judge_at(self, known: bool, at: usize, i: usize) -> Update
+        requires { known ≡ readable (option Transaction) (transaction_at self.start.now self.updates.now at) }
+        ensures { told result ≡ judge self.entry.lock.now self.entry.udt.now (transaction_at self.entry.start.now self.entry.updates.now at) (call_at self.entry.updates.now i) }
+    {
+        if !known {
+            return Err(Refusal::OurTransactionUnreadable);
+        }
+        let ours = transaction_at(self.start, self.updates, at);
+        let peer = bytes(self.updates, i, 0);
+        let records = bytes(self.updates, i, 1);
+        let source = bytes(self.updates, i, 2);
+        let rate = rate(self.updates, i);
+        funding_tx::judge_against(ours, peer, self.lock, self.udt, source, rate, records)
     }
-    let n = molecule::item_count(updates) as usize;
-    if answers.len() / 5 < n {
-        return Err(Refusal::BufferTooShort);
+
+    // Judges the updates one after another. The start is read once: where it is readable so is every transaction that is accepted after it, and where it is not
+    // none is accepted.
+    fn judge_all(self, answers: &mut [u64]) -> Replayed
+        requires { 5 * item_count self.updates.now ≤ length answers.old }
+        ensures { (answered result, answers.new) ≡ leaves (fine (verdicts (update_for_peer self.entry.lock.now self.entry.udt.now) self.entry.start.now (calls_of self.entry.updates.now))) answers.old }
+    {
+        let n = molecule::item_count(self.updates) as usize;
+        let known = transaction::is_optional_transaction(self.start);
+        let mut at = 0;
+        let mut accepted = 0;
+        for i in 0..n {
+            let update = self.judge_at(known, at, i);
+            put_words(answers, 5 * i, update);
+            at = after(update, at, i + 1);
+            accepted = after(update, accepted, accepted + 1);
+        }
+        Ok(Summary {
+            updates: n,
+            accepted,
+            at,
+        })
     }
-    judge_all(start, lock, udt, updates, n, answers)
+
+    // Judges the updates, each against the transaction that the one before it left in force, under one expected lock and type. For update k, five words of
+    // `answers` from 5 k on are its number (0: accepted) and its values, or the halves of its surpluses. Refused, before any update is judged: 3 where
+    // `updates` is no list of updates, 13 where `answers` has fewer than five words for each.
+    pub fn replay(self, answers: &mut [u64]) -> Replayed
+        ensures { (answered result, answers.new) ≡ leaves (replay_of self.entry.lock.now self.entry.udt.now self.entry.start.now self.entry.updates.now (length answers.old)) answers.old }
+    {
+        if !is_updates(self.updates) {
+            return Err(Refusal::LentBytesUnreadable);
+        }
+        let n = molecule::item_count(self.updates) as usize;
+        if answers.len() / 5 < n {
+            return Err(Refusal::BufferTooShort);
+        }
+        self.judge_all(answers)
+    }
 }

@@ -1,5 +1,6 @@
 // What stands at a place of lent bytes (RFC 0008): the fields of a table, the items of a list. Each function is total: past the end a number is 0 and a part
-// is empty. A part that is handed back is a stretch of the lent bytes: the contract says which bytes, and where in the lent slice they start.
+// is empty. A part that is handed back is a stretch of the lent bytes: the contract says which bytes, and where in the lent slice they start. They take a slice and
+// a place, and `Reader` has the two in one: docs/RULES.md, "The form each place takes", asks for functions of both beneath its methods.
 ghost use Rattle.std.specs.Prelude.{◌≡◌, ◌+◌, min};
 ghost use Rattle.arithmetic.specs.LittleEndian.{u32_at};
 ghost use Rattle.molecule.specs.Layout.{part, part_start, inside, item_count, item_of, item_start, fix_item, fix_start, entry_of, entry_start};

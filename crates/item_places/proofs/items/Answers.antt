@@ -8,21 +8,21 @@ use Rattle.transaction_lists.specs.Found.{count_found}
 use Rattle.item_places.specs.Places.{places_found, listed}
 use Rattle.item_places.proofs.items.Goals as goal
 
-pub returns-in_err-n : goal.returns-in_err-n
+pub returns-in_err-count : goal.returns-in_err-count
 unfolding places_found listed ◌>>=◌
-returns-in_err-n c = grind (arith, common_steps)
+returns-in_err-count c = grind (arith, common_steps)
 
 pub returns-in_err-kind : goal.returns-in_err-kind
 unfolding count_found check check_with ◌>>◌
 returns-in_err-kind c = grind (arith, common_steps)
 
-pub returns-then-places-n : goal.returns-then-places-n
+pub returns-then-places-count : goal.returns-then-places-count
 unfolding places_found listed check check_with ◌>>=◌ ◌>>◌ number values
-returns-then-places-n c = grind (arith, common_steps)
+returns-then-places-count c = grind (arith, common_steps)
 
-pub put_places-requires : goal.put_places-requires
+pub invariant_of-put_places : goal.invariant_of-put_places
 unfolding count_found check check_with ◌>>◌
-put_places-requires c = grind (arith, common_steps)
+invariant_of-put_places c = record { counted = grind (arith, common_steps) }
 
 pub returns : goal.returns
 unfolding places_found listed check check_with ◌>>=◌ ◌>>◌

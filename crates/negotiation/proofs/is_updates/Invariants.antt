@@ -1,4 +1,3 @@
-use Rattle.std.proofs.Common.{◌-◌}
 use Rattle.negotiation.specs.Updates.{Update}
 use Rattle.molecule.proofs.TestLaws.{Reading}
 use Rattle.negotiation.proofs.is_updates.Given as goal

@@ -1,5 +1,0 @@
-use Rattle.exclusions.proofs.SiftLaws.{Sifting}
-use Rattle.exclusions.proofs.changes.gather.Given as goal
-
-abbrev pub invariant-loop-i : goal.invariant-loop-i
-invariant-loop-i l = Sifting l.rule l.initial.s l.n l.s l.c l.i

@@ -1,5 +1,0 @@
-use Rattle.exclusions.proofs.PutLaws.{Spending}
-use Rattle.exclusions.proofs.changes.put_points.Given as goal
-
-abbrev pub invariant-loop-k : goal.invariant-loop-k
-invariant-loop-k l = Spending l.inputs l.n l.initial.out l.at l.out l.to l.from l.k

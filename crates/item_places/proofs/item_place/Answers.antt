@@ -1,5 +1,0 @@
-use Rattle.item_places.proofs.Ways.{ways}
-use Rattle.item_places.proofs.item_place.Goals as goal
-
-pub returns : goal.returns
-returns c = search ways
