@@ -53,14 +53,7 @@ pub fn judge_against(
         return Err(Refusal::InvalidPeerFundingTx);
     }
     let brought = records::resolve(ours, peer, source, udt, records)?;
-    contribution::verify_peer_funding_contribution(
-        ours,
-        peer,
-        udt,
-        rate,
-        brought.capacity,
-        brought.token,
-    )
+    contribution::verify_peer_funding_contribution(ours, peer, udt, rate, brought)
 }
 
 // Judges the peer's transaction against ours (empty for none), under the expected funding lock, the expected token type (empty for none), our source lock

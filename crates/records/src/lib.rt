@@ -8,18 +8,10 @@ ghost use Rattle.rules.specs.Judge.{has_lock};
 ghost use Rattle.rules.specs.Told.{refusal, told_by};
 ghost use Rattle.records.specs.Resolved.{brought_by, or_unreadable, gathered, brings};
 
-use accounts::{capacity, token};
+use accounts::{Brought, capacity, token};
 use error::Refusal;
 use transaction::fields;
 use units::{Shannons, Tokens};
-
-// What all records bring in, live cells that are not ours.
-#[derive(Clone, Copy, Debug, PartialEq, Eq, Hash)]
-pub struct Brought {
-    pub capacity: Shannons,
-    /// The sum of the tokens, or why there is none. Untyped it means nothing, and nobody looks at it.
-    pub token: Result<Tokens, Refusal>,
-}
 
 // The cell of a record has our source lock.
 fn has_our_lock(source: &[u8], resolved: &[u8]) -> bool

@@ -1,5 +1,5 @@
 use Rattle.accounts.proofs.Ways.{ways}
-use Rattle.accounts.proofs.capacity.added_capacity.Goals as goal
+use Rattle.accounts.proofs.Added.capacity.Goals as goal
 
 pub loop-i-preserved : goal.loop-i-preserved
 loop-i-preserved c = search ways

@@ -3,7 +3,7 @@ use Rattle.std.proofs.lemmas.Grind.{common_steps}
 use Rattle.rules.specs.Surplus.{is_of}
 use Rattle.rules.specs.Judge.{counted}
 use Rattle.accounts.specs.Added.{cell_in}
-use Rattle.accounts.proofs.token.add_output.Goals as goal
+use Rattle.accounts.proofs.Added.add_output.Goals as goal
 
 pub returns-then-not-same_script : goal.returns-then-not-same_script
 unfolding counted is_of cell_in
