@@ -1,5 +1,5 @@
 // Complexity budgets for peer-supplied funding transactions: cheap checks that come before any record is looked at.
-#![tactic(auto)]
+#![tactic(auto, using(crate::proofs::Ways::ways))]
 
 ghost use Rattle.std.specs.Prelude.{◌≡◌, ◌+◌, ◌-◌, length};
 ghost use Rattle.transaction.specs.Tx.{tx_at};
