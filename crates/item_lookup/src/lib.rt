@@ -60,7 +60,7 @@ fn chain_of(x: &[u8]) -> usize
 }
 
 // What a chain says of an item.
-#[derive(Clone, Copy)]
+#[derive(Clone, Copy, Debug, PartialEq, Eq)]
 enum Chain {
     Met,
     Ended,
