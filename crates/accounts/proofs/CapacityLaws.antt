@@ -18,10 +18,10 @@ pub record_capacity : (x : List ℕ) {o : List ℕ} {r : Shannons} → o ≡ fir
 unfolding capacity_of
 record_capacity x {o} eo er = ap shannon_count er ∙ ap tx.capacity_of eo
 
-pub output-capacity : (f : List ℕ) (i : ℕ) {o : List ℕ} {r : Shannons} → o ≡ item_of f i → r ≡ in_shannons (tx.capacity_of o)
-    → shannon_count r ≡ capacity_of (cell_in f [] i)
+pub output-capacity : (f g : List ℕ) (i : ℕ) {o : List ℕ} {r : Shannons} → o ≡ item_of f i → r ≡ in_shannons (tx.capacity_of o)
+    → shannon_count r ≡ capacity_of (cell_in f g i)
 unfolding cell_in capacity_of
-output-capacity f i {o} eo er = ap shannon_count er ∙ ap tx.capacity_of eo
+output-capacity f g i {o} eo er = ap shannon_count er ∙ ap tx.capacity_of eo
 
 -- ---- sums over cells
 
@@ -30,8 +30,8 @@ pub record Sums (f : ℕ → Cell) (n i : ℕ) (sum : Shannons) (R : ℕ) : Type
   pub rest : shannon_count sum + total capacity_of (span f i (n - i)) ≡ R
   pub far : shannon_count sum ≤ 2 ^ 64 * i
 
-pub sums-from : (f : List ℕ) (k : ℕ) {n : ℕ} → n ≡ item_count f → Sums (cell_in f []) n k (in_shannons 0) (total capacity_of (cells_from f [] k))
-sums-from f k {n} e = record { rest = zero-add _ ∙ ap (λ (m : ℕ). total capacity_of (span (cell_in f []) k (m - k))) e; far = omega arith }
+pub sums-from : (f g : List ℕ) (k : ℕ) {n : ℕ} → n ≡ item_count f → Sums (cell_in f g) n k (in_shannons 0) (total capacity_of (cells_from f g k))
+sums-from f g k {n} e = record { rest = zero-add _ ∙ ap (λ (m : ℕ). total capacity_of (span (cell_in f g) k (m - k))) e; far = omega arith }
 
 -- far from 2^128, since fewer than 2^32 cells are summed
 turns : (q i n : ℕ) → i < n → q * i + q ≤ q * n

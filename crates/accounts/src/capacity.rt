@@ -1,12 +1,13 @@
 // The capacity account.
-ghost use Rattle.std.specs.Prelude.{◌≡◌, [], ◌+◌, ◌^◌, ◌<◌};
+ghost use Rattle.std.specs.Prelude.{◌≡◌, ◌+◌, ◌^◌, ◌<◌};
 ghost use Rattle.units.specs.Units.{shannon_count};
 ghost use Rattle.rules.specs.Cells.{record_cell};
 ghost use Rattle.rules.specs.Surplus.{total, capacity_of};
 ghost use Rattle.rules.specs.Judge.{covered};
 ghost use Rattle.rules.specs.Told.{told_by};
-ghost use Rattle.accounts.specs.Added.{cells_from};
+ghost use Rattle.accounts.specs.Added.{added_cells};
 
+use crate::Added;
 use arithmetic::amount;
 use error::Refusal;
 use transaction::fields;
@@ -21,18 +22,20 @@ pub fn record_capacity(resolved: &[u8]) -> Shannons
     fields::capacity(o)
 }
 
-// That of the outputs from index `first` on; their data counts nothing. A sum of fewer than 2^32 capacities is far from the greatest amount.
-fn added_capacity(outputs: &[u8], first: usize) -> Shannons
-    ensures { shannon_count result ≡ total capacity_of (cells_from outputs.now [] first) }
-{
-    let n = molecule::item_count(outputs) as usize;
-    let mut sum = Shannons::ZERO;
-    for i in first..n {
-        let o = molecule::item(outputs, i);
-        let x = fields::capacity(o);
-        sum = sum.saturating_add(x);
+impl Added<'_> {
+    // The capacity of these outputs; their data counts nothing. A sum of fewer than 2^32 capacities is far from the greatest amount.
+    fn capacity(self) -> Shannons
+        ensures { shannon_count result ≡ total capacity_of (added_cells self.entry) }
+    {
+        let n = molecule::item_count(self.outputs) as usize;
+        let mut sum = Shannons::ZERO;
+        for i in self.first..n {
+            let o = molecule::item(self.outputs, i);
+            let x = fields::capacity(o);
+            sum = sum.saturating_add(x);
+        }
+        sum
     }
-    sum
 }
 
 // What is left of what the records brought in over growth and added outputs, which pays the fee where ours is still empty.
@@ -65,18 +68,17 @@ fn cover(
     Ok(left)
 }
 
-// The surplus in capacity of what was gained, with output 0 grown by so much and the outputs from index `first` on added.
+// The surplus in capacity of what was gained, with output 0 grown by so much and these outputs added.
 pub fn surplus(
     opening: bool,
     gained: Shannons,
     grown: Shannons,
-    outputs: &[u8],
-    first: usize,
+    added: Added<'_>,
     rate: u64,
     size: u64,
 ) -> Result<Shannons, Refusal>
-    ensures { told_by shannon_count result ≡ covered opening (shannon_count gained) (shannon_count grown + total capacity_of (cells_from outputs.now [] first)) rate size }
+    ensures { told_by shannon_count result ≡ covered opening (shannon_count gained) (shannon_count grown + total capacity_of (added_cells added.entry)) rate size }
 {
-    let put = added_capacity(outputs, first);
+    let put = added.capacity();
     cover(opening, gained, grown, put, rate, size)
 }

@@ -11,7 +11,24 @@ ghost use Rattle.arithmetic.specs.Amount.{amount_at};
 ghost use Rattle.units.specs.Units.{in_tokens};
 ghost use Rattle.molecule.specs.Layout.{item_count};
 
-use units::Tokens;
+use error::Refusal;
+use units::{Shannons, Tokens};
+
+// What the records of the added inputs bring in, live cells that are not ours.
+#[derive(Clone, Copy, Debug, PartialEq, Eq, Hash)]
+pub struct Brought {
+    pub capacity: Shannons,
+    /// The sum of the tokens, or why there is none. Untyped it means nothing, and nobody looks at it.
+    pub token: Result<Tokens, Refusal>,
+}
+
+// The outputs that the peer added: those of a list from index `first` on, with their entries in a list of data.
+#[derive(Clone, Copy, Debug, PartialEq, Eq, Hash)]
+pub struct Added<'a> {
+    pub outputs: &'a [u8],
+    pub entries: &'a [u8],
+    pub first: usize,
+}
 
 // The token amount that a cell's data begins with (RFC 0025).
 pub fn read_udt_amount(d: &[u8]) -> Option<Tokens>

@@ -6,9 +6,10 @@ ghost use Rattle.rules.specs.Cells.{record_cell};
 ghost use Rattle.rules.specs.Surplus.{is_of};
 ghost use Rattle.rules.specs.Judge.{counted, tally, settled};
 ghost use Rattle.rules.specs.Told.{told_by};
-ghost use Rattle.accounts.specs.Added.{cell_in, cells_from};
+ghost use Rattle.accounts.specs.Added.{cell_in, added_cells};
 ghost use Rattle.accounts.specs.Paid.{and_cell, tokens_left};
 
+use crate::Added;
 use error::Refusal;
 use transaction::fields;
 use units::{Figure, Tokens};
@@ -39,35 +40,31 @@ pub fn add_record(
     add_amount(d, sum)
 }
 
-// A sum with the tokens of output i of a list of outputs, whose entry stands in a list of data.
-fn add_output(
-    udt: &[u8],
-    outputs: &[u8],
-    entries: &[u8],
-    i: usize,
-    sum: Tokens,
-) -> Result<Tokens, Refusal>
-    ensures { told_by token_count result ≡ counted udt.now (token_count sum) (cell_in outputs.now entries.now i) }
-{
-    let o = molecule::item(outputs, i);
-    let t = fields::type_script(o);
-    if !lists::same_script(udt, t) {
-        return Ok(sum);
+impl Added<'_> {
+    // A sum with the tokens of output i.
+    fn add_output(self, udt: &[u8], i: usize, sum: Tokens) -> Result<Tokens, Refusal>
+        ensures { told_by token_count result ≡ counted udt.now (token_count sum) (cell_in self.entry.outputs.now self.entry.entries.now i) }
+    {
+        let o = molecule::item(self.outputs, i);
+        let t = fields::type_script(o);
+        if !lists::same_script(udt, t) {
+            return Ok(sum);
+        }
+        let d = molecule::entry(self.entries, i);
+        add_amount(d, sum)
     }
-    let d = molecule::entry(entries, i);
-    add_amount(d, sum)
-}
 
-// The tokens of the outputs from index `first` on.
-fn added_tokens(udt: &[u8], outputs: &[u8], entries: &[u8], first: usize) -> Result<Tokens, Refusal>
-    ensures { told_by token_count result ≡ tally udt.now 0 (cells_from outputs.now entries.now first) }
-{
-    let n = molecule::item_count(outputs) as usize;
-    let mut sum = Tokens::ZERO;
-    for i in first..n {
-        sum = add_output(udt, outputs, entries, i, sum)?;
+    // The tokens of these outputs.
+    fn tokens(self, udt: &[u8]) -> Result<Tokens, Refusal>
+        ensures { told_by token_count result ≡ tally udt.now 0 (added_cells self.entry) }
+    {
+        let n = molecule::item_count(self.outputs) as usize;
+        let mut sum = Tokens::ZERO;
+        for i in self.first..n {
+            sum = self.add_output(udt, i, sum)?;
+        }
+        Ok(sum)
     }
-    Ok(sum)
 }
 
 // What is left of what the records brought in over growth and added outputs.
@@ -80,21 +77,19 @@ fn settle(grown: Tokens, put: Tokens, gained: Tokens) -> Result<Tokens, Refusal>
         .ok_or(Refusal::InvalidPeerFundingTx)
 }
 
-// The surplus in tokens of what the records brought in, with output 0 grown by so much and the outputs from index `first` on added; 0 when untyped.
+// The surplus in tokens of what the records brought in, with output 0 grown by so much and these outputs added; 0 when untyped.
 pub fn surplus(
     udt: &[u8],
     paid: Result<Tokens, Refusal>,
     grown: Tokens,
-    outputs: &[u8],
-    entries: &[u8],
-    first: usize,
+    added: Added<'_>,
 ) -> Result<Tokens, Refusal>
-    ensures { told_by token_count result ≡ tokens_left udt.now (token_count grown) (told_by token_count paid) (cells_from outputs.now entries.now first) }
+    ensures { told_by token_count result ≡ tokens_left udt.now (token_count grown) (told_by token_count paid) (added_cells added.entry) }
 {
     if udt.is_empty() {
         return Ok(Tokens::ZERO);
     }
     let gained = paid?;
-    let put = added_tokens(udt, outputs, entries, first)?;
+    let put = added.tokens(udt)?;
     settle(grown, put, gained)
 }

@@ -123,10 +123,6 @@ module _ (tx : List ℕ) (list i : ℕ) where
 
 -- ---- the verdict line
 
-pub line_put : (made out : List ℕ) (n : ℕ) {s after : List ℕ} {o : Outcome ℕ} → s ≡ part made 0 n → (o, after) ≡ written (fine s) out → (o, after) ≡ written (fine (take n made)) out
-unfolding part
-line_put made out n e h = let z : n - 0 ≡ n = omega arith in h ∙ rw (e, z)
-
 pub line-told : (line zeros out words : List ℕ) {made after : List ℕ} {n : ℕ} {o : Outcome ℕ} {r : ℕ × List ℕ} → made ≡ splice zeros 0 line → n ≡ length line
     → (o, after) ≡ written (fine (take n made)) out → r ≡ in_words count_words o words → (r, after) ≡ writing count_words (written (fine line) out) words
 line-told line zeros out words {n = n} e f h k =

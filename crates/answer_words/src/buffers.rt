@@ -1,5 +1,5 @@
 // Bytes put at the start of a lent buffer.
-ghost use Rattle.std.specs.Prelude.{◌≡◌, take};
+ghost use Rattle.std.specs.Prelude.{◌≡◌};
 ghost use Rattle.rules.specs.Outcome.{fine};
 ghost use Rattle.base_writer.specs.Answer.{told, written};
 ghost use Rattle.answer_words.specs.Buffers.{item_found};
@@ -21,6 +21,7 @@ pub fn put_first(s: &[u8], out: &mut [u8]) -> Written
 
 // Puts an item of a list of a transaction at the start of out. Refused, and out as it was: bytes that are no transaction (1), a list or an item that there is not (3), an
 // item over out or over 133,116 bytes (13).
+// The three parameters that name an item are those of the C interface, and cross it apart.
 pub fn put_item(tx: &[u8], list: u32, i: usize, out: &mut [u8]) -> Written
     ensures { (told result, out.new) ≡ written (item_found tx.now list i) out.old }
 {
@@ -29,12 +30,4 @@ pub fn put_item(tx: &[u8], list: u32, i: usize, out: &mut [u8]) -> Written
         return Err(Refusal::LentBytesUnreadable);
     }
     put_first(transaction_lists::item(tx, list, i), out)
-}
-
-// Puts the verdict line of a case file, the first n bytes of `verdict`, at the start of a lent buffer. Refused, and the buffer as it was: a line over it (13).
-pub fn put_line(verdict: &[u8; verdict_line::LINE_BYTES], n: usize, line: &mut [u8]) -> Written
-    ensures { (told result, line.new) ≡ written (fine (take n verdict.now)) line.old }
-{
-    let bytes = &verdict[..];
-    put_first(molecule::part(bytes, 0, n), line)
 }

@@ -174,7 +174,7 @@ pub extern "C" fn basinpantry_check_case(
 {
     let mut verdict = [0u8; verdict_line::LINE_BYTES];
     let n = case_file::check_case(file, &mut verdict);
-    let written = buffers::put_line(&verdict, n, line);
+    let written = buffers::put_first(&verdict[..n], line);
     answer_words::tell_written(written, values)
 }
 

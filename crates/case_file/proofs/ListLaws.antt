@@ -57,7 +57,7 @@ pub entry-cell : (s : List ℕ) (at : ℕ) → eqb (kind_at s at) 9 ≡ false �
 unfolding entry_at pick
 entry-cell s at h = rw h
 
-module _ (s : List ℕ) (at : ℕ) (out : List ℕ) (to : ℕ) (h : (length s ≤ 65536) × (to + length (entry_at s at) ≤ length out)) where
+module _ (s : List ℕ) (at : ℕ) (out : List ℕ) (to : ℕ) (h : to + length (entry_at s at) ≤ length out) where
   pub entry_none-put : eqb (kind_at s at) 9 ≡ true → Put out to (entry_at s at) out to
   entry_none-put z = rw (entry-none s at z) (none out to (omega arith))
 
@@ -91,7 +91,6 @@ length-words first n s from = unwords_length (offsets first (walk n s from)) ∙
 
 -- `whole` is what was put so far, and the offsets of the records that are left
 pub record Offsetting (whole out₀ : List ℕ) (to : ℕ) (s out : List ℕ) (end at left offset : ℕ) : Type 0 where
-  pub short : length s ≤ 65536
   pub long : length out ≡ length out₀
   pub small : offset + length (flatten (walk left s at)) < 2 ^ 32
   pub room : to + length whole ≤ length out₀
@@ -99,11 +98,11 @@ pub record Offsetting (whole out₀ : List ℕ) (to : ℕ) (s out : List ℕ) (e
   pub so_far : Put out₀ to written out end
   pub rest : whole ≡ written ++ unwords (offsets offset (walk left s at))
 
-pub offset_none : (out : List ℕ) (to : ℕ) (s : List ℕ) (from n first : ℕ) → (length s ≤ 65536) × (to + 4 * n ≤ length out) × (first + length (flatten (walk n s from)) < 2 ^ 32)
+pub offset_none : (out : List ℕ) (to : ℕ) (s : List ℕ) (from n first : ℕ) → (to + 4 * n ≤ length out) × (first + length (flatten (walk n s from)) < 2 ^ 32)
     → Offsetting (unwords (offsets first (walk n s from))) out to s out to from n first
 offset_none out to s from n first h =
     let l = length-words first n s from in
-    record { short = h.0; long = refl; small = h.2; room = omega arith; written = []; so_far = none out to (omega arith); rest = refl }
+    record { long = refl; small = h.1; room = omega arith; written = []; so_far = none out to (omega arith); rest = refl }
 
 module _ {whole out₀ : List ℕ} {to : ℕ} {s out : List ℕ} {end at left offset : ℕ} (c : Offsetting whole out₀ to s out end at left offset) where
   rest_more : 0 < left → whole ≡ c.written ++ to_le 4 offset ++ unwords (offsets (offset + length (entry_at s at)) (walk (left - 1) s (next_at s at)))
@@ -119,7 +118,6 @@ module _ {whole out₀ : List ℕ} {to : ℕ} {s out : List ℕ} {end at left of
       let p = and_put (to_le 4 offset) c.so_far g f (omega arith) in
       let t : length (flatten (walk left s at)) ≡ length (entry_at s at) + length (flatten (walk (left - 1) s (next_at s at))) = ap (λ (ws : List (List ℕ)). length (flatten ws)) (walk_more s at left h) ∙ length_flatten (entry_at s at) (walk (left - 1) s (next_at s at)) in
       rw (k, l, j) (record {
-        short = c.short;
         long = length-kept p;
         small = omega arith;
         room = c.room;
@@ -135,16 +133,15 @@ module _ {whole out₀ : List ℕ} {to : ℕ} {s out : List ℕ} {end at left of
 -- ---- the loop that puts the records
 
 pub record Entering (whole out₀ : List ℕ) (to : ℕ) (s out : List ℕ) (end at left : ℕ) : Type 0 where
-  pub short : length s ≤ 65536
   pub long : length out ≡ length out₀
   pub room : to + length whole ≤ length out₀
   pub written : List ℕ
   pub so_far : Put out₀ to written out end
   pub rest : whole ≡ written ++ flatten (walk left s at)
 
-pub enter_none : (out : List ℕ) (to : ℕ) (s : List ℕ) (from n : ℕ) → (length s ≤ 65536) × (to + length (flatten (walk n s from)) ≤ length out)
+pub enter_none : (out : List ℕ) (to : ℕ) (s : List ℕ) (from n : ℕ) → to + length (flatten (walk n s from)) ≤ length out
     → Entering (flatten (walk n s from)) out to s out to from n
-enter_none out to s from n h = record { short = h.0; long = refl; room = h.1; written = []; so_far = none out to (omega arith); rest = refl }
+enter_none out to s from n h = record { long = refl; room = h; written = []; so_far = none out to (omega arith); rest = refl }
 
 module _ {whole out₀ : List ℕ} {to : ℕ} {s out : List ℕ} {end at left : ℕ} (c : Entering whole out₀ to s out end at left) where
   left-more : 0 < left → whole ≡ c.written ++ entry_at s at ++ flatten (walk (left - 1) s (next_at s at))
@@ -161,7 +158,6 @@ module _ {whole out₀ : List ℕ} {to : ℕ} {s out : List ℕ} {end at left : 
   pub enter_more : {next n₁ : ℕ} {o₁ : List ℕ} → 0 < left → Put out end (entry_at s at) o₁ n₁ → next ≡ next_at s at → {left' : ℕ} → left' ≡ left - 1 → Entering whole out₀ to s o₁ n₁ next left'
   enter_more h q k j =
       rw (k, j) (record {
-        short = c.short;
         long = length-kept q ∙ c.long;
         room = c.room;
         written = c.written ++ entry_at s at;
@@ -175,10 +171,10 @@ module _ {whole out₀ : List ℕ} {to : ℕ} {s out : List ℕ} {end at left : 
 
 -- ---- the list
 
-module _ (out s : List ℕ) (from n size : ℕ) (h : (length s ≤ 65536) × (size ≡ length (join (walk n s from))) × (4 * n + 4 ≤ size) × (size ≤ length out) × (size < 2 ^ 32))
+module _ (out s : List ℕ) (from n size : ℕ) (h : (size ≡ length (join (walk n s from))) × (4 * n + 4 ≤ size) × (size ≤ length out) × (size < 2 ^ 32))
     {o₁ : List ℕ} {n₁ : ℕ} (e : o₁ ≡ put_at out 0 (to_le 4 size)) (f : n₁ ≡ put_end out 0 (to_le 4 size)) where
   size_is : size ≡ 4 * n + 4 + length (flatten (walk n s from))
-  size_is = h.1 ∙ length-join (walk n s from) ∙ rw length-walk (omega arith)
+  size_is = h.0 ∙ length-join (walk n s from) ∙ rw length-walk (omega arith)
 
   size_put : Put out 0 (to_le 4 size) o₁ n₁
   size_put = let a = length-to_le 4 size in did (to_le 4 size) e f (omega arith)

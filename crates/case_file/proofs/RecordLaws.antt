@@ -75,9 +75,15 @@ unfolding ◌>>=◌
 same_end g none = refl
 same_end g (some x) = refl
 
-pub dead_is : (s : List ℕ) (at : ℕ) → length_at s at ≡ 0 → end_of (dead_at s at) ≡ end_of (item_at s 9 at)
-unfolding dead_at only
-dead_is s at h = rw (eq-eqb (length_at s at) 0 h) (same_end (λ _. none) (item_at s 9 at))
+only_end : (g : List ℕ → Option Cell) (b : Bool) (o : Option (Read (List ℕ)))
+    → end_of (only b (o >>= λ x. some (record { got = g x.got; next = x.next }))) ≡ end_of (only b o)
+unfolding only
+only_end g true o = same_end g o
+only_end g false o = refl
+
+pub dead_is : (s : List ℕ) (at : ℕ) → end_of (dead_at s at) ≡ end_of (only (eqb (length_at s at) 0) (item_at s 9 at))
+unfolding dead_at
+dead_is s at = only_end (λ _. none) (eqb (length_at s at) 0) (item_at s 9 at)
 
 abbrev cell_of : Read (List ℕ) → List ℕ → Option Cell
 cell_of output content = some (record { output = output.got; cell_data = content })
@@ -222,10 +228,10 @@ measured-more (some rs) =
     let l : length (record_list rs) ≡ 4 + (4 * length rs + length (flatten (map record_bytes rs))) = length-join (map record_bytes rs) ∙ rw length-map (omega arith) in
     rw (l, zero-add)
 
-pub scan_none : (s : List ℕ) (from : ℕ) → (length s ≤ 65536) × (0 < from) × (from ≤ length s) → Scanning s from from 0 4
-scan_none s from h = record {
-  short = h.0;
-  within = h.2;
+pub scan_none : (s : List ℕ) (from : ℕ) → length s ≤ 65536 → (0 < from) × (from ≤ length s) → Scanning s from from 0 4
+scan_none s from k h = record {
+  short = k;
+  within = h.1;
   few = omega arith;
   light = omega arith;
   fuel = length s;

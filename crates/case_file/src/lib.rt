@@ -12,7 +12,7 @@ ghost use Rattle.case_file.specs.Walk.{verdict_at};
 
 use arithmetic::little_endian;
 use error::Refusal;
-use items::{Kind, Places};
+use items::{CaseFile, Kind, Places};
 use rules::Update;
 
 // The longest case file.
@@ -22,31 +22,33 @@ pub const FILE_BYTES: usize = 65_536;
 const RECORD_BYTES: usize = 4 + FILE_BYTES / 2 * 5;
 
 // Judges the update whose bodies stand at these places of a file, over a list of records.
-fn judge_at(s: &[u8], places: Places, records: &[u8]) -> Update
-    requires { length s.now ≤ 65536 }
-    ensures { told result ≡ verdict_at s.now places records.now }
+fn judge_at(file: CaseFile<'_>, places: Places, records: &[u8]) -> Update
+    ensures { told result ≡ verdict_at file.entry.bytes.now places records.now }
 {
-    let ours = items::optional_body(s, Kind::Ours, 0);
-    let peer = items::body(s, places.peer);
-    let lock = items::body(s, places.lock);
-    let udt = items::optional_body(s, Kind::Udt, places.udt);
-    let source = items::body(s, places.source);
-    let rate = little_endian::u64_at(items::body(s, places.rate), 0);
+    let ours = file.optional_body(Kind::Ours, 0);
+    let peer = file.body(places.peer);
+    let lock = file.body(places.lock);
+    let udt = file.optional_body(Kind::Udt, places.udt);
+    let source = file.body(places.source);
+    let rate = little_endian::u64_at(file.body(places.rate), 0);
     funding_tx::update_for_peer(ours, peer, lock, udt, source, rate, records)
 }
 
 // Judges the update of a case file. The list of its records is made in `records`.
-fn judge_case(s: &[u8], records: &mut [u8]) -> Update
+fn judge_case(bytes: &[u8], records: &mut [u8]) -> Update
     requires { 163844 ≤ length records.old }
-    ensures { told result ≡ verdict_of (case_of s.now) }
+    ensures { told result ≡ verdict_of (case_of bytes.now) }
 {
-    if s.len() > FILE_BYTES {
+    if bytes.len() > FILE_BYTES {
         return Err(Refusal::LentBytesUnreadable);
     }
-    let places = items::find_places(s).ok_or(Refusal::LentBytesUnreadable)?;
-    let list = record_list::measure(s, places.records).ok_or(Refusal::LentBytesUnreadable)?;
-    let n = record_list::put_list(records, s, places.records, list);
-    judge_at(s, places, &records[0..n])
+    let file = CaseFile { bytes };
+    let places = file.find_places().ok_or(Refusal::LentBytesUnreadable)?;
+    let list = file
+        .measure(places.records)
+        .ok_or(Refusal::LentBytesUnreadable)?;
+    let n = file.put_list(records, places.records, list);
+    judge_at(file, places, &records[0..n])
 }
 
 // Writes the verdict line of a case file to the start of `line`, and answers its length; the bytes behind it keep their value.

@@ -31,6 +31,15 @@ no_fewer xs ys t em en h = rw (lt-leb (length xs) (length ys) (omega arith))
 enough : (xs ys : List (List ℕ)) {m n : ℕ} → m ≡ length ys → n ≡ length xs → n ≤ m → leb (length xs) (length ys) ≡ true
 enough xs ys em en h = le-leb (length xs) (length ys) (omega arith)
 
+-- none fewer, and those after 0 stand where ours do
+kept : (xs ys : List (List ℕ)) {m n : ℕ} → m ≡ length xs → n ≡ length ys → (leb m n && extends (drop 1 xs) (drop 1 ys)) ≡ kept_after_first xs ys
+unfolding kept_after_first
+kept xs ys em en = rw (em, en) (by (leb (length xs) (length ys)) refl)
+  where
+    by : (b : Bool) → leb (length xs) (length ys) ≡ b → (b && extends (drop 1 xs) (drop 1 ys)) ≡ (b && agree (drop 1 xs) (drop 1 ys))
+    by true e = extends-rest xs ys e
+    by false e = refl
+
 module _ (o p : List ℕ) where
   pub version-same : {a b : ℕ} → a ≡ (tx_at o).version → b ≡ (tx_at p).version → eqb a b ≡ eqb (tx_at o).version (tx_at p).version
   version-same ea eb = ap₂ eqb ea eb
@@ -52,29 +61,14 @@ module _ (o p : List ℕ) where
     unfolding none_missing
     deps-kept h e = rw (← ea, ← eb, enough (fix_items 37 a) (fix_items 37 b) (em ∙ sym (span-length _ 0 _)) (en ∙ sym (span-length _ 0 _)) h) e
 
-  module _ {a b : List ℕ} (ea : a ≡ raw_field o 4) (eb : b ≡ raw_field p 4) {m n : ℕ} (em : m ≡ item_count b) (en : n ≡ item_count a) where
-    pub outputs_fewer : m < n → false ≡ kept_after_first (tx_at o).outputs (tx_at p).outputs
-    unfolding kept_after_first
-    outputs_fewer h = rw (← ea, ← eb) (no_fewer (items_of a) (items_of b) _ (em ∙ sym (span-length _ 0 _)) (en ∙ sym (span-length _ 0 _)) h)
-
-    pub outputs-kept : {r : Bool} → n ≤ m → r ≡ extends (drop 1 (items_of a)) (drop 1 (items_of b))
+  module _ {a b : List ℕ} {r : Bool} where
+    pub outputs-kept : a ≡ raw_field o 4 → b ≡ raw_field p 4 → r ≡ (leb (item_count a) (item_count b) && extends (drop 1 (items_of a)) (drop 1 (items_of b)))
         → r ≡ kept_after_first (tx_at o).outputs (tx_at p).outputs
-    unfolding kept_after_first
-    outputs-kept h e =
-        let t : leb (length (items_of a)) (length (items_of b)) ≡ true = enough (items_of a) (items_of b) (em ∙ sym (span-length _ 0 _)) (en ∙ sym (span-length _ 0 _)) h in
-        rw (← ea, ← eb, t) (e ∙ extends-rest (items_of a) (items_of b) t)
+    outputs-kept ea eb h = rw (← ea, ← eb) (h ∙ kept (items_of a) (items_of b) (sym (span-length _ 0 _)) (sym (span-length _ 0 _)))
 
-  module _ {a b : List ℕ} (ea : a ≡ raw_field o 5) (eb : b ≡ raw_field p 5) {m n : ℕ} (em : m ≡ item_count b) (en : n ≡ item_count a) where
-    pub data_fewer : m < n → false ≡ kept_after_first (tx_at o).outputs_data (tx_at p).outputs_data
-    unfolding kept_after_first
-    data_fewer h = rw (← ea, ← eb) (no_fewer (entries_of a) (entries_of b) _ (em ∙ sym (span-length _ 0 _)) (en ∙ sym (span-length _ 0 _)) h)
-
-    pub data_kept : {r : Bool} → n ≤ m → r ≡ extends (drop 1 (entries_of a)) (drop 1 (entries_of b))
+    pub data_kept : a ≡ raw_field o 5 → b ≡ raw_field p 5 → r ≡ (leb (item_count a) (item_count b) && extends (drop 1 (entries_of a)) (drop 1 (entries_of b)))
         → r ≡ kept_after_first (tx_at o).outputs_data (tx_at p).outputs_data
-    unfolding kept_after_first
-    data_kept h e =
-        let t : leb (length (entries_of a)) (length (entries_of b)) ≡ true = enough (entries_of a) (entries_of b) (em ∙ sym (span-length _ 0 _)) (en ∙ sym (span-length _ 0 _)) h in
-        rw (← ea, ← eb, t) (e ∙ extends-rest (entries_of a) (entries_of b) t)
+    data_kept ea eb h = rw (← ea, ← eb) (h ∙ kept (entries_of a) (entries_of b) (sym (span-length _ 0 _)) (sym (span-length _ 0 _)))
 
 -- ---- output 0
 
@@ -125,55 +119,55 @@ two-lines : {r : Bool} (xs ys : List (List ℕ)) → r ≡ extends xs ys → (b 
 two-lines xs ys e b h = sym (extends-is xs ys) ∙ sym e ∙ h
 
 module _ (lock type o p : List ℕ) where
-  pub differs_version : {r : Bool} → r ≡ eqb (tx_at o).version (tx_at p).version → not r ≡ true → check 5 false ≡ comparison lock type (tx_at o) (tx_at p)
+  pub differs_version : {r : Bool} → r ≡ eqb (tx_at o).version (tx_at p).version → r ≡ false → check 5 false ≡ comparison lock type (tx_at o) (tx_at p)
   unfolding comparison
-  differs_version e h = fail 5 _ (sym e ∙ not-true _ h)
+  differs_version e h = fail 5 _ (sym e ∙ h)
 
   pub differs_deps : {r : Bool} → r ≡ none_missing (tx_at o).cell_deps (tx_at p).cell_deps
-      → not r ≡ true → check 5 false ≡ comparison lock type (tx_at o) (tx_at p)
+      → r ≡ false → check 5 false ≡ comparison lock type (tx_at o) (tx_at p)
   unfolding comparison none_missing
-  differs_deps e h = skip 5 _ (fail_two 5 _ _ _ (sym e ∙ not-true _ h))
+  differs_deps e h = skip 5 _ (fail_two 5 _ _ _ (sym e ∙ h))
 
-  pub differs_headers : {r : Bool} → r ≡ extends (tx_at o).header_deps (tx_at p).header_deps → not r ≡ true → check 5 false ≡ comparison lock type (tx_at o) (tx_at p)
+  pub differs_headers : {r : Bool} → r ≡ extends (tx_at o).header_deps (tx_at p).header_deps → r ≡ false → check 5 false ≡ comparison lock type (tx_at o) (tx_at p)
   unfolding comparison
-  differs_headers e h = skip 5 _ (skip 5 _ (skip 5 _ (fail_two 5 _ _ _ (two-lines (tx_at o).header_deps (tx_at p).header_deps e false (not-true _ h)))))
+  differs_headers e h = skip 5 _ (skip 5 _ (skip 5 _ (fail_two 5 _ _ _ (two-lines (tx_at o).header_deps (tx_at p).header_deps e false h))))
 
-  pub differs_inputs : {r : Bool} → r ≡ extends (tx_at o).inputs (tx_at p).inputs → not r ≡ true → check 5 false ≡ comparison lock type (tx_at o) (tx_at p)
+  pub differs_inputs : {r : Bool} → r ≡ extends (tx_at o).inputs (tx_at p).inputs → r ≡ false → check 5 false ≡ comparison lock type (tx_at o) (tx_at p)
   unfolding comparison
-  differs_inputs e h = skip 5 _ (skip 5 _ (skip 5 _ (skip 5 _ (skip 5 _ (fail_two 5 _ _ _ (two-lines (tx_at o).inputs (tx_at p).inputs e false (not-true _ h)))))))
+  differs_inputs e h = skip 5 _ (skip 5 _ (skip 5 _ (skip 5 _ (skip 5 _ (fail_two 5 _ _ _ (two-lines (tx_at o).inputs (tx_at p).inputs e false h))))))
 
   pub differs_outputs : {r : Bool} → r ≡ kept_after_first (tx_at o).outputs (tx_at p).outputs
-      → not r ≡ true → check 5 false ≡ comparison lock type (tx_at o) (tx_at p)
+      → r ≡ false → check 5 false ≡ comparison lock type (tx_at o) (tx_at p)
   unfolding comparison kept_after_first
   differs_outputs e h =
       skip 5 _ (skip 5 _ (skip 5 _ (skip 5 _ (skip 5 _ (skip 5 _ (skip 5 _
-      (fail_apart 5 _ _ (λ z. skip 5 _ (skip 5 _ (skip 5 _ (fail 5 _ z)))) (sym e ∙ not-true _ h))))))))
+      (fail_apart 5 _ _ (λ z. skip 5 _ (skip 5 _ (skip 5 _ (fail 5 _ z)))) (sym e ∙ h))))))))
 
   pub differs_funding : {r : Bool}
       → r ≡ funding_cell_first lock type (cells (tx_at p))
-      → not r ≡ true → check 5 false ≡ comparison lock type (tx_at o) (tx_at p)
+      → r ≡ false → check 5 false ≡ comparison lock type (tx_at o) (tx_at p)
   unfolding comparison funding_cell_first
   differs_funding e h =
-      skip 5 _ (skip 5 _ (skip 5 _ (skip 5 _ (skip 5 _ (skip 5 _ (skip 5 _ (skip 5 _ (fail_apart 5 _ _ (fail_two 5 _ _ _) (sym e ∙ not-true _ h)))))))))
+      skip 5 _ (skip 5 _ (skip 5 _ (skip 5 _ (skip 5 _ (skip 5 _ (skip 5 _ (skip 5 _ (fail_apart 5 _ _ (fail_two 5 _ _ _) (sym e ∙ h)))))))))
 
   -- all but the last pass
   pub differs_data : {r1 r2 r3 r4 r5 r6 r : Bool}
-      → r1 ≡ eqb (tx_at o).version (tx_at p).version → not r1 ≡ false
-      → r2 ≡ none_missing (tx_at o).cell_deps (tx_at p).cell_deps → not r2 ≡ false
-      → r3 ≡ extends (tx_at o).header_deps (tx_at p).header_deps → not r3 ≡ false
-      → r4 ≡ extends (tx_at o).inputs (tx_at p).inputs → not r4 ≡ false
-      → r5 ≡ kept_after_first (tx_at o).outputs (tx_at p).outputs → not r5 ≡ false
-      → r6 ≡ funding_cell_first lock type (cells (tx_at p)) → not r6 ≡ false
+      → r1 ≡ eqb (tx_at o).version (tx_at p).version → r1 ≡ true
+      → r2 ≡ none_missing (tx_at o).cell_deps (tx_at p).cell_deps → r2 ≡ true
+      → r3 ≡ extends (tx_at o).header_deps (tx_at p).header_deps → r3 ≡ true
+      → r4 ≡ extends (tx_at o).inputs (tx_at p).inputs → r4 ≡ true
+      → r5 ≡ kept_after_first (tx_at o).outputs (tx_at p).outputs → r5 ≡ true
+      → r6 ≡ funding_cell_first lock type (cells (tx_at p)) → r6 ≡ true
       → r ≡ kept_after_first (tx_at o).outputs_data (tx_at p).outputs_data
       → check 5 r ≡ comparison lock type (tx_at o) (tx_at p)
   unfolding comparison none_missing kept_after_first funding_cell_first
   differs_data e1 t1 e2 t2 e3 t3 e4 t4 e5 t5 e6 t6 e =
-      let (n, a) = (and-eq-true_iff _ _).0 (sym e5 ∙ not-false _ t5) in
-      let (l, k) = (and-eq-true_iff _ _).0 (sym e6 ∙ not-false _ t6) in
-      pass 5 (sym e1 ∙ not-false _ t1)
-      (pass_two 5 _ _ (sym e2 ∙ not-false _ t2)
-      (pass_two 5 _ _ (two-lines (tx_at o).header_deps (tx_at p).header_deps e3 true (not-false _ t3))
-      (pass_two 5 _ _ (two-lines (tx_at o).inputs (tx_at p).inputs e4 true (not-false _ t4))
+      let (n, a) = (and-eq-true_iff _ _).0 (sym e5 ∙ t5) in
+      let (l, k) = (and-eq-true_iff _ _).0 (sym e6 ∙ t6) in
+      pass 5 (sym e1 ∙ t1)
+      (pass_two 5 _ _ (sym e2 ∙ t2)
+      (pass_two 5 _ _ (two-lines (tx_at o).header_deps (tx_at p).header_deps e3 true t3)
+      (pass_two 5 _ _ (two-lines (tx_at o).inputs (tx_at p).inputs e4 true t4)
       (pass 5 n (pass 5 l (pass_two 5 _ _ k (pass 5 a (last_is 5 e ∙ last_two 5 _ _))))))))
 
 -- ---- where there is nothing of ours
@@ -199,8 +193,8 @@ unfolding raw_field field_of part start word num_at span item_count kept_after_f
 no_data ys = rw (le-leb 0 (length ys) (omega arith))
 
 module _ (lock type o p : List ℕ) where
-  pub opens : {r s : Bool} → r ≡ funding_cell_first lock type (cells (tx_at p)) → not r ≡ false
-      → s ≡ eqb (tx_at o).version (tx_at p).version → not s ≡ false → length o ≡ 0
+  pub opens : {r s : Bool} → r ≡ funding_cell_first lock type (cells (tx_at p)) → r ≡ true
+      → s ≡ eqb (tx_at o).version (tx_at p).version → s ≡ true → length o ≡ 0
       → check 5 true ≡ comparison lock type (tx_at o) (tx_at p)
   opens e t f u z =
       let y : [] ≡ o = by_length o sym (λ n. absurd (n z)) in

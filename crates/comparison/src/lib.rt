@@ -1,14 +1,14 @@
 // The peer's transaction against ours: no cell dep, header dep, input, output or data of ours is gone, and output 0 is the funding cell. Cell deps may be
 // reordered, output 0 and its data may change, and witnesses are not compared.
-#![tactic(auto)]
+#![tactic(auto, using(crate::proofs::Ways::ways))]
 
-ghost use Rattle.std.specs.Prelude.{◌≡◌, eqb};
-ghost use Rattle.lists.specs.Lists.{extends};
+ghost use Rattle.std.specs.Prelude.{◌≡◌, eqb, leb, ◌&&◌, List, ℕ, Bool};
+ghost use Rattle.molecule.specs.Layout.{item_count};
 ghost use Rattle.transaction.specs.Tx.{tx_at};
 ghost use Rattle.rules.specs.Outcome.{check};
 ghost use Rattle.rules.specs.Cells.{cells};
 ghost use Rattle.rules.specs.Judge.{comparison};
-ghost use Rattle.comparison.specs.Together.{none_missing, kept_after_first, funding_cell_first};
+ghost use Rattle.comparison.specs.Together.{none_missing, funding_cell_first};
 
 use transaction::fields;
 
@@ -30,36 +30,6 @@ fn keeps_cell_deps(ours: &[u8], peer: &[u8]) -> bool
         return false;
     }
     item_lookup::fix_has_all(a, b, 37)
-}
-
-// No fewer header deps, and ours at their places.
-fn extends_header_deps(ours: &[u8], peer: &[u8]) -> bool
-    ensures { result ≡ extends (tx_at ours.now).header_deps (tx_at peer.now).header_deps }
-{
-    let a = fields::header_deps(ours);
-    let b = fields::header_deps(peer);
-    lists::fix_extends(a, b, 32)
-}
-
-// No fewer inputs, and ours at their places.
-fn extends_inputs(ours: &[u8], peer: &[u8]) -> bool
-    ensures { result ≡ extends (tx_at ours.now).inputs (tx_at peer.now).inputs }
-{
-    let a = fields::inputs(ours);
-    let b = fields::inputs(peer);
-    lists::fix_extends(a, b, 44)
-}
-
-// No fewer outputs, and ours after 0 at their places.
-fn keeps_outputs(ours: &[u8], peer: &[u8]) -> bool
-    ensures { result ≡ kept_after_first (tx_at ours.now).outputs (tx_at peer.now).outputs }
-{
-    let a = fields::outputs(ours);
-    let b = fields::outputs(peer);
-    if molecule::item_count(b) < molecule::item_count(a) {
-        return false;
-    }
-    lists::items_extend(a, b)
 }
 
 // Output 0, if present, has the expected lock and type, and no data where it is untyped.
@@ -86,20 +56,21 @@ fn is_funding_cell(lock: &[u8], udt: &[u8], peer: &[u8]) -> bool
     d.len() == 0
 }
 
-// No fewer data entries, and ours after 0 at their places.
-fn keeps_data(ours: &[u8], peer: &[u8]) -> bool
-    ensures { result ≡ kept_after_first (tx_at ours.now).outputs_data (tx_at peer.now).outputs_data }
+// Of a list of ours and the peer's: no fewer items, and those after 0 are as `extends` wants them.
+fn keeps_after_first<'a, F: Fn(&'a [u8], &'a [u8]) -> bool>(
+    ours: &'a [u8],
+    peer: &'a [u8],
+    extends: F,
+) -> bool
+    requires { F.IsAlwaysCallable extends }
+    ensures { (test : List ℕ → List ℕ → Bool) → ((x y : _) (r : Bool) → F.post extends x y r → r ≡ test x.now y.now) → result ≡ (leb (item_count ours.now) (item_count peer.now) && test ours.now peer.now) }
 {
-    let a = fields::outputs_data(ours);
-    let b = fields::outputs_data(peer);
-    if molecule::item_count(b) < molecule::item_count(a) {
-        return false;
-    }
-    lists::entries_extend(a, b)
+    molecule::item_count(ours) <= molecule::item_count(peer) && extends(ours, peer)
 }
 
 // Whether the peer keeps what is ours and has the expected funding cell as output 0; the refusal is 5. Tests that read one list stand together, and where
-// there is no transaction of ours no list is read: all of them have the one refusal, so their order can't be told.
+// there is no transaction of ours no list is read: all of them have the one refusal, so their order can't be told. A struct of the two scripts, which the caller
+// has apart, would be made for this call alone.
 pub fn keeps_ours(ours: &[u8], peer: &[u8], lock: &[u8], udt: &[u8]) -> bool
     ensures { check 5 result ≡ comparison lock.now udt.now (tx_at ours.now) (tx_at peer.now) }
 {
@@ -115,14 +86,22 @@ pub fn keeps_ours(ours: &[u8], peer: &[u8], lock: &[u8], udt: &[u8]) -> bool
     if !keeps_cell_deps(ours, peer) {
         return false;
     }
-    if !extends_header_deps(ours, peer) {
+    if !lists::fix_extends(fields::header_deps(ours), fields::header_deps(peer), 32) {
         return false;
     }
-    if !extends_inputs(ours, peer) {
+    if !lists::fix_extends(fields::inputs(ours), fields::inputs(peer), 44) {
         return false;
     }
-    if !keeps_outputs(ours, peer) {
+    if !keeps_after_first(
+        fields::outputs(ours),
+        fields::outputs(peer),
+        lists::items_extend,
+    ) {
         return false;
     }
-    keeps_data(ours, peer)
+    keeps_after_first(
+        fields::outputs_data(ours),
+        fields::outputs_data(peer),
+        lists::entries_extend,
+    )
 }

@@ -53,18 +53,12 @@ pub fn judge_against(
         return Err(Refusal::InvalidPeerFundingTx);
     }
     let brought = records::resolve(ours, peer, source, udt, records)?;
-    contribution::verify_peer_funding_contribution(
-        ours,
-        peer,
-        udt,
-        rate,
-        brought.capacity,
-        brought.token,
-    )
+    contribution::verify_peer_funding_contribution(ours, peer, udt, rate, brought)
 }
 
 // Judges the peer's transaction against ours (empty for none), under the expected funding lock, the expected token type (empty for none), our source lock
-// and a fee rate, over one record for each input that the peer added. Nothing that is lent is changed or copied.
+// and a fee rate, over one record for each input that the peer added. Nothing that is lent is changed or copied. The parameters are those of the C interface, which
+// lends each apart, here and in the functions that are this call without its first check and with its answer.
 pub fn update_for_peer(
     ours: &[u8],
     peer: &[u8],

@@ -1,7 +1,7 @@
 // Whether one list of items of one size holds all of another. What stands at its own place is seen there. For the others the items of the list are put into
 // chains by a digest of their bytes, and an item is looked for in its chain; where a peer has made many meet in one chain, an index (crate item_index) is made.
 // So of lists of up to 3,600 items the time goes by the bytes lent, and by n log n comparisons at most, whatever the bytes.
-#![tactic(auto)]
+#![tactic(auto, using(crate::proofs::Ways::ways))]
 
 ghost use Rattle.std.specs.Prelude.{◌≡◌, ◌<◌, ◌≤◌, true, length, MatchOption};
 ghost use Rattle.molecule.specs.Layout.{fix_items};
@@ -60,7 +60,7 @@ fn chain_of(x: &[u8]) -> usize
 }
 
 // What a chain says of an item.
-#[derive(Clone, Copy)]
+#[derive(Clone, Copy, Debug, PartialEq, Eq)]
 enum Chain {
     Met,
     Ended,

@@ -14,9 +14,6 @@ use Rattle.rules.specs.Outcome.{check}
 use Rattle.rules.specs.Judge.{limits}
 use Rattle.rules.proofs.Checks.{skip, fail, pass, last_is}
 
-pub added_none : (local remote : ℕ) → remote ≤ local → 0 ≡ remote - local
-added_none l r h = omega arith
-
 module _ (o p : List ℕ) {a b r : ℕ} where
   pub inputs-added : a ≡ fix_count (raw_field o 3) → b ≡ fix_count (raw_field p 3) → r ≡ b - a → r ≡ length (tx_at p).inputs - length (tx_at o).inputs
   inputs-added ea eb h = h ∙ ap₂ ◌-◌ (eb ∙ sym (span-length _ 0 _)) (ea ∙ sym (span-length _ 0 _))

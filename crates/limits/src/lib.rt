@@ -1,5 +1,5 @@
 // Complexity budgets for peer-supplied funding transactions: cheap checks that come before any record is looked at.
-#![tactic(auto)]
+#![tactic(auto, using(crate::proofs::Ways::ways))]
 
 ghost use Rattle.std.specs.Prelude.{◌≡◌, ◌+◌, ◌-◌, length};
 ghost use Rattle.transaction.specs.Tx.{tx_at};
@@ -27,39 +27,31 @@ pub fn serialized_size_in_block(tx: &[u8]) -> u64
     tx.len() as u64 + 4
 }
 
-// How many were added; fewer than before count as none.
-fn added(before: u32, after: u32) -> u32
-    ensures { result ≡ after - before }
-{
-    if after <= before {
-        return 0;
-    }
-    after - before
-}
-
-// How many inputs the peer added.
+// How many inputs the peer added; fewer than before count as none.
 pub fn added_inputs(ours: &[u8], peer: &[u8]) -> u32
     ensures { result ≡ length (tx_at peer.now).inputs - length (tx_at ours.now).inputs }
 {
     let before = fields::input_count(ours);
     let after = fields::input_count(peer);
-    added(before, after)
+    after.saturating_sub(before)
 }
 
+// The same for outputs.
 fn added_outputs(ours: &[u8], peer: &[u8]) -> u32
     ensures { result ≡ length (tx_at peer.now).outputs - length (tx_at ours.now).outputs }
 {
     let before = fields::output_count(ours);
     let after = fields::output_count(peer);
-    added(before, after)
+    after.saturating_sub(before)
 }
 
+// And for cell deps.
 fn added_cell_deps(ours: &[u8], peer: &[u8]) -> u32
     ensures { result ≡ length (tx_at peer.now).cell_deps - length (tx_at ours.now).cell_deps }
 {
     let before = fields::cell_dep_count(ours);
     let after = fields::cell_dep_count(peer);
-    added(before, after)
+    after.saturating_sub(before)
 }
 
 // Whether the peer's transaction keeps within the limits; the refusal is 4.

@@ -1,5 +1,5 @@
 // Lists compared item by item: the peer's list goes on from ours. (Whether it holds all of ours is for crate item_lookup to say.)
-#![tactic(auto)]
+#![tactic(auto, using(crate::proofs::Ways::ways))]
 
 ghost use Rattle.std.specs.Prelude.{◌≡◌, ℕ, ◌+◌, ◌<◌, ◌≤◌, List, length, take, drop};
 ghost use Rattle.molecule.specs.Layout.{span, fix_items, item_count, items_of, entries_of};

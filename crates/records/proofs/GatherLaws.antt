@@ -32,7 +32,7 @@ use Rattle.error.specs.Refusal.{number, values}
 use Rattle.rules.specs.Told.{refusal, told_by}
 use Rattle.accounts.specs.Paid.{and_cell}
 use Rattle.accounts.proofs.CapacityLaws.{Sums, sums-more, sums-end}
-use Rattle.records.specs.declared.Brought as records
+use Rattle.accounts.specs.declared.Brought as accounts
 use Rattle.records.specs.Resolved.{brought_by, gathered, or_unreadable}
 
 -- ---- the cells of records that are all live

@@ -23,7 +23,7 @@ use Rattle.rules.specs.Judge.{has_lock, live, live_cells, spent}
 use Rattle.rules.proofs.CellLaws.{records_yes, records_no}
 use Rattle.error.specs.declared.Refusal.{Refusal}
 use Rattle.error.specs.Refusal.{number, values}
-use Rattle.records.specs.declared.Brought as records
+use Rattle.accounts.specs.declared.Brought as accounts
 use Rattle.records.specs.Resolved.{brought, brought_by, brings, gathered, or_unreadable}
 
 pub our_lock_lem : (source x : List ℕ) {o l : List ℕ} {r : Bool} → o ≡ first_of x → l ≡ lock_of o → r ≡ eq_bytes source l → r ≡ has_lock source (record_cell x)
@@ -63,7 +63,7 @@ module _ (source type o p s : List ℕ) {n m : ℕ} (en : n ≡ item_count s) (e
       by true e = rw (records_yes s e, count-is false (ne_eqb n m h))
       by false e = rw (records_no s e)
 
-  pub brings-is : (c : Result records.Brought Refusal) {f : ℕ} → n ≡ m → f ≡ fix_count (raw_field o 3) → told_by brought_by c ≡ gathered source type f (read_records s)
+  pub brings-is : (c : Result accounts.Brought Refusal) {f : ℕ} → n ≡ m → f ≡ fix_count (raw_field o 3) → told_by brought_by c ≡ gathered source type f (read_records s)
       → told_by brought_by c ≡ brings source type (tx_at o) (tx_at p) (read_records s)
   unfolding brings gathered spent given ◌>>=◌ ◌>>◌ check check_with
   brings-is c {f} h ef k = k ∙ by (readable Records s) refl

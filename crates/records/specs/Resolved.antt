@@ -9,7 +9,7 @@ use Rattle.rules.specs.Cells.{Cell}
 use Rattle.rules.specs.Surplus.{total, capacity_of}
 use Rattle.rules.specs.Judge.{live, live_cells, spent, tally}
 use Rattle.rules.specs.Told.{refusal, told_by}
-use Rattle.records.specs.declared.Brought as records
+use Rattle.accounts.specs.declared.Brought as accounts
 
 -- the sum of capacities, and that of tokens, if there is one
 pub record Brought : Type 0 where
@@ -21,7 +21,7 @@ abbrev pub brought : List ℕ → List Cell → Brought
 brought type cells = record { capacity = total capacity_of cells; token = tally type 0 cells }
 
 -- the same in numbers
-abbrev pub brought_by : records.Brought → Brought
+abbrev pub brought_by : accounts.Brought → Brought
 brought_by b = record { capacity = shannon_count b.capacity; token = told_by token_count b.token }
 
 -- what the cells that the added inputs spend bring in

@@ -2,24 +2,18 @@
 #![tactic(auto, using(crate::proofs::Ways::ways))]
 
 ghost use Rattle.std.specs.Prelude.{◌≡◌, ◌+◌};
+ghost use Rattle.molecule.specs.Molecule.{readable};
+ghost use Rattle.transaction.specs.Ckb.{Record};
 ghost use Rattle.transaction.specs.Tx.{tx_at};
 ghost use Rattle.rules.specs.Cells.{read_records, record_cell};
 ghost use Rattle.rules.specs.Judge.{has_lock};
 ghost use Rattle.rules.specs.Told.{refusal, told_by};
 ghost use Rattle.records.specs.Resolved.{brought_by, or_unreadable, gathered, brings};
 
-use accounts::{capacity, token};
+use accounts::{Brought, capacity, token};
 use error::Refusal;
 use transaction::fields;
 use units::{Shannons, Tokens};
-
-// What all records bring in, live cells that are not ours.
-#[derive(Clone, Copy, Debug, PartialEq, Eq, Hash)]
-pub struct Brought {
-    pub capacity: Shannons,
-    /// The sum of the tokens, or why there is none. Untyped it means nothing, and nobody looks at it.
-    pub token: Result<Tokens, Refusal>,
-}
 
 // The cell of a record has our source lock.
 fn has_our_lock(source: &[u8], resolved: &[u8]) -> bool
@@ -28,6 +22,17 @@ fn has_our_lock(source: &[u8], resolved: &[u8]) -> bool
     let o = fields::record_output(resolved);
     let l = fields::lock(o);
     lists::same_script(source, l)
+}
+
+// Whether a record is readable, as `transaction::is_record` says, which has two callers and so is compiled into neither: by way of it 64 records take a third longer.
+// Compiled into the walk below, what was tested is known where the record is read.
+#[tactic(auto, using(molecule::proofs::HeaderLaws::pair_is))]
+fn is_record(s: &[u8]) -> bool
+    ensures { result ≡ readable Record s.now }
+{
+    molecule::has_items(s, 2)
+        && transaction::is_output(molecule::field(s, 2, 0))
+        && molecule::is_bytes(molecule::field(s, 2, 1))
 }
 
 // Why a record is refused, unless one of them is unreadable.
@@ -62,7 +67,7 @@ fn gather(source: &[u8], udt: &[u8], first: u32, records: &[u8]) -> Result<Broug
         if x.is_empty() {
             return Err(unless_unreadable(records, Refusal::InvalidPeerFundingTx));
         }
-        if !transaction::is_record(x) {
+        if !is_record(x) {
             return Err(Refusal::LentBytesUnreadable);
         }
         if has_our_lock(source, x) {

@@ -7,9 +7,9 @@ use Rattle.contribution.proofs.contribution.Goals as goal
 pub returns-in_err-growth : goal.returns-in_err-growth
 unfolding contributed ◌>>=◌
 returns-in_err-growth c =
-    grind (arith, common_steps, c.funding_output_delta.ensures c.args.ours.now c.args.peer.now c.outputs-before.ensures.result_value c.outputs_data-entries_before.ensures.result_value c.outputs-after.ensures.result_value c.outputs_data-entries.ensures.result_value)
+    grind (arith, common_steps)
 
 pub returns : goal.returns
 unfolding contributed ◌>>=◌
 returns c =
-    grind (arith, common_steps, c.funding_output_delta.ensures c.args.ours.now c.args.peer.now c.outputs-before.ensures.result_value c.outputs_data-entries_before.ensures.result_value c.outputs-after.ensures.result_value c.outputs_data-entries.ensures.result_value)
+    grind (arith, common_steps)

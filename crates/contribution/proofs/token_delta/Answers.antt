@@ -9,12 +9,12 @@ use Rattle.contribution.proofs.token_delta.Goals as goal
 
 pub returns-in_err-a : goal.returns-in_err-a
 unfolding token_delta first_amount check check_with ◌>>◌ number values
-returns-in_err-a c ours peer e f g h = grind (arith, common_steps, c.first_amount.ensures ours e f)
+returns-in_err-a c = grind (arith, common_steps)
 
 pub returns-in_err-b : goal.returns-in_err-b
 unfolding token_delta first_amount check check_with ◌>>◌ number values
-returns-in_err-b c ours peer e f g h = grind (arith, common_steps, c.first_amount.ensures ours e f, c.first_amount-2.ensures peer g h)
+returns-in_err-b c = grind (arith, common_steps)
 
 pub returns : goal.returns
 unfolding token_delta first_amount check check_with ◌>>◌ number values difference
-returns c ours peer e f g h = grind (arith, common_steps, c.first_amount.ensures ours e f, c.first_amount-2.ensures peer g h)
+returns c = grind (arith, common_steps)

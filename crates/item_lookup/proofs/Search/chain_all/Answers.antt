@@ -1,8 +1,0 @@
-use Rattle.item_lookup.proofs.Ways.{ways}
-use Rattle.item_lookup.proofs.Search.chain_all.Goals as goal
-
-pub returns-then-not-scan_item : goal.returns-then-not-scan_item
-returns-then-not-scan_item c = search ways
-
-pub returns : goal.returns
-returns c = search ways
