@@ -2,7 +2,7 @@
 use borrow.Author.Rules.{rules}
 use Rattle.transaction.proofs.ListLaws.{option-none, option-some}
 use Rattle.funding_builder.proofs.CheckLaws.{optional_dep, supplied-none, supplied-some, picked_none, picked-some}
-use Rattle.funding_builder.proofs.AssembleLaws.{over-deps, assembled, read_lists, choice_is, count-is, room-few, room_most}
+use Rattle.funding_builder.proofs.AssembleLaws.{over-deps, assembled, room-few, room_most}
 use Rattle.funding_builder.proofs.BuildLaws.{base_readable}
 
-pub ruleset ways = (rules, option-none, option-some, optional_dep, supplied-none, supplied-some, picked_none, picked-some, over-deps, assembled, read_lists, choice_is, count-is, room-few, room_most, base_readable)
+pub ruleset ways = (rules, option-none, option-some, optional_dep, supplied-none, supplied-some, picked_none, picked-some, over-deps, assembled, room-few, room_most, base_readable)
