@@ -37,6 +37,7 @@ fn if_picked(taken: usize, deps: &[u8]) -> &[u8]
 }
 
 // The capacity of the change output, 0 where no change is left.
+#[tactic(auto, using(crate::proofs::CheckLaws::no_change, crate::proofs::CheckLaws::some_change), unfolding(units::specs::Fee::change_capacity))]
 fn change_capacity(change: Tokens, source: &[u8], udt: &[u8]) -> Shannons
     requires { (readable Script source.now ≡ true) × (readable (option Script) udt.now ≡ true) }
     ensures { shannon_count result ≡ change_capacity (token_count change) source.now udt.now }
