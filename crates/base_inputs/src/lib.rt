@@ -1,7 +1,7 @@
 // Writes the inputs of a base transaction into a lent buffer: the present ones as they stand, then one for each picked cell, with since 0. How long they
 // are is 133,117 for all that is longer than a transaction may be. Where they do not fit nothing is written, and the place that is answered is the one
 // that was given.
-#![tactic(auto)]
+#![tactic(auto, using(crate::proofs::Ways::ways))]
 
 ghost use Rattle.std.specs.Prelude.{◌≡◌, ◌+◌, ◌≤◌, min, length};
 ghost use mathlib.Core.List.{flatten};

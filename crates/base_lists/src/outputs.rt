@@ -8,7 +8,7 @@ ghost use Rattle.base_lists.specs.BaseLists.{output_list};
 ghost use Rattle.base_lists.specs.Parts.{outputs_bytes};
 
 use cell_output::output_head;
-use list_writer::{Later, capped, list_size, put_list};
+use list_writer::{Later, Lengths, Parts, capped};
 use units::Shannons;
 
 // How long a cell's output is.
@@ -46,11 +46,12 @@ impl Outputs<'_> {
     pub fn len(self) -> usize
         ensures { (n : ℕ) → result ≡ min (length (join (output_list n self.entry.lock.now self.entry.udt.now self.entry.present.list.now self.entry.present.count (shannon_count self.entry.change) self.entry.source.now))) 133117 }
     {
-        list_size(
-            cell_len(self.lock, self.udt),
-            self.present,
-            self.change_len(),
-        )
+        let lengths = Lengths {
+            first: cell_len(self.lock, self.udt),
+            items: self.present,
+            last: self.change_len(),
+        };
+        lengths.total()
     }
 
     // Puts them.
@@ -61,15 +62,19 @@ impl Outputs<'_> {
         let head = output_head(self.capacity, self.lock.len(), self.udt.len());
         let cell = [&head, self.lock, self.udt];
         if self.change == Shannons::ZERO {
-            return put_list(out, at, &cell, self.present, &[]);
+            let list = Parts {
+                first: &cell,
+                items: self.present,
+                last: &[],
+            };
+            return list.put(out, at);
         }
         let tail = output_head(self.change, self.source.len(), self.udt.len());
-        put_list(
-            out,
-            at,
-            &cell,
-            self.present,
-            &[&tail, self.source, self.udt],
-        )
+        let list = Parts {
+            first: &cell,
+            items: self.present,
+            last: &[&tail, self.source, self.udt],
+        };
+        list.put(out, at)
     }
 }

@@ -7,7 +7,7 @@ ghost use Rattle.list_writer.specs.Around.{around};
 ghost use Rattle.base_lists.specs.BaseLists.{amount_item, data_list};
 ghost use Rattle.base_lists.specs.Parts.{data_bytes};
 
-use list_writer::{Later, list_size, put_list};
+use list_writer::{Later, Lengths, Parts};
 use units::Tokens;
 
 // An amount as a cell's data: a length of 16, and so many bytes.
@@ -49,7 +49,12 @@ impl OutputsData<'_> {
     pub fn len(self) -> usize
         ensures { (tokens : ℕ) → result ≡ min (length (join (data_list (is_some self.entry.tokens) tokens self.entry.present.list.now self.entry.present.count (token_count self.entry.change)))) 133117 }
     {
-        list_size(self.first_len(), self.present, self.change_len())
+        let lengths = Lengths {
+            first: self.first_len(),
+            items: self.present,
+            last: self.change_len(),
+        };
+        lengths.total()
     }
 
     // Puts the list behind its first item.
@@ -58,15 +63,19 @@ impl OutputsData<'_> {
         ensures value { result ≡ put_list_end out.old at (around first.now self.entry.present.list.now self.entry.present.count (if_positive (token_count self.entry.change) (amount_item (token_count self.entry.change)))) }
     {
         if self.change == Tokens::ZERO {
-            return put_list(out, at, &[first], self.present, &[]);
+            let list = Parts {
+                first: &[first],
+                items: self.present,
+                last: &[],
+            };
+            return list.put(out, at);
         }
-        put_list(
-            out,
-            at,
-            &[first],
-            self.present,
-            &[&amount_item(self.change)],
-        )
+        let list = Parts {
+            first: &[first],
+            items: self.present,
+            last: &[&amount_item(self.change)],
+        };
+        list.put(out, at)
     }
 
     // Puts the list.

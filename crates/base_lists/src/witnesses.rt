@@ -4,7 +4,7 @@ ghost use Rattle.list_writer.specs.ListWriter.{put_list, put_list_end};
 ghost use Rattle.base_lists.specs.BaseLists.{placeholder};
 ghost use Rattle.base_lists.specs.Parts.{witness_bytes, between};
 
-use list_writer::{Later, list_size, put_list};
+use list_writer::{Later, Lengths, Parts};
 
 // Six numbers (how long the witness args are, their size, three offsets, how long the lock is), and 65 zero bytes.
 const PLACEHOLDER: [u8; 89] = [
@@ -43,16 +43,24 @@ impl Witnesses {
     pub fn len(self) -> usize
         ensures { result ≡ min (length (witness_bytes self)) 133117 }
     {
+        let list = &[];
         match self.between() {
-            None => list_size(
-                89,
-                Later {
-                    list: &[],
-                    count: 0,
-                },
-                0,
-            ),
-            Some(count) => list_size(89, Later { list: &[], count }, 89),
+            None => {
+                let lengths = Lengths {
+                    first: 89,
+                    items: Later { list, count: 0 },
+                    last: 0,
+                };
+                lengths.total()
+            }
+            Some(count) => {
+                let lengths = Lengths {
+                    first: 89,
+                    items: Later { list, count },
+                    last: 89,
+                };
+                lengths.total()
+            }
         }
     }
 
@@ -62,18 +70,24 @@ impl Witnesses {
         ensures value { result ≡ put_list_end out.old at (witness_bytes self) }
     {
         let mark = placeholder();
+        let list = &[];
         match self.between() {
-            None => put_list(
-                out,
-                at,
-                &[&mark],
-                Later {
-                    list: &[],
-                    count: 0,
-                },
-                &[],
-            ),
-            Some(count) => put_list(out, at, &[&mark], Later { list: &[], count }, &[&mark]),
+            None => {
+                let parts = Parts {
+                    first: &[&mark],
+                    items: Later { list, count: 0 },
+                    last: &[],
+                };
+                parts.put(out, at)
+            }
+            Some(count) => {
+                let parts = Parts {
+                    first: &[&mark],
+                    items: Later { list, count },
+                    last: &[&mark],
+                };
+                parts.put(out, at)
+            }
         }
     }
 }

@@ -68,7 +68,7 @@ data_made b ek ee er = rw (er, ee, ek, tokens-made)
 -- ---- the sizes
 
 pub sized : (b : Base) {d h i o a w : ℕ} {headers : List ℕ} {x : Inputs} {y : Outputs} {z : OutputsData} {v : Witnesses}
-    → d ≡ min (length (fix_list (deps_at b.present.deps.now b.udt_deps.now b.lock_dep.now b.extra_deps.now b.chosen.now))) 133117
+    → d ≡ min (length (fix_list (deps_at b.deps.present.now b.deps.udt.now b.deps.lock.now b.deps.extra.now b.chosen.now))) 133117
     → headers ≡ or_empty b.present.headers.now → h ≡ min (length headers) 133117
     → x ≡ inputs_in b → i ≡ min (length (inputs_bytes x)) 133117
     → y ≡ outputs_in b → ((n : ℕ) → o ≡ min (length (join (output_list n y.lock.now y.udt.now y.present.list.now y.present.count (shannon_count y.change) y.source.now))) 133117)

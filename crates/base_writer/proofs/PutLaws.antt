@@ -90,8 +90,8 @@ put_last x h e₁ f₁ e₂ f₂ e₃ f₃ =
 module _ (b : Base) where
   pub put_front : {z : Sizes} {out o₁ o₂ o₃ o₄ headers : List ℕ} {n₁ n₂ n₃ n₄ : ℕ} {i : Inputs} → Fitting z (lists_in b) out
       → o₁ ≡ put_head out b.present.version z.deps z.headers z.inputs z.outputs z.datas z.witnesses → n₁ ≡ head_end out z.deps z.headers z.inputs z.outputs z.datas z.witnesses
-      → o₂ ≡ put_list o₁ n₁ (fix_list (deps_at b.present.deps.now b.udt_deps.now b.lock_dep.now b.extra_deps.now b.chosen.now))
-      → n₂ ≡ put_list_end o₁ n₁ (fix_list (deps_at b.present.deps.now b.udt_deps.now b.lock_dep.now b.extra_deps.now b.chosen.now))
+      → o₂ ≡ put_list o₁ n₁ (fix_list (deps_at b.deps.present.now b.deps.udt.now b.deps.lock.now b.deps.extra.now b.chosen.now))
+      → n₂ ≡ put_list_end o₁ n₁ (fix_list (deps_at b.deps.present.now b.deps.udt.now b.deps.lock.now b.deps.extra.now b.chosen.now))
       → headers ≡ or_empty b.present.headers.now → o₃ ≡ put_at o₂ n₂ headers → n₃ ≡ put_end o₂ n₂ headers
       → i ≡ inputs_in b → o₄ ≡ put_list o₃ n₃ (inputs_bytes i) → n₄ ≡ put_list_end o₃ n₃ (inputs_bytes i)
       → Put out 0 (front b.present.version z (lists_in b)) o₄ n₄

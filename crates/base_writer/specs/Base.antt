@@ -9,8 +9,8 @@ use Rattle.base_writer.specs.Lists.{Lists, present_of, beside_of, lists_of}
 
 abbrev pub lists_in : Base → Lists
 lists_in b =
-    lists_of (present_of b.present.deps.now b.present.headers.now b.present.inputs.now b.present.outputs.now b.present.datas.now)
-    (beside_of b.lock.now b.udt.now b.source.now b.cells.now b.udt_deps.now b.lock_dep.now b.extra_deps.now) b.chosen.now b.plan
+    lists_of (present_of b.deps.present.now b.present.headers.now b.present.inputs.now b.present.outputs.now b.present.datas.now)
+    (beside_of b.lock.now b.udt.now b.source.now b.cells.now b.deps.udt.now b.deps.lock.now b.deps.extra.now) b.chosen.now b.plan
 
 abbrev pub inputs_in : Base → Inputs
 inputs_in b = record { present = b.present.inputs; cells = b.cells; taken = b.plan.taken }

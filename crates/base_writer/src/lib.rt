@@ -11,6 +11,7 @@ ghost use Rattle.base_writer.specs.Base.{lists_in, inputs_in, outputs_in, data_i
 
 use base_inputs::Inputs;
 use base_lists::{Outputs, OutputsData, Witnesses};
+use cell_deps::DepLists;
 use error::Refusal;
 use list_writer::{Later, MAX_BYTES};
 use molecule::write;
@@ -19,7 +20,7 @@ use units::{Shannons, Tokens};
 
 // The figures of a base transaction: the funding cell's, how many token cells are taken, what change is left of them, and the capacity of its
 // output, 0 where there is none.
-#[derive(Clone, Copy)]
+#[derive(Clone, Copy, Debug, PartialEq, Eq, Hash)]
 pub struct Plan {
     pub capacity: Shannons,
     pub token: Tokens,
@@ -28,8 +29,8 @@ pub struct Plan {
     pub change_capacity: Shannons,
 }
 
-// What a base transaction is made from: the fields of the present one, of which the version and all lists but the witnesses count; what is lent beside
-// it; the places of its cell deps in the four lists of them; and the figures.
+// What a base transaction is made from: the fields of the present one, of which the version and all lists but the cell deps and the witnesses count; what
+// is lent beside it; the four lists of cell deps, and the places of those that are chosen; and the figures.
 #[derive(Clone, Copy)]
 pub struct Base<'a> {
     pub present: TxFields<'a>,
@@ -37,9 +38,7 @@ pub struct Base<'a> {
     pub udt: &'a [u8],
     pub source: &'a [u8],
     pub cells: &'a [u8],
-    pub udt_deps: &'a [u8],
-    pub lock_dep: &'a [u8],
-    pub extra_deps: &'a [u8],
+    pub deps: DepLists<'a>,
     pub chosen: &'a [usize],
     pub plan: Plan,
 }
@@ -88,6 +87,7 @@ impl<'a> Base<'a> {
     }
 
     // The outputs' data: an entry for each output.
+    #[tactic(auto, using(crate::proofs::ListLaws::data_made))]
     fn datas(&self) -> OutputsData<'a>
         ensures { result ≡ data_in self.now }
     {
@@ -117,13 +117,7 @@ impl<'a> Base<'a> {
         ensures { Capped result (lists_in self.now) }
     {
         Sizes {
-            deps: cell_deps::deps_size(
-                self.present.deps,
-                self.udt_deps,
-                self.lock_dep,
-                self.extra_deps,
-                self.chosen,
-            ),
+            deps: self.deps.deps_size(self.chosen),
             headers: or_empty(self.present.headers).len().min(MAX_BYTES + 1),
             inputs: self.inputs().len(),
             outputs: self.outputs().len(),
@@ -138,15 +132,7 @@ impl<'a> Base<'a> {
         ensures { Put out.old 0 (front self.now.present.version z (lists_in self.now)) out.new result }
     {
         let at = transaction_writer::put_head(out, self.present.version, z);
-        let at = cell_deps::put_deps(
-            out,
-            at,
-            self.present.deps,
-            self.udt_deps,
-            self.lock_dep,
-            self.extra_deps,
-            self.chosen,
-        );
+        let at = self.deps.put_deps(out, at, self.chosen);
         let at = write::put(out, at, or_empty(self.present.headers));
         self.inputs().put(out, at)
     }
@@ -162,6 +148,7 @@ impl<'a> Base<'a> {
     }
 
     // Puts the transaction, whose lists have the sizes z, at the start of out.
+    #[tactic(auto, using(crate::proofs::PutLaws::back_fits))]
     fn put(&self, out: &mut [u8], z: Sizes) -> usize
         requires { Fitting z (lists_in self.now) out.old }
         ensures { Put out.old 0 (bytes_of self.now.present.version (lists_in self.now)) out.new result }
@@ -171,6 +158,7 @@ impl<'a> Base<'a> {
     }
 
     // Writes the transaction to the start of out. Refused with 13, and out as it was, where it is over out or over 133,116 bytes.
+    #[tactic(auto, using(crate::proofs::AnswerLaws::base_refused, crate::proofs::AnswerLaws::base_fits))]
     pub fn write(&self, out: &mut [u8]) -> Written
         ensures { (told result, out.new) ≡ written (fine (bytes_of self.now.present.version (lists_in self.now))) out.old }
     {

@@ -1,4 +1,4 @@
--- A dep by its place in the four lists: one law for each way out of the functions that look, and the four lists as one.
+-- A dep by its place in the four lists, and the four lists as one.
 use mathlib.Core.Path.{◌≡◌, refl, sym, ap, ap₂, ◌∙◌}
 use Prim.Native.Nat.{ℕ, zero, suc, ◌+◌, ◌-◌, ◌≤◌, ◌<◌}
 use mathlib.Core.List.{List, [], ◌∷◌, ◌++◌, map, append_assoc}
@@ -30,41 +30,6 @@ module _ (m : ℕ) (f g : ℕ → List ℕ) (i : ℕ) where
   pub before_past : m ≤ i → before m f g i ≡ g (i - m)
   unfolding before
   before_past h = rw (le-ltb i m h)
-
--- a list of sized items before others
-module _ (a : List ℕ) (g : ℕ → List ℕ) (i : ℕ) {n : ℕ} {x : List ℕ} (e : n ≡ fix_count a) where
-  item_in_lem : i < n → x ≡ fix_item a 37 i → x ≡ before (fix_count a) (fix_item a 37) g i
-  item_in_lem h q = q ∙ sym (before_in (fix_count a) (fix_item a 37) g i (rw e at h))
-
-  item_past : n ≤ i → x ≡ g (i - n) → x ≡ before (fix_count a) (fix_item a 37) g i
-  item_past h q = q ∙ ap (λ (k : ℕ). g (i - k)) e ∙ sym (before_past (fix_count a) (fix_item a 37) g i (rw e at h))
-
-module _ (c d : List ℕ) (i : ℕ) {n : ℕ} (e : n ≡ any_count c) where
-  pub last_lock : i < n → c ≡ last_dep_at c d i
-  unfolding last_dep_at
-  last_lock h = sym (before_in (any_count c) (λ _. c) (fix_item d 37) i (rw e at h))
-
-  pub last_extra : {x : List ℕ} → n ≤ i → x ≡ fix_item d 37 (i - n) → x ≡ last_dep_at c d i
-  unfolding last_dep_at
-  last_extra h q = q ∙ ap (λ (k : ℕ). fix_item d 37 (i - k)) e ∙ sym (before_past (any_count c) (λ _. c) (fix_item d 37) i (rw e at h))
-
-module _ (b c d : List ℕ) (i : ℕ) {n : ℕ} {x : List ℕ} (e : n ≡ fix_count b) where
-  pub own_token : i < n → x ≡ fix_item b 37 i → x ≡ own_dep_at b c d i
-  unfolding own_dep_at
-  own_token = item_in_lem b (last_dep_at c d) i e
-
-  pub own_last : n ≤ i → x ≡ last_dep_at c d (i - n) → x ≡ own_dep_at b c d i
-  unfolding own_dep_at
-  own_last = item_past b (last_dep_at c d) i e
-
-module _ (a b c d : List ℕ) (i : ℕ) {n : ℕ} {x : List ℕ} (e : n ≡ fix_count a) where
-  pub dep-present : i < n → x ≡ fix_item a 37 i → x ≡ dep_at a b c d i
-  unfolding dep_at
-  dep-present = item_in_lem a (own_dep_at b c d) i e
-
-  pub dep_own : n ≤ i → x ≡ own_dep_at b c d (i - n) → x ≡ dep_at a b c d i
-  unfolding dep_at
-  dep_own = item_past a (own_dep_at b c d) i e
 
 pub count_all : (a b c d : List ℕ) {m n k l : ℕ} → m ≡ fix_count a → n ≡ fix_count b → l ≡ fix_count d → k ≡ any_count c → m + n + k + l ≡ dep_count a b c d
 count_all a b c d em en el ek = rw (← em, ← en, ← el, ← ek) (omega arith)

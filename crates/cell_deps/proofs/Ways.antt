@@ -2,7 +2,7 @@
 use borrow.Author.Rules.{rules}
 use Rattle.list_writer.proofs.LoopLaws.{size_none}
 use Rattle.list_writer.proofs.AnswerLaws.{list_out, list_out-end}
-use Rattle.cell_deps.proofs.DepLaws.{any_none, any_one, last_lock, last_extra, own_token, own_last, dep-present, dep_own, count_all}
+use Rattle.cell_deps.proofs.DepLaws.{any_none, any_one, count_all}
 use Rattle.cell_deps.proofs.PutLaws.{deps-size, deps-start, deps-end, size-dep, put_dep, deps-room, deps_put, deps_put_end}
 
-pub ruleset ways = (rules, any_none, any_one, last_lock, last_extra, own_token, own_last, dep-present, dep_own, count_all, size_none, list_out, list_out-end, deps-size, deps-start, deps-end, size-dep, put_dep, deps-room, deps_put, deps_put_end)
+pub ruleset ways = (rules, any_none, any_one, count_all, size_none, list_out, list_out-end, deps-size, deps-start, deps-end, size-dep, put_dep, deps-room, deps_put, deps_put_end)

@@ -1,12 +1,12 @@
 // The cell deps of a base transaction: of four lists, one after the other, each dep where it first stands.
-#![tactic(auto)]
+#![tactic(auto, using(crate::proofs::Ways::ways))]
 
 ghost use Rattle.std.specs.Prelude.{◌≡◌, ◌+◌, ◌≤◌, min, length};
 ghost use mathlib.Core.List.{flatten};
 ghost use Rattle.molecule.specs.Write.{Put};
 ghost use Rattle.list_writer.specs.ListWriter.{fix_list, put_list, put_list_end};
-ghost use Rattle.cell_deps.specs.CellDeps.{any_count, dep_at, dep_count, deps_at};
-ghost use Rattle.cell_deps.specs.DepLists.{last_dep_of, own_dep_of, dep_of, count_of, chosen_of};
+ghost use Rattle.cell_deps.specs.CellDeps.{any_count};
+ghost use Rattle.cell_deps.specs.DepLists.{dep_of, count_of, chosen_of};
 
 use molecule::write;
 
@@ -31,37 +31,21 @@ pub struct DepLists<'a> {
 }
 
 impl<'a> DepLists<'a> {
-    // The dep at a place among the lock's and the extra ones.
-    fn last_dep_at(self, i: usize) -> &'a [u8]
-        ensures { result.now ≡ last_dep_of self.entry i }
-    {
-        let n = any_count(self.lock);
-        if i < n {
-            return self.lock;
-        }
-        molecule::fix_item(self.extra, CELL_DEP_BYTES, i - n)
-    }
-
-    // The same with the token's before them.
-    fn own_dep_at(self, i: usize) -> &'a [u8]
-        ensures { result.now ≡ own_dep_of self.entry i }
-    {
-        let n = molecule::fix_count(self.udt) as usize;
-        if i < n {
-            return molecule::fix_item(self.udt, CELL_DEP_BYTES, i);
-        }
-        self.last_dep_at(i - n)
-    }
-
     // The dep at a place.
+    #[tactic(auto, using(std::proofs::lemmas::Bool::Decides::nat_tests), unfolding(crate::specs::CellDeps::before, crate::specs::CellDeps::dep_at, crate::specs::CellDeps::own_dep_at, crate::specs::CellDeps::last_dep_at))]
     pub fn dep_at(self, i: usize) -> &'a [u8]
         ensures { result.now ≡ dep_of self.entry i }
     {
-        let n = molecule::fix_count(self.present) as usize;
-        if i < n {
+        let Some(i) = i.checked_sub(molecule::fix_count(self.present) as usize) else {
             return molecule::fix_item(self.present, CELL_DEP_BYTES, i);
-        }
-        self.own_dep_at(i - n)
+        };
+        let Some(i) = i.checked_sub(molecule::fix_count(self.udt) as usize) else {
+            return molecule::fix_item(self.udt, CELL_DEP_BYTES, i);
+        };
+        let Some(i) = i.checked_sub(any_count(self.lock)) else {
+            return self.lock;
+        };
+        molecule::fix_item(self.extra, CELL_DEP_BYTES, i)
     }
 
     // How many deps the four lists have.
@@ -110,75 +94,4 @@ impl<'a> DepLists<'a> {
         let at = write::put_u32(out, at, n as u32);
         self.put_places(out, at, chosen)
     }
-}
-
-// ---- the same of four lists
-
-pub fn dep_at<'a>(
-    present: &'a [u8],
-    udt: &'a [u8],
-    lock: &'a [u8],
-    extra: &'a [u8],
-    i: usize,
-) -> &'a [u8]
-    ensures { result.now ≡ dep_at present.now udt.now lock.now extra.now i }
-{
-    let lists = DepLists {
-        present,
-        udt,
-        lock,
-        extra,
-    };
-    lists.dep_at(i)
-}
-
-pub fn dep_count<'a>(present: &'a [u8], udt: &'a [u8], lock: &'a [u8], extra: &'a [u8]) -> usize
-    ensures { result ≡ dep_count present.now udt.now lock.now extra.now }
-{
-    let lists = DepLists {
-        present,
-        udt,
-        lock,
-        extra,
-    };
-    lists.dep_count()
-}
-
-pub fn deps_size<'a>(
-    present: &'a [u8],
-    udt: &'a [u8],
-    lock: &'a [u8],
-    extra: &'a [u8],
-    chosen: &[usize],
-) -> usize
-    ensures { result ≡ min (length (fix_list (deps_at present.now udt.now lock.now extra.now chosen.now))) 133117 }
-{
-    let lists = DepLists {
-        present,
-        udt,
-        lock,
-        extra,
-    };
-    lists.deps_size(chosen)
-}
-
-pub fn put_deps<'a>(
-    out: &mut [u8],
-    at: usize,
-    present: &'a [u8],
-    udt: &'a [u8],
-    lock: &'a [u8],
-    extra: &'a [u8],
-    chosen: &[usize],
-) -> usize
-    ensures out_after { out.new ≡ put_list out.old at (fix_list (deps_at present.now udt.now lock.now extra.now chosen.now)) }
-    ensures value { result ≡ put_list_end out.old at (fix_list (deps_at present.now udt.now lock.now extra.now chosen.now)) }
-{
-    let lists = DepLists {
-        present,
-        udt,
-        lock,
-        extra,
-    };
-    lists.put_deps(out, at, chosen)
 }

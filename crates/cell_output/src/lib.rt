@@ -1,5 +1,5 @@
 // Writes an output: the table of its capacity, its lock, and its type or nothing.
-#![tactic(auto)]
+#![tactic(auto, using(crate::proofs::Ways::ways))]
 
 ghost use Rattle.std.specs.Prelude.{◌≡◌, ◌+◌, nat_le};
 ghost use Rattle.units.specs.Units.{shannon_count};

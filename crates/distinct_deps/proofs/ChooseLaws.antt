@@ -183,7 +183,7 @@ module _ (a b c d : List ℕ) where
               rest = one_less ∙ ap (λ (ds : List (List ℕ)). push_all ds (span (dep_at a b c d) (i + 1) (n - (i + 1)))) q;
             }
 
-        pub choose_full : min l m ≤ count → R ≡ cell_deps a b c d → Chooses a b c d (min l m) p (min l m + 1)
+        pub choose_full : min l m ≤ count → R ≡ cell_deps a b c d → min l m < length (cell_deps a b c d)
         choose_full u e =
             let v = k.most in
             let q : cell_deps a b c d ≡ push_all (deps ++ (y ∷ [])) (span (dep_at a b c d) (i + 1) (n - (i + 1)))
@@ -192,4 +192,4 @@ module _ (a b c d : List ℕ) where
             let f = ap length q in
             let w = length-append deps (y ∷ []) in
             let z = deps-long in
-            record { number = omega arith; chosen = λ x. absurd (omega arith) }
+            omega arith

@@ -138,13 +138,14 @@ module _ (c d x : List ℕ) (i : ℕ) {n : ℕ} (en : n ≡ any_count c) where
     unfolding last_dep_at
     last_lock_again = old_past (any_count c) (λ _. c) (fix_item d 37) i x (rw en at h) er
 
-    pub last_extra_new : r ≡ false → i < any_count c + fix_count d → x ≡ last_dep_at c d i → {q : Bool} → q ≡ eqb (place_in x (span (fix_item d 37) 0 (fix_count d))) (i - n)
-        → q ≡ not (contains x (span (last_dep_at c d) 0 i))
+    pub last_extra_new : r ≡ false → i < any_count c + fix_count d → x ≡ last_dep_at c d i → {j : ℕ} {q : Bool} → j ≡ i - n
+        → q ≡ eqb (place_in x (span (fix_item d 37) 0 (fix_count d))) j → q ≡ not (contains x (span (last_dep_at c d) 0 i))
     unfolding last_dep_at
-    last_extra_new t l ex eq =
+    last_extra_new t l ex ej eq =
         let u : i - n < fix_count d = omega arith in
         new_past (any_count c) (λ _. c) (fix_item d 37) i x (rw en at h) er t
         (eq
+        ∙ ap (eqb (place_in x (span (fix_item d 37) 0 (fix_count d)))) ej
         ∙ ap (λ (v : ℕ). eqb v (i - n)) (sym (plus_none (place_in x (span (fix_item d 37) 0 (fix_count d)))))
         ∙ first-place x (fix_item d 37) 0 (fix_count d) (i - n) (omega arith) (omega arith) (ex ∙ before_past (any_count c) (λ _. c) (fix_item d 37) i (rw en at h) ∙ ap (λ (v : ℕ). fix_item d 37 (i - v)) (sym en))
         ∙ ap₂ (λ (v w : ℕ). not (contains x (span (fix_item d 37) v w))) refl (less_none (i - n) ∙ ap (λ (v : ℕ). i - v) en))
@@ -165,13 +166,13 @@ module _ (b c d x : List ℕ) (i : ℕ) {n : ℕ} (en : n ≡ fix_count b) where
     unfolding own_dep_at
     own_again = listed_old b (last_dep_at c d) en i x h er
 
-    pub own_past : r ≡ false → {q : Bool} → q ≡ not (contains x (span (last_dep_at c d) 0 (i - n))) → q ≡ not (contains x (span (own_dep_at b c d) 0 i))
+    pub own_past : r ≡ false → {j : ℕ} {q : Bool} → j ≡ i - n → q ≡ not (contains x (span (last_dep_at c d) 0 j)) → q ≡ not (contains x (span (own_dep_at b c d) 0 i))
     unfolding own_dep_at
-    own_past = listed_past b (last_dep_at c d) en i x h er
+    own_past t ej eq = listed_past b (last_dep_at c d) en i x h er t (rw ej at eq)
 
-pub own_rest : (b c d : List ℕ) (i : ℕ) {n : ℕ} {x : List ℕ} → n ≡ fix_count b → n ≤ i → x ≡ own_dep_at b c d i → x ≡ last_dep_at c d (i - n)
+pub own_rest : (b c d : List ℕ) (i : ℕ) {n j : ℕ} {x : List ℕ} → n ≡ fix_count b → n ≤ i → j ≡ i - n → x ≡ own_dep_at b c d i → x ≡ last_dep_at c d j
 unfolding own_dep_at
-own_rest b c d i en h e = e ∙ before_past (fix_count b) (fix_item b 37) (last_dep_at c d) i (rw en at h) ∙ ap (λ (v : ℕ). last_dep_at c d (i - v)) (sym en)
+own_rest b c d i en h ej e = rw ej (e ∙ before_past (fix_count b) (fix_item b 37) (last_dep_at c d) i (rw en at h) ∙ ap (λ (v : ℕ). last_dep_at c d (i - v)) (sym en))
 
 module _ (a b c d : List ℕ) (i : ℕ) {x : List ℕ} (ex : x ≡ dep_at a b c d i) {n : ℕ} (en : n ≡ fix_count a) where
   to_dep : {q : Bool} → q ≡ not (contains x (span (dep_at a b c d) 0 i)) → q ≡ not (contains (dep_at a b c d i) (span (dep_at a b c d) 0 i))
@@ -186,13 +187,13 @@ module _ (a b c d : List ℕ) (i : ℕ) {x : List ℕ} (ex : x ≡ dep_at a b c 
     unfolding dep_at
     dep_again t = to_dep (listed_old a (own_dep_at b c d) en i x h er t)
 
-    pub dep_past : r ≡ false → {q : Bool} → q ≡ not (contains x (span (own_dep_at b c d) 0 (i - n))) → q ≡ not (contains (dep_at a b c d i) (span (dep_at a b c d) 0 i))
+    pub dep_past : r ≡ false → {j : ℕ} {q : Bool} → j ≡ i - n → q ≡ not (contains x (span (own_dep_at b c d) 0 j)) → q ≡ not (contains (dep_at a b c d i) (span (dep_at a b c d) 0 i))
     unfolding dep_at
-    dep_past t e = to_dep (listed_past a (own_dep_at b c d) en i x h er t e)
+    dep_past t ej e = to_dep (listed_past a (own_dep_at b c d) en i x h er t (rw ej at e))
 
-pub dep-rest : (a b c d : List ℕ) (i : ℕ) {n : ℕ} {x : List ℕ} → n ≡ fix_count a → n ≤ i → x ≡ dep_at a b c d i → x ≡ own_dep_at b c d (i - n)
+pub dep-rest : (a b c d : List ℕ) (i : ℕ) {n j : ℕ} {x : List ℕ} → n ≡ fix_count a → n ≤ i → j ≡ i - n → x ≡ dep_at a b c d i → x ≡ own_dep_at b c d j
 unfolding dep_at
-dep-rest a b c d i en h e = e ∙ before_past (fix_count a) (fix_item a 37) (own_dep_at b c d) i (rw en at h) ∙ ap (λ (v : ℕ). own_dep_at b c d (i - v)) (sym en)
+dep-rest a b c d i en h ej e = rw ej (e ∙ before_past (fix_count a) (fix_item a 37) (own_dep_at b c d) i (rw en at h) ∙ ap (λ (v : ℕ). own_dep_at b c d (i - v)) (sym en))
 
 -- ---- the loop
 
@@ -305,7 +306,7 @@ module _ (a b c d : List ℕ) where
         pub gather_room : count < room → count < length p
         gather_room u = let w = k.whole in let x = k.fits in omega arith
 
-        pub gather_full : room ≤ count → R ≡ cell_deps a b c d → Chooses a b c d room p (room + 1)
+        pub gather_full : room ≤ count → R ≡ cell_deps a b c d → room < length (cell_deps a b c d)
         gather_full u e =
             let v = k.most in
             let q : cell_deps a b c d ≡ push_all (deps ++ (y ∷ [])) (span (dep_at a b c d) (i + 1) (n - (i + 1)))
@@ -314,12 +315,4 @@ module _ (a b c d : List ℕ) where
             let f = ap length q in
             let w = length-append deps (y ∷ []) in
             let z = deps-long in
-            record { number = omega arith; chosen = λ x. absurd (omega arith) }
-
--- ---- what is asked of the calls
-
-pub own_in : (b c d : List ℕ) {n i : ℕ} → n ≡ fix_count b → n ≤ i → i < fix_count b + (any_count c + fix_count d) → i - n < any_count c + fix_count d
-own_in b c d e h l = omega arith
-
-pub dep_in : (a b c d : List ℕ) {n i : ℕ} → n ≡ fix_count a → n ≤ i → i < dep_count a b c d → i - n < fix_count b + (any_count c + fix_count d)
-dep_in a b c d e h l = omega arith
+            omega arith

@@ -1,5 +1,5 @@
 // The deps chosen one after the other. In `sorted` the chosen places are kept in the order of their deps, so that one more is looked up by halves.
-ghost use Rattle.std.specs.Prelude.{◌+◌, ◌≤◌, min, length, unwrap_or};
+ghost use Rattle.std.specs.Prelude.{min, length};
 ghost use Rattle.distinct_deps.specs.Chosen.{ChoosesOf};
 
 use cell_deps::DepLists;

@@ -1,14 +1,14 @@
 // The distinct deps of a base transaction. By an index of each list a dep is new where it stands nowhere before, in its own list or in one of those before it.
-#![tactic(auto)]
+#![tactic(auto, using(crate::proofs::Ways::ways))]
 
 mod in_turn;
 
-ghost use Rattle.std.specs.Prelude.{◌≡◌, not, eqb, ◌+◌, ◌≤◌, ◌<◌, min, length};
+ghost use Rattle.std.specs.Prelude.{◌≡◌, not, eqb, ◌≤◌, ◌<◌, min, length};
 ghost use Rattle.molecule.specs.Layout.{span, fix_count, fix_item};
 ghost use Rattle.lists.specs.Lists.{contains};
 ghost use Rattle.item_index.specs.Index.{place_in};
-ghost use Rattle.cell_deps.specs.CellDeps.{any_count, Chooses};
-ghost use Rattle.cell_deps.specs.DepLists.{last_dep_of, own_dep_of, dep_of, count_of};
+ghost use Rattle.cell_deps.specs.CellDeps.{any_count};
+ghost use Rattle.cell_deps.specs.DepLists.{dep_of, count_of};
 ghost use Rattle.distinct_deps.specs.Chosen.{ChoosesOf};
 ghost use Rattle.distinct_deps.specs.Listed.{Listed, AllListed};
 
@@ -86,55 +86,33 @@ struct Indexed<'a> {
 }
 
 impl<'a> Indexed<'a> {
-    // Whether dep i of the lock's and the extra ones, which is x, stands nowhere before among them.
-    fn is_new_last(self, i: usize, x: &[u8]) -> bool
-        requires listed { AllListed self }
-        requires i_bound { i < any_count self.lists.lock.now + fix_count self.lists.extra.now }
-        requires x_value { x.now ≡ last_dep_of self.lists i }
-        ensures { result ≡ not (contains x.now (span (last_dep_of self.entry.lists) 0 i)) }
-    {
-        let n = any_count(self.lists.lock);
-        if i < n {
-            return true;
-        }
-        if is_lock(self.lists.lock, x) {
-            return false;
-        }
-        is_first(self.lists.extra, self.extra, i - n, x)
-    }
-
-    // The same with the token's before them.
-    fn is_new_own(self, i: usize, x: &[u8]) -> bool
-        requires listed { AllListed self }
-        requires i_bound { i < fix_count self.lists.udt.now + (any_count self.lists.lock.now + fix_count self.lists.extra.now) }
-        requires x_value { x.now ≡ own_dep_of self.lists i }
-        ensures { result ≡ not (contains x.now (span (own_dep_of self.entry.lists) 0 i)) }
-    {
-        let n = molecule::fix_count(self.lists.udt) as usize;
-        if i < n {
-            return is_first(self.lists.udt, self.udt, i, x);
-        }
-        if is_in(self.lists.udt, self.udt, x) {
-            return false;
-        }
-        self.is_new_last(i - n, x)
-    }
-
     // Whether the dep at place i stands nowhere before.
     fn is_new(self, i: usize) -> bool
         requires listed { AllListed self }
         requires i_bound { i < count_of self.lists }
         ensures { result ≡ not (contains (dep_of self.entry.lists i) (span (dep_of self.entry.lists) 0 i)) }
     {
-        let x = self.lists.dep_at(i);
-        let n = molecule::fix_count(self.lists.present) as usize;
-        if i < n {
-            return is_first(self.lists.present, self.present, i, x);
-        }
-        if is_in(self.lists.present, self.present, x) {
+        let lists = self.lists;
+        let x = lists.dep_at(i);
+        let Some(own) = i.checked_sub(molecule::fix_count(lists.present) as usize) else {
+            return is_first(lists.present, self.present, i, x);
+        };
+        if is_in(lists.present, self.present, x) {
             return false;
         }
-        self.is_new_own(i - n, x)
+        let Some(last) = own.checked_sub(molecule::fix_count(lists.udt) as usize) else {
+            return is_first(lists.udt, self.udt, own, x);
+        };
+        if is_in(lists.udt, self.udt, x) {
+            return false;
+        }
+        let Some(extra) = last.checked_sub(any_count(lists.lock)) else {
+            return true;
+        };
+        if is_lock(lists.lock, x) {
+            return false;
+        }
+        is_first(lists.extra, self.extra, extra, x)
     }
 
     // Puts the places of the new deps, in their order, and returns how many there are, or nothing where there are more than `room`.
@@ -157,7 +135,7 @@ impl<'a> Indexed<'a> {
     }
 }
 
-// The same by the indexes of the three lists, which are made here.
+// Puts a place of each dep and returns how many there are, by the indexes of the three lists, which are made here.
 fn choose_indexed(lists: DepLists<'_>, places: &mut [usize], room: usize) -> Option<usize>
     requires n_bound { count_of lists ≤ 3600 }
     requires room_in_bounds { room ≤ length places.old }
@@ -191,25 +169,4 @@ pub fn choose_places(
     }
     let room = places.len().min(sorted.len());
     choose_indexed(lists, places, room)
-}
-
-// The same of four lists; where there are more than there is room for, the answer is one more than that.
-pub fn choose<'a>(
-    present: &'a [u8],
-    udt: &'a [u8],
-    lock: &'a [u8],
-    extra: &'a [u8],
-    places: &mut [usize],
-    sorted: &mut [usize],
-) -> usize
-    ensures { Chooses present.now udt.now lock.now extra.now (min (length places.old) (length sorted.old)) places.new result }
-{
-    let lists = DepLists {
-        present,
-        udt,
-        lock,
-        extra,
-    };
-    let room = places.len().min(sorted.len());
-    choose_places(lists, places, sorted).unwrap_or(room + 1)
 }

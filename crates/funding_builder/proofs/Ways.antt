@@ -1,8 +1,10 @@
 -- What closes the needs of this crate's functions: `search ways`.
 use borrow.Author.Rules.{rules}
+use Rattle.rules.proofs.CellLaws.{empty-is}
+use Rattle.rules.proofs.Outcomes.{outcomes}
 use Rattle.transaction.proofs.ListLaws.{option-none, option-some}
 use Rattle.funding_builder.proofs.CheckLaws.{optional_dep, supplied-none, supplied-some, picked_none, picked-some}
-use Rattle.funding_builder.proofs.AssembleLaws.{over-deps, assembled, read_lists, choice_is, count-is, room-few, room_most}
-use Rattle.funding_builder.proofs.BuildLaws.{base_readable}
+use Rattle.funding_builder.proofs.AssembleLaws.{over-deps, assembled, room-few, room_most}
+use Rattle.funding_builder.proofs.BuildLaws.{some-outputs, base_readable}
 
-pub ruleset ways = (rules, option-none, option-some, optional_dep, supplied-none, supplied-some, picked_none, picked-some, over-deps, assembled, read_lists, choice_is, count-is, room-few, room_most, base_readable)
+pub ruleset ways = (rules, outcomes, empty-is, option-none, option-some, optional_dep, supplied-none, supplied-some, picked_none, picked-some, over-deps, assembled, room-few, room_most, some-outputs, base_readable)

@@ -8,9 +8,9 @@ use Rattle.transaction.specs.Tx.{raw_field}
 use Rattle.rules.specs.Judge.{Figures}
 use Rattle.list_writer.specs.ListWriter.{if_positive}
 use Rattle.cell_deps.specs.CellDeps.{cell_deps}
+use Rattle.cell_deps.specs.declared.DepLists.{DepLists}
 use Rattle.udt_cells.specs.Pick.{Pick}
 use Rattle.base_writer.specs.declared.Plan.{Plan}
-use Rattle.base_writer.specs.Lists.{Present, present_of}
 use Rattle.funding_builder.specs.Base.{Lent, change_capacity}
 
 -- what the checks at entry have shown
@@ -21,6 +21,13 @@ pub record Readable (l : Lent) : Type 0 where
   pub udt_deps : readable (option CellDeps) l.udt_deps ≡ true
   pub lock_dep : readable (option CellDep) l.lock_dep ≡ true
   pub extra_deps : readable CellDeps l.extra_deps ≡ true
+
+-- the four lists of cell deps: the token's and the lock's count where tokens were picked
+pub record AreDeps (d : DepLists) (t : Lent) (taken : ℕ) : Type 0 where
+  pub present : d.present.now ≡ raw_field t.ours 1
+  pub udt : d.udt.now ≡ if_positive taken t.udt_deps
+  pub lock : d.lock.now ≡ if_positive taken t.lock_dep
+  pub extra : d.extra.now ≡ t.extra_deps
 
 -- there is room for l places and for m: of all deps, or of as many as fit a transaction
 pub record Roomy (t : Lent) (taken l m : ℕ) : Type 0 where
@@ -34,10 +41,6 @@ pub record Planned (p : Plan) (capacity : Shannons) (token : Tokens) (taken : �
   pub picked : p.taken ≡ taken
   pub left : p.change ≡ change
   pub back : shannon_count p.change_capacity ≡ change_capacity (token_count change) source udt
-
--- the parts of our transaction that stay
-abbrev pub present_in : List ℕ → Present
-present_in ours = present_of (raw_field ours 1) (raw_field ours 2) (raw_field ours 3) (raw_field ours 4) (raw_field ours 5)
 
 -- a funding cell and a pick by their figures
 abbrev pub cell_of : Shannons → Tokens → Figures

@@ -1,21 +1,18 @@
 // The base transaction written from its figures: the funding cell, the pick and its change, and what the present transaction has already.
-ghost use Rattle.std.specs.Prelude.{◌≡◌, true, ◌^◌, ◌<◌, min, length};
-ghost use Rattle.arithmetic.specs.LittleEndian.{AllBytes};
+ghost use Rattle.std.specs.Prelude.{◌≡◌, true, length};
 ghost use Rattle.units.specs.Units.{shannon_count, token_count};
 ghost use Rattle.molecule.specs.Molecule.{readable, option};
 ghost use Rattle.transaction.specs.Ckb.{Script};
 ghost use Rattle.rules.specs.Outcome.{fine};
 ghost use Rattle.list_writer.specs.ListWriter.{if_positive};
-ghost use Rattle.transaction.specs.Tx.{tx_at, raw_field};
-ghost use Rattle.cell_deps.specs.CellDeps.{dep_count, Chooses};
 ghost use Rattle.base_writer.specs.Answer.{written, told};
-ghost use Rattle.base_writer.specs.Lists.{beside_of, lists_of, bytes_of};
 ghost use Rattle.funding_builder.specs.Base.{change_capacity, packed, base_tx};
 ghost use Rattle.funding_builder.specs.Lent.{lent_in, cell_in, pick_in};
-ghost use Rattle.funding_builder.specs.Steps.{Readable, Roomy, Planned, present_in};
+ghost use Rattle.funding_builder.specs.Steps.{Readable, Roomy, Planned, AreDeps};
 
 use crate::Lent;
 use base_writer::{Base, Plan};
+use cell_deps::DepLists;
 use error::Refusal;
 use funding_cell::FundingCell;
 use transaction::fields;
@@ -40,6 +37,7 @@ fn if_picked(taken: usize, deps: &[u8]) -> &[u8]
 }
 
 // The capacity of the change output, 0 where no change is left.
+#[tactic(auto, using(crate::proofs::CheckLaws::no_change, crate::proofs::CheckLaws::some_change), unfolding(units::specs::Fee::change_capacity))]
 fn change_capacity(change: Tokens, source: &[u8], udt: &[u8]) -> Shannons
     requires { (readable Script source.now ≡ true) × (readable (option Script) udt.now ≡ true) }
     ensures { shannon_count result ≡ change_capacity (token_count change) source.now udt.now }
@@ -50,45 +48,16 @@ fn change_capacity(change: Tokens, source: &[u8], udt: &[u8]) -> Shannons
     udt_cells::change_capacity(source, udt).unwrap_or(Shannons::ZERO)
 }
 
-// Writes the base transaction of these figures to the start of out. The token's deps and the lock's count where tokens were picked.
-fn write_plan(lent: &Lent, chosen: &[usize], plan: Plan, out: &mut [u8]) -> Written
-    ensures { (told result, out.new) ≡ written (fine (bytes_of (tx_at lent.now.ours.now).version (lists_of (present_in lent.now.ours.now) (beside_of lent.now.lock.now lent.now.udt.now lent.now.source.now lent.now.cells.now (if_positive plan.taken lent.now.udt_deps.now) (if_positive plan.taken lent.now.lock_dep.now) lent.now.extra_deps.now) chosen.now plan))) out.old }
+// The lists of cell deps: the token's and the lock's count where tokens were picked.
+fn dep_lists<'a>(lent: &Lent<'a>, taken: usize) -> DepLists<'a>
+    ensures { AreDeps result (lent_in lent.now) taken }
 {
-    let base = Base {
-        present: TxFields::of(lent.ours),
-        lock: lent.lock,
-        udt: lent.udt,
-        source: lent.source,
-        cells: lent.cells,
-        udt_deps: if_picked(plan.taken, lent.udt_deps),
-        lock_dep: if_picked(plan.taken, lent.lock_dep),
-        extra_deps: lent.extra_deps,
-        chosen,
-        plan,
-    };
-    base.write(out)
-}
-
-// How many cell deps there are, repeats among them.
-fn dep_count(lent: &Lent, taken: usize) -> usize
-    ensures { result ≡ dep_count (raw_field lent.now.ours.now 1) (if_positive taken lent.now.udt_deps.now) (if_positive taken lent.now.lock_dep.now) lent.now.extra_deps.now }
-{
-    let deps = fields::cell_deps(lent.ours);
-    let udt_used = if_picked(taken, lent.udt_deps);
-    let lock_used = if_picked(taken, lent.lock_dep);
-    cell_deps::dep_count(deps, udt_used, lock_used, lent.extra_deps)
-}
-
-// The places of the cell deps, each where it first stands. That our bytes are below 256 is told by the way.
-fn choose_deps(lent: &Lent, taken: usize, places: &mut [usize], sorted: &mut [usize]) -> usize
-    ensures chooses { Chooses (raw_field lent.now.ours.now 1) (if_positive taken lent.now.udt_deps.now) (if_positive taken lent.now.lock_dep.now) lent.now.extra_deps.now (min (length places.old) (length sorted.old)) places.new result }
-    ensures all_bytes { AllBytes lent.now.ours.now }
-{
-    transaction_writer::are_bytes(lent.ours);
-    let deps = fields::cell_deps(lent.ours);
-    let udt_used = if_picked(taken, lent.udt_deps);
-    let lock_used = if_picked(taken, lent.lock_dep);
-    distinct_deps::choose(deps, udt_used, lock_used, lent.extra_deps, places, sorted)
+    DepLists {
+        present: fields::cell_deps(lent.ours),
+        udt: if_picked(taken, lent.udt_deps),
+        lock: if_picked(taken, lent.lock_dep),
+        extra: lent.extra_deps,
+    }
 }
 
 // The figures that are written.
@@ -105,7 +74,8 @@ fn make_plan(lent: &Lent, cell: FundingCell, picked: Picked) -> Plan
     }
 }
 
-// Writes the base transaction of these figures to the start of out, with the places of its deps in what is lent for them.
+// Writes the base transaction of these figures to the start of out, with the places of its deps in what is lent for them. That our bytes are below 256 is told by
+// the way.
 fn assemble_with(
     lent: &Lent,
     cell: FundingCell,
@@ -118,13 +88,22 @@ fn assemble_with(
     requires roomy { Roomy (lent_in lent.now) picked.taken (length places.old) (length sorted.old) }
     ensures { (told result, out.new) ≡ written (fine (packed (base_tx (lent_in lent.now) (cell_in cell) (pick_in picked)))) out.old }
 {
-    let room = places.len();
-    let count = choose_deps(lent, picked.taken, places, sorted);
-    if room < count {
+    transaction_writer::are_bytes(lent.ours);
+    let deps = dep_lists(lent, picked.taken);
+    let Some(count) = distinct_deps::choose_places(deps, places, sorted) else {
         return Err(Refusal::BufferTooShort);
-    }
-    let plan = make_plan(lent, cell, picked);
-    write_plan(lent, &places[0..count], plan, out)
+    };
+    let base = Base {
+        present: TxFields::of(lent.ours),
+        lock: lent.lock,
+        udt: lent.udt,
+        source: lent.source,
+        cells: lent.cells,
+        deps,
+        chosen: &places[..count],
+        plan: make_plan(lent, cell, picked),
+    };
+    base.write(out)
 }
 
 // The same, with room for the places of all deps where they are few, and else of as many as fit a transaction.
@@ -137,7 +116,7 @@ pub(crate) fn assemble_base_tx(
     requires { Readable (lent_in lent.now) }
     ensures { (told result, out.new) ≡ written (fine (packed (base_tx (lent_in lent.now) (cell_in cell) (pick_in picked)))) out.old }
 {
-    if dep_count(lent, picked.taken) <= FEW_DEPS {
+    if dep_lists(lent, picked.taken).dep_count() <= FEW_DEPS {
         let mut places = [0usize; FEW_DEPS];
         let mut sorted = [0usize; FEW_DEPS];
         return assemble_with(lent, cell, picked, &mut places, &mut sorted, out);

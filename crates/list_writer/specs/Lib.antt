@@ -1,2 +1,3 @@
 pub mod ListWriter
 pub mod Around
+pub mod Parts

@@ -1,6 +1,6 @@
 // Writes a list of unsized items: one of its own, the later items of another list, and a last one. Sizes stop at 133,117, which is too long for a
 // transaction, so that no sum overflows and every offset that is written fits 32 bits.
-#![tactic(auto)]
+#![tactic(auto, using(crate::proofs::Ways::ways))]
 
 ghost use Rattle.std.specs.Prelude.{◌≡◌, ◌+◌, ◌*◌, ◌≤◌, ◌<◌, ◌^◌, min, length, nat_le};
 ghost use mathlib.Core.List.{flatten};
@@ -8,7 +8,8 @@ ghost use Rattle.arithmetic.specs.LittleEndian.{to_le};
 ghost use Rattle.molecule.specs.Items.{unwords};
 ghost use Rattle.molecule.specs.Write.{put_at, put_end, Put};
 ghost use Rattle.list_writer.specs.ListWriter.{joined, item_or, later, if_positive, put_list, put_list_end};
-ghost use Rattle.list_writer.specs.Around.{around, head_size, list_size, places, head_of, fits_at, Room};
+ghost use Rattle.list_writer.specs.Around.{head_size, places, fits_at, Room};
+ghost use Rattle.list_writer.specs.Parts.{total, head_in, bytes_of, size_of, lengths_of};
 
 use molecule::write;
 
@@ -162,55 +163,82 @@ fn put_place(out: &mut [u8], at: usize, n: usize, place: usize) -> usize
     write::put_u32(out, at, place as u32)
 }
 
-// Puts the header of the list whose first item has `first` bytes and whose last has `last`.
-#[tactic(auto, using(molecule::proofs::WriteLaws::end_yes, crate::proofs::JoinLaws::words_length))]
-fn put_head(out: &mut [u8], at: usize, first: usize, items: Later, last: usize) -> usize
-    requires { Room out.old at (list_size first items.list.now items.count last) }
-    ensures put { Put out.old at (head_of first items.entry.list.now items.entry.count last) out.new result }
-    ensures value { result ≡ at + head_size items.entry.count last }
-{
-    let h = 8 + 4 * items.count + place_len(last);
-    let o = h + first;
-    let end = o + items.len();
-    let at = put_words(out, at, &[(end + last) as u32, h as u32]);
-    let at = items.put_places(out, at, o);
-    put_place(out, at, last, end)
+// A list by the lengths of its first item and its last, which is none where it has no bytes, with `items` between them.
+#[derive(Clone, Copy)]
+pub struct Lengths<'a> {
+    pub first: usize,
+    pub items: Later<'a>,
+    pub last: usize,
 }
 
-// Puts the list where it fits.
-#[tactic(auto, using(molecule::proofs::WriteLaws::end_yes))]
-fn put_whole(out: &mut [u8], at: usize, first: &[&[u8]], items: Later, last: &[&[u8]]) -> usize
-    requires { Room out.old at (list_size (length (joined first.now)) items.list.now items.count (length (joined last.now))) }
-    ensures { Put out.old at (around (joined first.now) items.entry.list.now items.entry.count (joined last.now)) out.new result }
-{
-    let at = put_head(out, at, joined_len(first), items, joined_len(last));
-    let at = put_all(out, at, first);
-    let at = items.put(out, at);
-    put_all(out, at, last)
-}
-
-// How long a list is whose first item has `first` bytes and whose last has `last`, with `items` between them. More items than a transaction has places
-// for are not looked at.
-pub fn list_size(first: usize, items: Later, last: usize) -> usize
-    ensures { result ≡ min (list_size first items.entry.list.now items.entry.count last) 133117 }
-{
-    if items.count > MAX_BYTES / 4 {
-        return MAX_BYTES + 1;
+impl Lengths<'_> {
+    // How long the list is. More items than a transaction has places for are not looked at.
+    pub fn total(self) -> usize
+        ensures { result ≡ min (total self.entry) 133117 }
+    {
+        if self.items.count > MAX_BYTES / 4 {
+            return MAX_BYTES + 1;
+        }
+        let n = capped(8 + 4 * self.items.count + place_len(self.last), self.first);
+        let n = capped(n, self.items.len());
+        capped(n, self.last)
     }
-    let n = capped(8 + 4 * items.count + place_len(last), first);
-    let n = capped(n, items.len());
-    capped(n, last)
+
+    // Puts its header.
+    #[tactic(auto, using(molecule::proofs::WriteLaws::end_yes, crate::proofs::JoinLaws::words_length))]
+    fn put_head(self, out: &mut [u8], at: usize) -> usize
+        requires { Room out.old at (total self) }
+        ensures put { Put out.old at (head_in self.entry) out.new result }
+        ensures value { result ≡ at + head_size self.entry.items.count self.entry.last }
+    {
+        let h = 8 + 4 * self.items.count + place_len(self.last);
+        let o = h + self.first;
+        let end = o + self.items.len();
+        let at = put_words(out, at, &[(end + self.last) as u32, h as u32]);
+        let at = self.items.put_places(out, at, o);
+        put_place(out, at, self.last, end)
+    }
 }
 
-// Puts the list of the item `first`, of `items`, and of the item `last`, unless that is empty. Where the list does not fit a transaction and the buffer
-// nothing is written, and the place that is answered is the one that was given.
-pub fn put_list(out: &mut [u8], at: usize, first: &[&[u8]], items: Later, last: &[&[u8]]) -> usize
-    ensures out_after { out.new ≡ put_list out.old at (around (joined first.now) items.entry.list.now items.entry.count (joined last.now)) }
-    ensures value { result ≡ put_list_end out.old at (around (joined first.now) items.entry.list.now items.entry.count (joined last.now)) }
-{
-    let n = list_size(joined_len(first), items, joined_len(last));
-    if !fits(n, at, out.len()) {
-        return at;
+// A list by its first item and its last, each in stretches, with `items` between them.
+#[derive(Clone, Copy)]
+pub struct Parts<'a> {
+    pub first: &'a [&'a [u8]],
+    pub items: Later<'a>,
+    pub last: &'a [&'a [u8]],
+}
+
+impl<'a> Parts<'a> {
+    fn lengths(self) -> Lengths<'a>
+        ensures { result ≡ lengths_of self.entry }
+    {
+        Lengths {
+            first: joined_len(self.first),
+            items: self.items,
+            last: joined_len(self.last),
+        }
     }
-    put_whole(out, at, first, items, last)
+
+    // Puts the list where it fits.
+    #[tactic(auto, using(molecule::proofs::WriteLaws::end_yes))]
+    fn put_whole(self, out: &mut [u8], at: usize) -> usize
+        requires { Room out.old at (size_of self) }
+        ensures { Put out.old at (bytes_of self.entry) out.new result }
+    {
+        let at = self.lengths().put_head(out, at);
+        let at = put_all(out, at, self.first);
+        let at = self.items.put(out, at);
+        put_all(out, at, self.last)
+    }
+
+    // Puts the list. Where it does not fit a transaction and the buffer nothing is written, and the place that is answered is the one that was given.
+    pub fn put(self, out: &mut [u8], at: usize) -> usize
+        ensures out_after { out.new ≡ put_list out.old at (bytes_of self.entry) }
+        ensures value { result ≡ put_list_end out.old at (bytes_of self.entry) }
+    {
+        if !fits(self.lengths().total(), at, out.len()) {
+            return at;
+        }
+        self.put_whole(out, at)
+    }
 }

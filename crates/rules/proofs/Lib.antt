@@ -2,6 +2,7 @@ pub mod Accept
 pub mod CellLaws
 pub mod Checks
 pub mod Law
+pub mod Outcomes
 pub mod Telescope
 pub mod Tests
 pub mod Whole

@@ -85,3 +85,6 @@ module _ (cells type source : List ℕ) (r : Bool) (er : check 3 r ≡ lent cell
 
   pub lent-option : readable (option Script) type ≡ true
   lent-option = let (a, e) = check-fine 3 _ _ tt lent-fine in let (b, f) = check-fine 3 _ _ tt e in is_true _ b
+
+-- of the change as it is written
+pub ruleset changed = (output-length, put_at_start)

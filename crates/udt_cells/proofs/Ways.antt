@@ -1,6 +1,8 @@
 -- What closes the goals of this crate's functions.
 use Rattle.std.proofs.Common.{rules}
+use Rattle.rules.proofs.CellLaws.{empty-is}
+use Rattle.rules.proofs.Outcomes.{outcomes}
 use Rattle.udt_cells.proofs.PickLaws.{pick-none, pick-enough, pick_short, pick-stop, pick_more}
 use Rattle.udt_cells.proofs.ChangeLaws.{capacity-is, capacity-below, lent_script, lent-option}
 
-pub ruleset ways = (rules, pick-none, pick-enough, pick_short, pick-stop, pick_more, capacity-is, capacity-below, lent_script, lent-option)
+pub ruleset ways = (rules, outcomes, empty-is, pick-none, pick-enough, pick_short, pick-stop, pick_more, capacity-is, capacity-below, lent_script, lent-option)

@@ -1,5 +1,5 @@
 // The token cells that our side pays with: the pick among those that are lent, and the change that is left of them.
-#![tactic(auto, using(crate::proofs::Ways::ways))]
+#![tactic(auto, using(crate::proofs::Ways::ways), unfolding(crate::specs::Pick::pick_typed, crate::specs::Change::lent, crate::specs::Change::udt_inputs_outputs, crate::specs::Change::unless_refused, rules::specs::Outcome::check, rules::specs::Outcome::check_with, error::specs::Refusal::number, error::specs::Refusal::values))]
 
 ghost use Rattle.std.specs.Prelude.{◌≡◌, true, ◌^◌, ◌<◌, min, length};
 ghost use Rattle.units.specs.Units.{token_count};
@@ -36,6 +36,7 @@ pub struct UdtInputsOutputs {
 // ---- the pick
 
 // A total with the amount of cell i.
+#[tactic(auto, using(rules::proofs::Outcomes::outcomes), unfolding(crate::specs::Pick::plus_cell, arithmetic::specs::Amount::sum, arithmetic::specs::Amount::amount_at, rules::specs::Outcome::check, rules::specs::Outcome::check_with, error::specs::Refusal::number, error::specs::Refusal::values))]
 fn plus_cell(cells: &[u8], i: usize, total: Tokens) -> Result<Tokens, Refusal>
     ensures { told_by token_count result ≡ plus_cell (token_count total) (item_of cells.now i) }
 {
@@ -89,6 +90,7 @@ pub fn change_capacity(source: &[u8], udt: &[u8]) -> Option<Shannons>
 }
 
 // Writes the change output, if there is change, to the start of out.
+#[tactic(auto, using(crate::proofs::ChangeLaws::changed), unfolding(crate::specs::Change::with_change, crate::specs::Change::put_first, units::specs::Fee::change_capacity, error::specs::Refusal::number, error::specs::Refusal::values))]
 fn put_change(
     picked: Picked,
     udt: &[u8],

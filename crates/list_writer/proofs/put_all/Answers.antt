@@ -6,9 +6,3 @@ loop-part-init c = search ways
 
 pub loop-part-preserved : goal.loop-part-preserved
 loop-part-preserved c = search ways
-
-pub returns-clause-out_after : goal.returns-clause-out_after
-returns-clause-out_after c = search ways
-
-pub returns-clause-value : goal.returns-clause-value
-returns-clause-value c = search ways

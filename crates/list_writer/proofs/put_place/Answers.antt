@@ -6,6 +6,3 @@ returns-then-n-eq0-clause-put c = search ways
 
 pub returns-clause-put : goal.returns-clause-put
 returns-clause-put c = search ways
-
-pub returns-clause-value : goal.returns-clause-value
-returns-clause-value c = search ways

@@ -4,8 +4,5 @@ use Rattle.base_inputs.proofs.Inputs.put_whole.Goals as goal
 pub overflow_cast-n : goal.overflow_cast-n
 overflow_cast-n c = search ways
 
-pub put_picked-requires : goal.put_picked-requires
-put_picked-requires c = search ways
-
 pub returns : goal.returns
 returns c = search ways

@@ -3,9 +3,3 @@ use Rattle.cell_deps.proofs.DepLists.deps_size.Goals as goal
 
 pub loop-place-init : goal.loop-place-init
 loop-place-init c = search ways
-
-pub loop-place-preserved : goal.loop-place-preserved
-loop-place-preserved c = search ways
-
-pub returns : goal.returns
-returns c = search ways

@@ -1,15 +1,6 @@
 use Rattle.cell_deps.proofs.Ways.{ways}
 use Rattle.cell_deps.proofs.DepLists.put_deps.Goals as goal
 
-pub returns-then-not-fits-clause-out_after : goal.returns-then-not-fits-clause-out_after
-returns-then-not-fits-clause-out_after c = search ways
-
-pub returns-then-not-fits-clause-value : goal.returns-then-not-fits-clause-value
-returns-then-not-fits-clause-value c = search ways
-
-pub put_places-requires : goal.put_places-requires
-put_places-requires c = search ways
-
 pub returns-clause-out_after : goal.returns-clause-out_after
 returns-clause-out_after c = search ways
 

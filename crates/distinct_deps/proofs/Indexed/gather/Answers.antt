@@ -3,12 +3,6 @@ use Rattle.distinct_deps.proofs.Ways.{ways}
 use Rattle.distinct_deps.proofs.Indexed.gather.Goals as goal
 use Rattle.distinct_deps.proofs.Indexed.gather.Goals.{then-is_new+else-room-count, else-is_new}
 
-pub loop-i-init : goal.loop-i-init
-loop-i-init c = search ways
-
-pub returns-then-room-count : goal.returns-then-room-count
-returns-then-room-count c = search ways
-
 pub loop-i-preserved : goal.loop-i-preserved
 loop-i-preserved c =
     let k = c.loop-i.invariant in
@@ -16,6 +10,12 @@ loop-i-preserved c =
       | then-is_new+else-room-count w ↦ rw (w.places-is, w.count-is) (gather_new _ _ _ _ k c.loop-i-test.true c.is_new.ensures w.if-is_new.true w.if-room-count.false)
       | else-is_new w ↦ rw (w.places-is, w.count-is) (gather_old _ _ _ _ k c.loop-i-test.true c.is_new.ensures w.if-is_new.false)
     ]
+
+pub loop-i-init : goal.loop-i-init
+loop-i-init c = search ways
+
+pub returns-then-room-count : goal.returns-then-room-count
+returns-then-room-count c = search ways
 
 pub returns : goal.returns
 returns c = search ways

@@ -4,9 +4,6 @@ use Rattle.distinct_deps.proofs.Ways.{ways}
 use Rattle.distinct_deps.proofs.in_turn.choose_in_turn.Goals as goal
 use Rattle.distinct_deps.proofs.in_turn.choose_in_turn.Goals.{in-Ok, in-Err+else-room-count}
 
-pub loop-i-init : goal.loop-i-init
-loop-i-init c = search ways
-
 pub returns-then-room-count : goal.returns-then-room-count
 returns-then-room-count c =
     let k = c.loop-i.invariant in
@@ -24,6 +21,9 @@ loop-i-preserved c =
           (let absent = choose_unmet _ _ _ _ k h c.dep_at-x.ensures (λ a r g t. search rules) w.in-Err.at w.in-Err.ensures.bound w.in-Err.ensures.position in
           choose_new _ _ _ _ k h absent (omega arith) (choose_put _ _ _ _ k h absent _ (omega arith) w.copy_within.ensures.len w.copy_within.ensures.by_index.0 w.copy_within.ensures.by_index.1))
     ]
+
+pub loop-i-init : goal.loop-i-init
+loop-i-init c = search ways
 
 pub returns : goal.returns
 returns c = search ways

@@ -1,5 +1,7 @@
-use Rattle.funding_builder.proofs.AssembleLaws.{over-deps}
+use Rattle.funding_builder.proofs.AssembleLaws.{assembled}
 use Rattle.funding_builder.proofs.assemble.assemble_with.Goals as goal
 
-pub returns-then-room-count : goal.returns-then-room-count
-returns-then-room-count c = over-deps _ _ _ _ _ _ _ _ _ _ _ _ _ c.requires.readable c.requires.roomy c.choose_deps-count.ensures.chooses c.if-room-count.true
+pub returns : goal.returns
+returns c =
+    assembled _ _ _ _ _ _ _ _ _ _ _ _ _ c.requires.readable c.requires.roomy c.dep_lists-deps.ensures c.are_bytes.ensures c.of.ensures
+    c.in-Some.ensures.0 c.in-Some.ensures.1 c.make_plan.ensures c.write.ensures

@@ -1,5 +1,0 @@
-use Rattle.base_inputs.proofs.Ways.{ways}
-use Rattle.base_inputs.proofs.Inputs.run.Goals as goal
-
-pub returns : goal.returns
-returns c = search ways

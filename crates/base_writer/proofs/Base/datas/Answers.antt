@@ -1,5 +1,0 @@
-use Rattle.base_writer.proofs.Ways.{ways}
-use Rattle.base_writer.proofs.Base.datas.Goals as goal
-
-pub returns : goal.returns
-returns c = search ways

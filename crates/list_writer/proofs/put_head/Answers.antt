@@ -1,5 +1,0 @@
-use Rattle.list_writer.proofs.Ways.{ways}
-use Rattle.list_writer.proofs.put_head.Goals as goal
-
-pub returns-clause-put : goal.returns-clause-put
-returns-clause-put c = search ways

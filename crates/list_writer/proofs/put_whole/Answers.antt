@@ -1,5 +1,0 @@
-use Rattle.list_writer.proofs.Ways.{ways}
-use Rattle.list_writer.proofs.put_whole.Goals as goal
-
-pub returns : goal.returns
-returns c = search ways

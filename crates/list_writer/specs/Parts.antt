@@ -1,0 +1,27 @@
+-- A list as the code holds what it is put together of.
+use Rattle.std.specs.Prelude.{ℕ, min, List, length}
+use Rattle.list_writer.specs.declared.{Lengths.Lengths, Parts.Parts}
+use Rattle.list_writer.specs.ListWriter.{joined}
+use Rattle.list_writer.specs.Around.{around, list_size, head_of}
+
+-- its length and its header, by lengths
+abbrev pub total : Lengths → ℕ
+total l = list_size l.first l.items.list.now l.items.count l.last
+
+abbrev pub head_in : Lengths → List ℕ
+head_in l = head_of l.first l.items.list.now l.items.count l.last
+
+-- the list in bytes, and its length
+abbrev pub bytes_of : Parts → List ℕ
+bytes_of p = around (joined p.first.now) p.items.list.now p.items.count (joined p.last.now)
+
+abbrev pub size_of : Parts → ℕ
+size_of p = list_size (length (joined p.first.now)) p.items.list.now p.items.count (length (joined p.last.now))
+
+-- the lengths of its parts, as far as 133,117
+abbrev pub lengths_of : Parts → Lengths
+lengths_of p = record {
+  first = min (length (joined p.first.now)) 133117;
+  items = p.items;
+  last = min (length (joined p.last.now)) 133117;
+}
