@@ -1,0 +1,5 @@
+use Rattle.table_steps.proofs.Ways.{ways}
+use Rattle.table_steps.proofs.lent.take.Goals as goal
+
+pub returns-clause-called : goal.returns-clause-called
+returns-clause-called c = search ways
