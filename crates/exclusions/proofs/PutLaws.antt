@@ -166,12 +166,12 @@ module _ (hash : Byte32) (f : List ℕ) where
     pub entry-room : r ≡ at + 48 → r + 36 * fix_count f ≤ length o
     entry-room e = omega (arith, length-kept p)
 
-    pub entry_put : {o₂ : List ℕ} → o₂ ≡ splice o r (bytes_of (spent_by f)) → o₂ ≡ splice out at (entry_bytes (entry_with hash f))
-    entry_put {o₂} e =
+    pub entry_put : splice o r (bytes_of (spent_by f)) ≡ splice out at (entry_bytes (entry_with hash f))
+    entry_put =
         let H = head_bytes hash (fix_count f) in
         let B = bytes_of (spent_by f) in
         let l = entry-length in
-        e ∙ ap₂ (λ (x : List ℕ) (k : ℕ). splice x k B) p.bytes p.end ∙ splice-then out at H B (omega (arith, ap length entry-is, length-append H B)) ∙ ap (splice out at) (sym entry-is)
+        ap₂ (λ (x : List ℕ) (k : ℕ). splice x k B) p.bytes p.end ∙ splice-then out at H B (omega (arith, ap length entry-is, length-append H B)) ∙ ap (splice out at) (sym entry-is)
 
 -- ---- the entry at its place, the others behind it, and the count
 
@@ -205,11 +205,7 @@ module _ (s : List ℕ) (v : Survey) (hash : Byte32) (f : List ℕ) {n : ℕ} (e
 
 -- ---- the whole table: the entries that stay stand together in s₁
 
-module _ (rule : Rule) (s : List ℕ) {v : Survey} (ev : Ok v ≡ survey_of rule s) {s₁ : List ℕ}
-    (e₁ : s₁ ≡ splice s 4 (entries_bytes (stay (keeps rule) (takes rule) false (excluded_at s)))) where
-  g : is_map s ≡ true
-  g = told_good rule s ev
-
+module _ (rule : Rule) (s : List ℕ) {v : Survey} (ev : Ok v ≡ survey_of rule s) where
   abbrev stays : List Entry
   stays = stay (keeps rule) (takes rule) false (excluded_at s)
 
@@ -228,57 +224,60 @@ module _ (rule : Rule) (s : List ℕ) {v : Survey} (ev : Ok v ≡ survey_of rule
   sizes : length (entries_bytes A) + length (entries_bytes B) ≡ 48 * v.stays + 36 * v.points
   sizes = sym (length-append (entries_bytes A) (entries_bytes B)) ∙ ap length (sym parts) ∙ size
 
+  pub place_within : v.place ≤ 4 + 48 * v.stays + 36 * v.points
+  place_within = omega (arith, told-place rule s ev, sizes)
+
+  g : is_map s ≡ true
+  g = told_good rule s ev
+
   stays_room : 4 + length (entries_bytes stays) ≤ length s
   stays_room = omega (arith, stay-size (keeps rule) (takes rule) false (excluded_at s), entries-size (excluded_at s), map-count s g, map-few s g, map-points s g, map-long s g)
 
-  length-gathered : length s₁ ≡ length s
-  length-gathered = ap length e₁ ∙ splice-length s 4 (entries_bytes stays) stays_room
+  module _ {s₁ : List ℕ} (e₁ : s₁ ≡ splice s 4 (entries_bytes stays)) where
+    length-gathered : length s₁ ≡ length s
+    length-gathered = ap length e₁ ∙ splice-length s 4 (entries_bytes stays) stays_room
 
-  pub place-within : v.place ≤ 4 + 48 * v.stays + 36 * v.points
-  place-within = omega (arith, told-place rule s ev, sizes)
-
-  pub drop_put : {s₂ : List ℕ} → s₂ ≡ put_at s₁ 0 (to_le 4 v.stays) → s₂ ≡ splice s 0 (map_bytes stays)
-  unfolding map_bytes
-  drop_put e₂ =
-      let C = to_le 4 v.stays in
-      let l : length C ≡ 4 = length-to_le 4 v.stays in
-      let z : 0 + length C ≡ 4 = omega arith in
-      e₂ ∙ put_yes s₁ 0 C (omega (arith, length-gathered, map-long s g)) ∙ ap (λ (x : List ℕ). splice x 0 C) (e₁ ∙ ap (λ (k : ℕ). splice s k (entries_bytes stays)) (sym z))
-      ∙ splice-under s 0 C (entries_bytes stays) (omega (arith, stays_room)) ∙ ap (λ (k : ℕ). splice s 0 (to_le 4 k ++ entries_bytes stays)) (told_stays rule s ev)
-
-  module _ (hash : Byte32) (f : List ℕ) (few : v.stays < 64) (most : v.points + fix_count f ≤ 512) where
-    pub replace_room : 4 + 48 * v.stays + 36 * v.points + (48 + 36 * fix_count f) ≤ length s₁
-    replace_room = omega (arith, length-gathered, map-long s g)
-
-    pub replace_put : {s₂ : List ℕ}
-        → s₂ ≡ splice (splice s₁ v.place (entry_bytes (entry_with hash f) ++ take (4 + 48 * v.stays + 36 * v.points - v.place) (drop v.place s₁))) 0 (to_le 4 (v.stays + 1))
-        → s₂ ≡ splice s 0 (map_bytes (renew (takes rule) (entry_with hash f) (keep (keeps rule) (excluded_at s))))
-    unfolding map_bytes entries_bytes
-    replace_put e₂ =
-        let x = entry_with hash f in
-        let X = entry_bytes x in
-        let bA = entries_bytes A in
-        let bB = entries_bytes B in
-        let C = to_le 4 (v.stays + 1) in
-        let lx : length X ≡ 48 + 36 * fix_count f = entry-length hash f in
-        let lC : length C ≡ 4 = length-to_le 4 (v.stays + 1) in
+    pub drop_put : put_at s₁ 0 (to_le 4 v.stays) ≡ splice s 0 (map_bytes stays)
+    unfolding map_bytes
+    drop_put =
+        let C = to_le 4 v.stays in
+        let l : length C ≡ 4 = length-to_le 4 v.stays in
         let z : 0 + length C ≡ 4 = omega arith in
-        let p : v.place ≡ 4 + length bA = told-place rule s ev in
-        let q : 4 + 48 * v.stays + 36 * v.points - v.place ≡ length bB = omega (arith, sizes) in
-        let l = map-long s g in
-        let t : s₁ ≡ splice s 4 (bA ++ bB) = e₁ ∙ ap (splice s 4) parts in
-        let room : 4 + length bA + length bB ≤ length s = omega (arith, sizes) in
-        let tail : take (4 + 48 * v.stays + 36 * v.points - v.place) (drop v.place s₁) ≡ bB = rw (q, p, t) (part-splice s 4 bA bB room) in
-        let W = X ++ bB in
-        let lW : length W ≡ 48 + 36 * fix_count f + length bB = length-append X bB ∙ ap (λ (k : ℕ). k + length bB) lx in
-        let inner : splice s₁ v.place (X ++ take (4 + 48 * v.stays + 36 * v.points - v.place) (drop v.place s₁)) ≡ splice s 4 (bA ++ W) =
-        rw tail (ap₂ (λ (a : List ℕ) (k : ℕ). splice a k W) (t ∙ sym (splice-then s 4 bA bB room)) p
-        ∙ splice-over (splice s 4 bA) (4 + length bA) W bB (omega (arith, splice-length s 4 bA (omega arith), sizes)) (omega arith)
-        ∙ splice-then s 4 bA W (omega (arith, sizes))) in
-        let after : renew (takes rule) x (keep (keeps rule) (excluded_at s)) ≡ A ++ (x ∷ B) = renew-split (keeps rule) (takes rule) x (excluded_at s) in
-        let count : length (A ++ (x ∷ B)) ≡ v.stays + 1 =
-        length-append A (x ∷ B) ∙ omega (arith, told_stays rule s ev, ap length (stay-split (keeps rule) (takes rule) (excluded_at s)), length-append A B) in
-        e₂ ∙ ap (λ (a : List ℕ). splice a 0 C) (inner ∙ ap (λ (k : ℕ). splice s k (bA ++ W)) (sym z))
-        ∙ splice-under s 0 C (bA ++ W) (omega (arith, length-append bA W, sizes))
-        ∙ ap₂ (λ (k : ℕ) (a : List ℕ). splice s 0 (to_le 4 k ++ a)) (sym count) (sym (bytes-join A (x ∷ B)))
-        ∙ ap (λ (a : List Entry). splice s 0 (to_le 4 (length a) ++ entries_bytes a)) (sym after)
+        put_yes s₁ 0 C (omega (arith, length-gathered, map-long s g)) ∙ ap (λ (x : List ℕ). splice x 0 C) (e₁ ∙ ap (λ (k : ℕ). splice s k (entries_bytes stays)) (sym z))
+        ∙ splice-under s 0 C (entries_bytes stays) (omega (arith, stays_room)) ∙ ap (λ (k : ℕ). splice s 0 (to_le 4 k ++ entries_bytes stays)) (told_stays rule s ev)
+
+    module _ (hash : Byte32) (f : List ℕ) (few : v.stays < 64) (most : v.points + fix_count f ≤ 512) where
+      pub replace_room : 4 + 48 * v.stays + 36 * v.points + (48 + 36 * fix_count f) ≤ length s₁
+      replace_room = omega (arith, length-gathered, map-long s g)
+
+      pub replace_put : splice (splice s₁ v.place (entry_bytes (entry_with hash f) ++ take (4 + 48 * v.stays + 36 * v.points - v.place) (drop v.place s₁))) 0 (to_le 4 (v.stays + 1))
+          ≡ splice s 0 (map_bytes (renew (takes rule) (entry_with hash f) (keep (keeps rule) (excluded_at s))))
+      unfolding map_bytes entries_bytes
+      replace_put =
+          let x = entry_with hash f in
+          let X = entry_bytes x in
+          let bA = entries_bytes A in
+          let bB = entries_bytes B in
+          let C = to_le 4 (v.stays + 1) in
+          let lx : length X ≡ 48 + 36 * fix_count f = entry-length hash f in
+          let lC : length C ≡ 4 = length-to_le 4 (v.stays + 1) in
+          let z : 0 + length C ≡ 4 = omega arith in
+          let p : v.place ≡ 4 + length bA = told-place rule s ev in
+          let q : 4 + 48 * v.stays + 36 * v.points - v.place ≡ length bB = omega (arith, sizes) in
+          let l = map-long s g in
+          let t : s₁ ≡ splice s 4 (bA ++ bB) = e₁ ∙ ap (splice s 4) parts in
+          let room : 4 + length bA + length bB ≤ length s = omega (arith, sizes) in
+          let tail : take (4 + 48 * v.stays + 36 * v.points - v.place) (drop v.place s₁) ≡ bB = rw (q, p, t) (part-splice s 4 bA bB room) in
+          let W = X ++ bB in
+          let lW : length W ≡ 48 + 36 * fix_count f + length bB = length-append X bB ∙ ap (λ (k : ℕ). k + length bB) lx in
+          let inner : splice s₁ v.place (X ++ take (4 + 48 * v.stays + 36 * v.points - v.place) (drop v.place s₁)) ≡ splice s 4 (bA ++ W) =
+          rw tail (ap₂ (λ (a : List ℕ) (k : ℕ). splice a k W) (t ∙ sym (splice-then s 4 bA bB room)) p
+          ∙ splice-over (splice s 4 bA) (4 + length bA) W bB (omega (arith, splice-length s 4 bA (omega arith), sizes)) (omega arith)
+          ∙ splice-then s 4 bA W (omega (arith, sizes))) in
+          let after : renew (takes rule) x (keep (keeps rule) (excluded_at s)) ≡ A ++ (x ∷ B) = renew-split (keeps rule) (takes rule) x (excluded_at s) in
+          let count : length (A ++ (x ∷ B)) ≡ v.stays + 1 =
+          length-append A (x ∷ B) ∙ omega (arith, told_stays rule s ev, ap length (stay-split (keeps rule) (takes rule) (excluded_at s)), length-append A B) in
+          ap (λ (a : List ℕ). splice a 0 C) (inner ∙ ap (λ (k : ℕ). splice s k (bA ++ W)) (sym z))
+          ∙ splice-under s 0 C (bA ++ W) (omega (arith, length-append bA W, sizes))
+          ∙ ap₂ (λ (k : ℕ) (a : List ℕ). splice s 0 (to_le 4 k ++ a)) (sym count) (sym (bytes-join A (x ∷ B)))
+          ∙ ap (λ (a : List Entry). splice s 0 (to_le 4 (length a) ++ entries_bytes a)) (sym after)

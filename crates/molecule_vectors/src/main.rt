@@ -57,7 +57,7 @@ fn print(rt: &impl Print, name: &[u8], count: Count) -> io::Result<()> {
 // Whether s is written again byte for byte, and the bytes behind it keep their value.
 fn is_rewritten(kind: Kind, s: &[u8]) -> bool {
     let mut out = [FILL; ROOM];
-    let n = rewrite::put_value(&mut out, 0, s, kind);
+    let n = rewrite::put_value(&mut out, s, kind);
     n == s.len() && recorded_calls::is_written(&out, s)
 }
 
@@ -67,7 +67,7 @@ fn is_fitted(kind: Kind, s: &[u8]) -> bool {
     let Some(room) = out.get_mut(..s.len()) else {
         return false;
     };
-    rewrite::put_value(room, 0, s, kind);
+    rewrite::put_value(room, s, kind);
     let room: &[u8] = room;
     room == s
 }

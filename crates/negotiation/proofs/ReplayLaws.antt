@@ -1,6 +1,6 @@
 -- Laws of the whole call, one for each way out.
 use Rattle.std.proofs.Common.{Err}
-use mathlib.Core.Path.{◌≡◌, refl, sym, ◌∙◌}
+use mathlib.Core.Path.{◌≡◌, refl, sym, ap, ◌∙◌}
 use Prim.Native.Nat.{ℕ, ◌*◌, ◌/◌, ◌≤◌, ◌<◌}
 use mathlib.Core.Bool.{Bool, true, false}
 use mathlib.Core.List.{List, []}
@@ -12,11 +12,12 @@ use Rattle.molecule.specs.Molecule.{readable}
 use Rattle.molecule.specs.Layout.{item_count}
 use Rattle.error.specs.declared.Refusal.{Refusal}
 use Rattle.error.specs.Refusal.{number, values}
-use Rattle.rules.specs.Outcome.{fine, refused, check, check_with, ◌>>◌}
+use Rattle.rules.specs.Judge.{Figures}
+use Rattle.rules.specs.Outcome.{Outcome, fine, refused, check, check_with, ◌>>◌}
 use Rattle.rules.specs.Run.{verdicts, update_for_peer}
 use Rattle.rules.proofs.Tests.{never}
 use Rattle.negotiation.specs.Updates.{Updates, calls_of}
-use Rattle.negotiation.specs.Replay.{Replayed, replay_of, leaves, answered}
+use Rattle.negotiation.specs.Replay.{replay_of, leaves, answered}
 
 module _ (lock udt start s : List ℕ) (room : ℕ) where
   refused_3 : readable Updates s ≡ false → replay_of lock udt start s room ≡ refused 3 []
@@ -56,6 +57,5 @@ module _ (lock udt start s out : List ℕ) {r : Bool} (e : r ≡ readable Update
     unfolding leaves number values
     replay_short h = rw (refused_13 lock udt start s (length out) (sym e ∙ t) (short h))
 
-    pub replay_run : (x : Replayed) {after : List ℕ} → n ≤ length out / 5
-        → (answered x, after) ≡ leaves (fine (verdicts (update_for_peer lock udt) start (calls_of s))) out → (answered x, after) ≡ leaves (replay_of lock udt start s (length out)) out
-    replay_run x h k = rw (judged lock udt start s (length out) (sym e ∙ t) (enough h)) k
+    pub replay_run : n ≤ length out / 5 → leaves (replay_of lock udt start s (length out)) out ≡ leaves (fine (verdicts (update_for_peer lock udt) start (calls_of s))) out
+    replay_run h = ap (λ (o : Outcome (List (Outcome Figures))). leaves o out) (judged lock udt start s (length out) (sym e ∙ t) (enough h))

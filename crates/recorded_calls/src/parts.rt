@@ -30,7 +30,7 @@ struct Recording<I> {
 }
 
 impl<I: Read> Recording<I> {
-    fn number(&mut self) -> io::Result<u32> {
+    fn read_u32(&mut self) -> io::Result<u32> {
         let mut bytes = [0; 4];
         fill(&mut self.input, &mut bytes)?;
         Ok(u32::from_le_bytes(bytes))
@@ -69,7 +69,7 @@ impl<I: Read> Recording<I> {
     // Reads a part to `at`, piece by piece, and answers where it ends.
     fn pieces(&mut self, at: usize) -> io::Result<usize> {
         let mut end = at;
-        for _ in 0..self.number()? {
+        for _ in 0..self.read_u32()? {
             end = self.piece(end)?;
         }
         Ok(end)
@@ -77,9 +77,9 @@ impl<I: Read> Recording<I> {
 
     // Reads a part that is stored without a run of zeros, and answers where it ends.
     fn sparse(&mut self) -> io::Result<usize> {
-        let size = self.number()? as usize;
-        let place = self.number()? as usize;
-        let zeros = self.number()? as usize;
+        let size = self.read_u32()? as usize;
+        let place = self.read_u32()? as usize;
+        let zeros = self.read_u32()? as usize;
         self.room.fill(0);
         self.read_to(0, place)?;
         self.read_to(place.saturating_add(zeros), size.saturating_sub(place))?;
@@ -97,7 +97,7 @@ pub fn each_part<I: Read + Drop, R: Replay>(
 ) -> io::Result<()> {
     let room = vec![in alloc; 0u8; longest]?;
     let mut recording = Recording { input, room };
-    let parts = recording.number()?;
+    let parts = recording.read_u32()?;
     let first = recording.pieces(0)?;
     for _ in 1..parts {
         let end = recording.pieces(first)?;
@@ -115,7 +115,7 @@ pub fn each_sparse_part<I: Read + Drop, R: Replay>(
 ) -> io::Result<()> {
     let room = vec![in alloc; 0u8; longest]?;
     let mut recording = Recording { input, room };
-    for _ in 0..recording.number()? {
+    for _ in 0..recording.read_u32()? {
         let end = recording.sparse()?;
         replay.part(molecule::part(&recording.room, 0, end))?;
     }

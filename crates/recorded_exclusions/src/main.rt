@@ -110,9 +110,9 @@ fn is_point(row: &[u8], point: &[u8]) -> bool {
     little_endian::byte(row, 0) == 2 && molecule::part(row, 1, 37) == point
 }
 
-// Whether the rows from k on are those of a list of n out points.
-fn are_points(rows: &[u8], k: usize, list: &[u8], n: usize) -> bool {
-    (0..n).all(|i| {
+// Whether the rows from k on are those of a list of out points.
+fn are_points(rows: &[u8], k: usize, list: &[u8]) -> bool {
+    (0..molecule::fix_count(list) as usize).all(|i| {
         let row = molecule::fix_item(rows, 41, k.saturating_add(i));
         is_point(row, molecule::fix_item(list, 36, i))
     })
@@ -128,7 +128,7 @@ fn is_map(map: &[u8], rows: &[u8]) -> bool {
         if !is_entry(molecule::fix_item(rows, 41, k), rest) {
             return false;
         }
-        if !are_points(rows, k.saturating_add(1), list, n) {
+        if !are_points(rows, k.saturating_add(1), list) {
             return false;
         }
         k = k.saturating_add(1 + n);
@@ -137,7 +137,7 @@ fn is_map(map: &[u8], rows: &[u8]) -> bool {
     k == molecule::fix_count(rows) as usize
 }
 
-#[derive(Drop)]
+#[derive(Debug, Drop, PartialEq, Eq)]
 struct Map {
     bytes: Vec<u8>,
 }

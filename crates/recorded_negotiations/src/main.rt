@@ -126,7 +126,7 @@ fn recorded(alloc: Global, answer: Result<Surplus, Refusal>) -> Result<Vec<u8>, 
 
 // ---- the negotiations
 
-#[derive(Drop)]
+#[derive(Debug, Drop, PartialEq, Eq)]
 struct Negotiations {
     alloc: Global,
     all: u64,

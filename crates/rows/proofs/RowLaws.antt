@@ -1,5 +1,5 @@
 -- Laws of specs/Rows.antt: one for each way out of the functions that read, look for and change rows.
-use Rattle.std.proofs.Common.{Option, Some, None, ◌≡◌, ℕ, ◌+◌, ◌-◌, ◌*◌, ◌%◌, ◌^◌, ◌<◌, ◌≤◌, Bool, true, false, List, ◌++◌, length, take, drop, sym, ap, ◌∙◌, ap₂, le_refl, mul-le-mul, mul-suc, add-one, arith, length-drop, length-take-le, take_all, w32, w64, Fits, le-ltb, lt-ltb, eq-eqb, ne_eqb, le-leb}
+use Rattle.std.proofs.Common.{Option, Some, None, refl, ◌≡◌, ℕ, ◌+◌, ◌-◌, ◌*◌, ◌%◌, ◌^◌, ◌<◌, ◌≤◌, Bool, true, false, List, ◌++◌, length, take, drop, sym, ap, ◌∙◌, ap₂, le_refl, mul-le-mul, mul-suc, add-one, arith, length-drop, length-take-le, take_all, w32, w64, Fits, le-ltb, lt-ltb, eq-eqb, ne_eqb, le-leb}
 use borrow.Author.Tests.{lt-leb}
 use Rattle.std.specs.List.{copy_within}
 use Rattle.arithmetic.specs.LittleEndian.{to_le}
@@ -154,3 +154,6 @@ module _ (k i : ℕ) (s : List ℕ) {n : ℕ} (e : n ≡ fix_count s) where
         let lx : length (take m (drop b s)) ≡ m = length-take-le m (drop b s) (omega (arith, length-drop b s)) in
         let room : a + length (take m (drop b s)) ≤ length s = omega arith in
         et ∙ rw (eo, ← put_yes s a (take m (drop b s)) room, ← e, lt-ltb i n h, le-leb (4 + k * n) (length s) r)
+
+    pub remove_done : 4 + k * n ≤ length s → put_at (copy_within s (4 + k * i + k) (4 + k * n) (4 + k * i)) 0 (to_le 4 (n - 1)) ≡ removed k i s
+    remove_done r = remove-is r (moved_down k i n s h r refl) refl
