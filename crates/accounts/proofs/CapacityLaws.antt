@@ -1,5 +1,5 @@
 -- Laws of the capacity account: the capacity of a cell, and sums of capacities.
-use Rattle.std.proofs.Common.{◌≡◌, ℕ, zero, suc, ◌+◌, ◌-◌, ◌*◌, ◌^◌, ◌<◌, ◌≤◌, List, [], ap, ◌∙◌, refl, arith, zero-add, ltb-true, Fits, w32}
+use Rattle.std.proofs.Common.{◌≡◌, ℕ, zero, suc, ◌+◌, ◌-◌, ◌*◌, ◌^◌, ◌<◌, ◌≤◌, List, ap, ◌∙◌, refl, arith, zero-add, ltb-true, Fits, w32}
 use Rattle.units.specs.declared.{Shannons.Shannons}
 use Rattle.units.specs.Units.{in_shannons, shannon_count, capped_sum}
 use Rattle.units.proofs.CountLaws.{capped_near}

@@ -1,2 +1,1 @@
 pub mod AccountLaws
-pub mod Ways

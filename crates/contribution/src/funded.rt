@@ -1,9 +1,9 @@
 // A transaction with its outputs and their data, and what stands at output 0.
-ghost use Rattle.std.specs.Prelude.{◌≡◌};
+ghost use Rattle.std.specs.Prelude.{◌≡◌, ◌&&◌, not};
 ghost use Rattle.units.specs.Units.{shannon_count};
 ghost use Rattle.transaction.specs.Tx.{tx_at, raw_field};
 ghost use Rattle.rules.specs.Cells.{cells};
-ghost use Rattle.rules.specs.Surplus.{first, capacity_of};
+ghost use Rattle.rules.specs.Surplus.{first, capacity_of, is_empty};
 ghost use Rattle.rules.specs.Judge.{unfunded};
 ghost use Rattle.contribution.specs.Answers.{amount, first_amount};
 
@@ -51,6 +51,13 @@ impl<'a> Funded<'a> {
         }
         let d = molecule::entry(self.entries, 0);
         accounts::read_udt_amount(d)
+    }
+
+    // Whether output 0 and its data are there.
+    pub(crate) fn has_first(self) -> bool
+        ensures { result ≡ not (is_empty (tx_at self.entry.tx.now).outputs) && not (is_empty (tx_at self.entry.tx.now).outputs_data) }
+    {
+        molecule::item_count(self.outputs) != 0 && molecule::item_count(self.entries) != 0
     }
 
     // Whether there are no inputs and no outputs.

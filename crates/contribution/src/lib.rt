@@ -1,5 +1,5 @@
 // What the peer put in: the growth of output 0, the cells that its inputs spend, and the outputs that it added.
-#![tactic(auto, using(crate::proofs::Ways::ways))]
+#![tactic(auto)]
 
 mod funded;
 
@@ -25,74 +25,74 @@ struct Growth {
     token: Tokens,
 }
 
-// By how many tokens output 0 grows: 5 where an amount can't be read, or it falls.
-fn token_delta(ours: Funded<'_>, peer: Funded<'_>) -> Result<Tokens, Refusal>
-    ensures { told_by token_count result ≡ token_delta (tx_at ours.entry.tx.now) (tx_at peer.entry.tx.now) }
-{
-    let a = ours.first_amount().ok_or(Refusal::InvalidPeerFundingTx)?;
-    let b = peer.first_amount().ok_or(Refusal::InvalidPeerFundingTx)?;
-    b.checked_sub(a).ok_or(Refusal::InvalidPeerFundingTx)
+// Our transaction and the peer's, and the token type that is expected (empty for none).
+#[derive(Clone, Copy, Debug, PartialEq, Eq)]
+struct Both<'a> {
+    ours: Funded<'a>,
+    peer: Funded<'a>,
+    udt: &'a [u8],
 }
 
-// How much it grows: it and its data are there, and neither figure falls.
-fn funding_output_delta(ours: Funded<'_>, peer: Funded<'_>, udt: &[u8]) -> Result<Growth, Refusal>
-    ensures { delta result ≡ funding_output_delta udt.now (tx_at ours.entry.tx.now) (tx_at peer.entry.tx.now) }
-{
-    if molecule::item_count(peer.outputs) == 0 || molecule::item_count(peer.entries) == 0 {
-        return Err(Refusal::InvalidPeerFundingTx);
+impl Both<'_> {
+    // By how many tokens output 0 grows: 5 where an amount can't be read, or it falls.
+    fn token_delta(self) -> Result<Tokens, Refusal>
+        ensures { told_by token_count result ≡ token_delta (tx_at self.entry.ours.tx.now) (tx_at self.entry.peer.tx.now) }
+    {
+        let a = self
+            .ours
+            .first_amount()
+            .ok_or(Refusal::InvalidPeerFundingTx)?;
+        let b = self
+            .peer
+            .first_amount()
+            .ok_or(Refusal::InvalidPeerFundingTx)?;
+        b.checked_sub(a).ok_or(Refusal::InvalidPeerFundingTx)
     }
-    let a = ours.first_capacity();
-    let b = peer.first_capacity();
-    let capacity = b.checked_sub(a).ok_or(Refusal::InvalidPeerFundingTx)?;
-    if udt.is_empty() {
-        return Ok(Growth {
-            capacity,
-            token: Tokens::ZERO,
-        });
+
+    // How much it grows: it and its data are there, and neither figure falls.
+    fn funding_output_delta(self) -> Result<Growth, Refusal>
+        ensures { delta result ≡ funding_output_delta self.entry.udt.now (tx_at self.entry.ours.tx.now) (tx_at self.entry.peer.tx.now) }
+    {
+        if !self.peer.has_first() {
+            return Err(Refusal::InvalidPeerFundingTx);
+        }
+        let a = self.ours.first_capacity();
+        let b = self.peer.first_capacity();
+        let capacity = b.checked_sub(a).ok_or(Refusal::InvalidPeerFundingTx)?;
+        if self.udt.is_empty() {
+            return Ok(Growth {
+                capacity,
+                token: Tokens::ZERO,
+            });
+        }
+        let token = self.token_delta()?;
+        Ok(Growth { capacity, token })
     }
-    let token = token_delta(ours, peer)?;
-    Ok(Growth { capacity, token })
-}
 
-// The account of an update in which output 0 has grown by so much: what is left of what the records brought in over the growth and the outputs that the peer
-// added, in capacity and in tokens.
-fn account(
-    ours: Funded<'_>,
-    peer: Funded<'_>,
-    udt: &[u8],
-    rate: u64,
-    brought: Brought,
-    growth: Growth,
-) -> Update
-    ensures { told result ≡ accounts_over udt.now (unfunded (tx_at ours.entry.tx.now)) (shannon_count brought.capacity) (told_by token_count brought.token) (added (tx_at ours.entry.tx.now) (tx_at peer.entry.tx.now)) rate (length peer.entry.tx.now + 4) (shannon_count growth.capacity) (token_count growth.token) }
-{
-    let opening = ours.is_unfunded();
-    let size = limits::serialized_size_in_block(peer.tx);
-    let added = Added {
-        outputs: peer.outputs,
-        entries: peer.entries,
-        first: accounts::added_peer_outputs(ours.outputs),
-    };
-    let capacity = capacity::surplus(
-        opening,
-        brought.capacity,
-        growth.capacity,
-        added,
-        rate,
-        size,
-    )?;
-    let token = token::surplus(udt, brought.token, growth.token, added)?;
-    Ok(Surplus { capacity, token })
-}
-
-// The growth of output 0, and then the account.
-fn contribution(ours: &[u8], peer: &[u8], udt: &[u8], rate: u64, brought: Brought) -> Update
-    ensures { told result ≡ contributed udt.now (tx_at ours.now) (tx_at peer.now) (shannon_count brought.capacity) (told_by token_count brought.token) rate (length peer.now + 4) }
-{
-    let ours = Funded::of(ours);
-    let peer = Funded::of(peer);
-    let growth = funding_output_delta(ours, peer, udt)?;
-    account(ours, peer, udt, rate, brought, growth)
+    // The account of an update in which output 0 has grown by so much: what is left of what the records brought in over the growth and the outputs that the peer
+    // added, in capacity and in tokens.
+    fn account(self, rate: u64, brought: Brought, growth: Growth) -> Update
+        ensures { told result ≡ accounts_over self.entry.udt.now (unfunded (tx_at self.entry.ours.tx.now)) (shannon_count brought.capacity) (told_by token_count brought.token) (added (tx_at self.entry.ours.tx.now) (tx_at self.entry.peer.tx.now)) rate (length self.entry.peer.tx.now + 4) (shannon_count growth.capacity) (token_count growth.token) }
+    {
+        let Both { ours, peer, udt } = self;
+        let opening = ours.is_unfunded();
+        let size = limits::serialized_size_in_block(peer.tx);
+        let added = Added {
+            outputs: peer.outputs,
+            entries: peer.entries,
+            first: accounts::added_peer_outputs(ours.outputs),
+        };
+        let capacity = capacity::surplus(
+            opening,
+            brought.capacity,
+            growth.capacity,
+            added,
+            rate,
+            size,
+        )?;
+        let token = token::surplus(udt, brought.token, growth.token, added)?;
+        Ok(Surplus { capacity, token })
+    }
 }
 
 // What is left of what the records brought in, in capacity and in tokens, over the growth of output 0 and the outputs that the peer added; where ours is still
@@ -107,8 +107,11 @@ pub fn verify_peer_funding_contribution(
     ensures { told result ≡ contributed udt.now (tx_at ours.now) (tx_at peer.now) (shannon_count brought.capacity) (told_by token_count brought.token) rate (length peer.now + 4) }
 {
     // taken anew, a slice comes in as its two words, and not by way of memory
-    let ours = &ours[0..ours.len()];
-    let peer = &peer[0..peer.len()];
-    let udt = &udt[0..udt.len()];
-    contribution(ours, peer, udt, rate, brought)
+    let both = Both {
+        ours: Funded::of(&ours[0..ours.len()]),
+        peer: Funded::of(&peer[0..peer.len()]),
+        udt: &udt[0..udt.len()],
+    };
+    let growth = both.funding_output_delta()?;
+    both.account(rate, brought, growth)
 }

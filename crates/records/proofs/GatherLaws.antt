@@ -1,5 +1,5 @@
 -- Laws of the walk over the records, one for each way out of it.
-use Rattle.std.proofs.Common.{Result, Ok, Err}
+use Rattle.std.proofs.Common.{Result, Ok}
 use mathlib.Core.Path.{◌≡◌, refl, sym, ap, ap₂, ◌∙◌}
 use Prim.Native.Nat.{ℕ, zero, suc, ◌+◌, ◌-◌, ◌^◌, ◌≤◌, ◌<◌}
 use mathlib.Core.List.{List, [], ◌∷◌}
@@ -32,7 +32,6 @@ use Rattle.error.specs.Refusal.{number, values}
 use Rattle.rules.specs.Told.{refusal, told_by}
 use Rattle.accounts.specs.Paid.{and_cell}
 use Rattle.accounts.proofs.CapacityLaws.{Sums, sums-more, sums-end}
-use Rattle.accounts.specs.declared.Brought as accounts
 use Rattle.records.specs.Resolved.{brought_by, gathered, or_unreadable}
 
 -- ---- the cells of records that are all live

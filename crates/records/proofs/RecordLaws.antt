@@ -1,6 +1,6 @@
 -- Laws of what the records bring in, one for each way out of the functions but the walk.
 use Rattle.rules.specs.Told.{refusal, told_by}
-use Rattle.std.proofs.Common.{Result, Ok, Err}
+use Rattle.std.proofs.Common.{Result}
 use mathlib.Core.Path.{◌≡◌, refl, sym, ap, ap₂, ◌∙◌}
 use Prim.Native.Nat.{ℕ, ◌+◌, ◌-◌, ◌<◌}
 use mathlib.Core.List.{List}

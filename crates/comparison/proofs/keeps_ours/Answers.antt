@@ -1,4 +1,4 @@
-use Rattle.std.proofs.Common.{rules, List, ℕ, Bool, drop}
+use Rattle.std.proofs.Common.{rules, drop}
 use Rattle.molecule.specs.Layout.{items_of, entries_of}
 use Rattle.lists.specs.Lists.{extends}
 use Rattle.comparison.proofs.ComparisonLaws.{headers-on, inputs_on, outputs-kept, data_kept, differs_funding, differs_version, opens, differs_deps, differs_headers, differs_inputs, differs_outputs, differs_data}

@@ -1,4 +1,3 @@
-use Rattle.std.proofs.Common.{◌-◌}
 use Rattle.records.proofs.GatherLaws.{Gathering}
 use Rattle.records.proofs.gather.Given as goal
 

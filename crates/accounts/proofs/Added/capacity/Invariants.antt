@@ -1,4 +1,3 @@
-use Rattle.std.proofs.Common.{◌-◌}
 use Rattle.rules.specs.Surplus.{total, capacity_of}
 use Rattle.accounts.specs.Added.{cell_in, added_cells}
 use Rattle.accounts.proofs.CapacityLaws.{Sums}

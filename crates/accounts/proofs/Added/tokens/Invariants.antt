@@ -1,4 +1,3 @@
-use Rattle.std.proofs.Common.{◌-◌}
 use Rattle.rules.specs.Judge.{tally}
 use Rattle.accounts.specs.Added.{cell_in, added_cells}
 use Rattle.accounts.proofs.TokenLaws.{Tally}

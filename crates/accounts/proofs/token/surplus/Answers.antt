@@ -3,7 +3,6 @@ use Rattle.std.proofs.lemmas.Grind.{common_steps}
 use Rattle.rules.specs.Outcome.{◌>>=◌}
 use Rattle.rules.specs.Surplus.{is_empty}
 use Rattle.accounts.specs.Paid.{tokens_left}
-use Rattle.rules.proofs.CellLaws.{empty-is}
 use Rattle.accounts.proofs.token.surplus.Goals as goal
 
 pub returns-then-is_empty : goal.returns-then-is_empty

@@ -1,7 +1,6 @@
 use Rattle.std.proofs.Common.{rules, length}
 use Rattle.lists.proofs.LoopLaws.{among_more, among_stop}
 use Rattle.item_lookup.proofs.AllLaws.{found}
-use Rattle.item_lookup.proofs.Ways.{ways}
 use Rattle.item_lookup.proofs.Search.index_all.Goals as goal
 
 pub returns-then-not-has : goal.returns-then-not-has

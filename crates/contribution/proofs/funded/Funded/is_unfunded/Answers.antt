@@ -1,8 +1,7 @@
 use Rattle.std.proofs.Common.{arith}
 use Rattle.std.proofs.lemmas.Grind.{common_steps}
-use Rattle.molecule.specs.Layout.{fix_count, item_count, fix_item, item_of}
 use Rattle.molecule.proofs.Offsets.{span-length}
-use Rattle.transaction.specs.Tx.{tx_at, raw_field}
+use Rattle.transaction.specs.Tx.{tx_at}
 use Rattle.rules.proofs.CellLaws.{empty-is}
 use Rattle.contribution.proofs.funded.Funded.is_unfunded.Goals as goal
 

@@ -5,7 +5,7 @@ use Rattle.error.specs.Refusal.{number, values}
 use Rattle.rules.specs.Outcome.{check, check_with, ◌>>◌}
 use Rattle.rules.specs.Judge.{token_delta}
 use Rattle.contribution.specs.Answers.{first_amount}
-use Rattle.contribution.proofs.token_delta.Goals as goal
+use Rattle.contribution.proofs.Both.token_delta.Goals as goal
 
 pub returns-in_err-a : goal.returns-in_err-a
 unfolding token_delta first_amount check check_with ◌>>◌ number values

@@ -3,22 +3,22 @@ use Rattle.std.proofs.lemmas.Grind.{common_steps}
 use Rattle.rules.specs.Outcome.{◌>>=◌}
 use Rattle.contribution.specs.Contributed.{accounts_over}
 use Rattle.contribution.proofs.AccountLaws.{added-from}
-use Rattle.contribution.proofs.account.Goals as goal
+use Rattle.contribution.proofs.Both.account.Goals as goal
 
 pub returns-in_err-capacity : goal.returns-in_err-capacity
 unfolding accounts_over ◌>>=◌
 returns-in_err-capacity c =
-    let k = added-from _ _ c.args.ours.outputs_are c.args.peer.outputs_are c.args.peer.entries_are c.added_peer_outputs.ensures in
+    let k = added-from _ _ c.args.self.ours.outputs_are c.args.self.peer.outputs_are c.args.self.peer.entries_are c.added_peer_outputs.ensures in
     grind (arith, common_steps, k)
 
 pub returns-in_err-token : goal.returns-in_err-token
 unfolding accounts_over ◌>>=◌
 returns-in_err-token c =
-    let k = added-from _ _ c.args.ours.outputs_are c.args.peer.outputs_are c.args.peer.entries_are c.added_peer_outputs.ensures in
+    let k = added-from _ _ c.args.self.ours.outputs_are c.args.self.peer.outputs_are c.args.self.peer.entries_are c.added_peer_outputs.ensures in
     grind (arith, common_steps, k)
 
 pub returns : goal.returns
 unfolding accounts_over ◌>>=◌
 returns c =
-    let k = added-from _ _ c.args.ours.outputs_are c.args.peer.outputs_are c.args.peer.entries_are c.added_peer_outputs.ensures in
+    let k = added-from _ _ c.args.self.ours.outputs_are c.args.self.peer.outputs_are c.args.self.peer.entries_are c.added_peer_outputs.ensures in
     grind (arith, common_steps, k)
