@@ -17,6 +17,8 @@ use Rattle.std.specs.Prelude.{Option, Some, nat_eq}
 use Rattle.std.specs.Option.{option_eq}
 use Rattle.std.specs.List.{position}
 use Rattle.std.proofs.Common.{length-take-le}
+use Rattle.std.proofs.Math.Logic.{∥∥₁_elim}
+use Rattle.std.proofs.Props.{props}
 use Rattle.molecule.proofs.Offsets.{span-length}
 use Rattle.item_index.specs.Index.{Index, key_of, place_in}
 use Rattle.item_index.proofs.FindLaws.{index_front, position_eq}
@@ -112,21 +114,18 @@ lock-is (b ∷ c) x e t {r} f = f ∙ by (eq_bytes x (b ∷ c))
 
 -- a list by its index
 module _ (list s x : List ℕ) (o : Listed list s) where
-  listed_index : Index (key_of list 37 0) (length s) s
-  listed_index = o.index
-
   pub has_is : {r : Bool} → (Index (key_of list 37 0) (length s) s → r ≡ contains x (span (key_of list 37 0) 0 (length s))) → r ≡ contains x (span (fix_item list 37) 0 (fix_count list))
   unfolding key_of
-  has_is h = h o.index ∙ ap (λ (v : ℕ). contains x (span (fix_item list 37) 0 v)) o.long
+  has_is h = ∥∥₁_elim o.index (Prim.hlevel props) (λ k. h k) ∙ ap (λ (v : ℕ). contains x (span (fix_item list 37) 0 v)) o.long
 
   pub first_is : (i : ℕ) → i < fix_count list → {p : Option ℕ} → (Index (key_of list 37 0) (length s) s → p ≡ position (eq_bytes x) (span (key_of list 37 0) 0 (length s)))
       → {r : Bool} → r ≡ option_eq nat_eq p (Some i) → r ≡ eqb (place_in x (span (fix_item list 37) 0 (fix_count list))) i
   unfolding key_of
-  first_is i h q e = e ∙ ap (λ (t : Option ℕ). option_eq nat_eq t (Some i)) (q o.index ∙ ap (λ (v : ℕ). position (eq_bytes x) (span (fix_item list 37) 0 v)) o.long)
+  first_is i h q e = e ∙ ap (λ (t : Option ℕ). option_eq nat_eq t (Some i)) (∥∥₁_elim o.index (Prim.hlevel props) (λ k. q k) ∙ ap (λ (v : ℕ). position (eq_bytes x) (span (fix_item list 37) 0 v)) o.long)
       ∙ position_eq x (span (fix_item list 37) 0 (fix_count list)) i (rw span-length h)
 
 pub listed_made : (list : List ℕ) (p q : ℕ) (s : List ℕ) {n : ℕ} → n ≡ fix_count list → (n ≤ p → n ≤ q → Index (key_of list 37 0) n s) → n ≤ p → n ≤ q → n ≤ length s → Listed list (take n s)
-listed_made list p q s e h l m r = record { long = length-take-le _ s r ∙ e; index = index_front (h l m) }
+listed_made list p q s e h l m r = record { long = length-take-le _ s r ∙ e; index = ∣ index_front (h l m) ∣₁ }
 
 module _ (c d x : List ℕ) (i : ℕ) {n : ℕ} (en : n ≡ any_count c) where
   pub last_first : i < n → n ≤ 1 → true ≡ not (contains x (span (last_dep_at c d) 0 i))

@@ -1,2 +1,3 @@
 pub mod Chosen
 pub mod Listed
+pub mod Indexed

@@ -2,22 +2,19 @@
 #![tactic(auto, using(crate::proofs::Ways::ways))]
 
 mod in_turn;
+mod indexed;
 
-ghost use Rattle.std.specs.Prelude.{◌≡◌, not, eqb, ◌≤◌, ◌<◌, min, length};
-ghost use Rattle.molecule.specs.Layout.{span, fix_count, fix_item};
+ghost use Rattle.std.specs.Prelude.{◌≡◌, not, ◌≤◌, ◌<◌, min, length};
+ghost use Rattle.molecule.specs.Layout.{span};
 ghost use Rattle.lists.specs.Lists.{contains};
-ghost use Rattle.item_index.specs.Index.{place_in};
 ghost use Rattle.cell_deps.specs.CellDeps.{any_count};
 ghost use Rattle.cell_deps.specs.DepLists.{dep_of, count_of};
 ghost use Rattle.distinct_deps.specs.Chosen.{ChoosesOf};
-ghost use Rattle.distinct_deps.specs.Listed.{Listed, AllListed};
+ghost use Rattle.distinct_deps.specs.Indexed.{lists_in};
 
 use cell_deps::{DepLists, any_count};
 use in_turn::choose_in_turn;
-use item_index::Keys;
-
-// How many bytes a cell dep has: an out point and the dep type.
-const CELL_DEP_BYTES: u32 = 37;
+use indexed::Indexed;
 
 // For how many places of each list there is room. So many deps are put in order at once.
 const ROOM: usize = 3600;
@@ -32,97 +29,61 @@ fn is_lock(lock: &[u8], x: &[u8]) -> bool
     !lock.is_empty() && lists::same(x, lock)
 }
 
-// Whether x is in a list of deps, of which s is the index.
-fn is_in(list: &[u8], s: &[u32], x: &[u8]) -> bool
-    requires { Listed list.now s.now }
-    ensures { result ≡ contains x.now (span (fix_item list.now 37) 0 (fix_count list.now)) }
-{
-    let keys = Keys {
-        items: list,
-        size: CELL_DEP_BYTES,
-        skip: 0,
-    };
-    keys.has(s, x)
-}
-
-// Whether x first stands at place i in such a list.
-fn is_first(list: &[u8], s: &[u32], i: usize, x: &[u8]) -> bool
-    requires listed { Listed list.now s.now }
-    requires i_bound { i < fix_count list.now }
-    ensures { result ≡ eqb (place_in x.now (span (fix_item list.now 37) 0 (fix_count list.now))) i }
-{
-    let keys = Keys {
-        items: list,
-        size: CELL_DEP_BYTES,
-        skip: 0,
-    };
-    keys.place_of(s, x) == Some(i)
-}
-
-// Makes the index of a list of deps, at the start of `room`.
-fn index_list<'a>(list: &[u8], room: &'a mut [u32]) -> &'a [u32]
-    requires list_bound { fix_count list.now ≤ 3600 }
-    requires list_in_bounds { fix_count list.now ≤ length room.old }
-    ensures { Listed list.now result.now }
-{
-    let mut work = [0u32; ROOM];
-    let keys = Keys {
-        items: list,
-        size: CELL_DEP_BYTES,
-        skip: 0,
-    };
-    let n = molecule::fix_count(list);
-    keys.build(n, room, &mut work);
-    &room[..n as usize]
-}
-
-// The four lists, with the indexes of the three that have more than one dep.
+// The four lists, three of them with an index: the lock's has one dep at most.
 #[derive(Clone, Copy)]
-struct Indexed<'a> {
-    lists: DepLists<'a>,
-    present: &'a [u32],
-    udt: &'a [u32],
-    extra: &'a [u32],
+struct IndexedLists<'a> {
+    present: Indexed<'a>,
+    udt: Indexed<'a>,
+    lock: &'a [u8],
+    extra: Indexed<'a>,
 }
 
-impl<'a> Indexed<'a> {
+impl<'a> IndexedLists<'a> {
+    fn lists(self) -> DepLists<'a>
+        ensures { result ≡ lists_in self.entry }
+    {
+        DepLists {
+            present: self.present.list,
+            udt: self.udt.list,
+            lock: self.lock,
+            extra: self.extra.list,
+        }
+    }
+
     // Whether the dep at place i stands nowhere before.
     fn is_new(self, i: usize) -> bool
-        requires listed { AllListed self }
-        requires i_bound { i < count_of self.lists }
-        ensures { result ≡ not (contains (dep_of self.entry.lists i) (span (dep_of self.entry.lists) 0 i)) }
+        requires { i < count_of (lists_in self) }
+        ensures { result ≡ not (contains (dep_of (lists_in self.entry) i) (span (dep_of (lists_in self.entry)) 0 i)) }
     {
-        let lists = self.lists;
-        let x = lists.dep_at(i);
-        let Some(own) = i.checked_sub(molecule::fix_count(lists.present) as usize) else {
-            return is_first(lists.present, self.present, i, x);
+        let x = self.lists().dep_at(i);
+        let Some(own) = i.checked_sub(molecule::fix_count(self.present.list) as usize) else {
+            return self.present.is_first(i, x);
         };
-        if is_in(lists.present, self.present, x) {
+        if self.present.has(x) {
             return false;
         }
-        let Some(last) = own.checked_sub(molecule::fix_count(lists.udt) as usize) else {
-            return is_first(lists.udt, self.udt, own, x);
+        let Some(last) = own.checked_sub(molecule::fix_count(self.udt.list) as usize) else {
+            return self.udt.is_first(own, x);
         };
-        if is_in(lists.udt, self.udt, x) {
+        if self.udt.has(x) {
             return false;
         }
-        let Some(extra) = last.checked_sub(any_count(lists.lock)) else {
+        let Some(extra) = last.checked_sub(any_count(self.lock)) else {
             return true;
         };
-        if is_lock(lists.lock, x) {
+        if is_lock(self.lock, x) {
             return false;
         }
-        is_first(lists.extra, self.extra, extra, x)
+        self.extra.is_first(extra, x)
     }
 
     // Puts the places of the new deps, in their order, and returns how many there are, or nothing where there are more than `room`.
     fn gather(self, places: &mut [usize], room: usize) -> Option<usize>
-        requires listed { AllListed self }
-        requires room_in_bounds { room ≤ length places.old }
-        ensures { ChoosesOf self.entry.lists room places.new result }
+        requires { room ≤ length places.old }
+        ensures { ChoosesOf (lists_in self.entry) room places.new result }
     {
         let mut count = 0;
-        for i in 0..self.lists.dep_count() {
+        for i in 0..self.lists().dep_count() {
             if self.is_new(i) {
                 if room <= count {
                     return None;
@@ -144,11 +105,11 @@ fn choose_indexed(lists: DepLists<'_>, places: &mut [usize], room: usize) -> Opt
     let mut present = [0u32; ROOM];
     let mut udt = [0u32; ROOM];
     let mut extra = [0u32; ROOM];
-    let indexed = Indexed {
-        lists,
-        present: index_list(lists.present, &mut present),
-        udt: index_list(lists.udt, &mut udt),
-        extra: index_list(lists.extra, &mut extra),
+    let indexed = IndexedLists {
+        present: Indexed::of(lists.present, &mut present),
+        udt: Indexed::of(lists.udt, &mut udt),
+        lock: lists.lock,
+        extra: Indexed::of(lists.extra, &mut extra),
     };
     indexed.gather(places, room)
 }

@@ -32,14 +32,7 @@ type Told<T> = Result<T, u8>;
 struct Request<'a> {
     figures: FundingRequest,
     room: usize,
-    ours: &'a [u8],
-    lock: &'a [u8],
-    udt: &'a [u8],
-    source: &'a [u8],
-    cells: &'a [u8],
-    udt_deps: &'a [u8],
-    lock_dep: &'a [u8],
-    extra_deps: &'a [u8],
+    lent: Lent<'a>,
     number: u8,
     base: Told<usize>,
     transaction: &'a [u8],
@@ -85,14 +78,16 @@ impl<'a> From<&'a [u8]> for Request<'a> {
                 remote_reserved_ckb_amount: shannons_at(head, 44),
             },
             room: little_endian::u32_at(head, 52) as usize,
-            ours: molecule::field(call, 11, 1),
-            lock: molecule::field(call, 11, 2),
-            udt: molecule::field(call, 11, 3),
-            source: molecule::field(call, 11, 4),
-            cells: molecule::field(call, 11, 5),
-            udt_deps: molecule::field(call, 11, 6),
-            lock_dep: molecule::field(call, 11, 7),
-            extra_deps: molecule::field(call, 11, 8),
+            lent: Lent {
+                ours: molecule::field(call, 11, 1),
+                lock: molecule::field(call, 11, 2),
+                udt: molecule::field(call, 11, 3),
+                source: molecule::field(call, 11, 4),
+                cells: molecule::field(call, 11, 5),
+                udt_deps: molecule::field(call, 11, 6),
+                lock_dep: molecule::field(call, 11, 7),
+                extra_deps: molecule::field(call, 11, 8),
+            },
             number,
             base: told(number, transaction.len()),
             transaction,
@@ -106,32 +101,21 @@ impl<'a> From<&'a [u8]> for Request<'a> {
 // ---- what the library answers
 
 fn build_base(r: &Request<'_>, out: &mut [u8]) -> Told<usize> {
-    let lent = Lent {
-        ours: r.ours,
-        lock: r.lock,
-        udt: r.udt,
-        source: r.source,
-        cells: r.cells,
-        udt_deps: r.udt_deps,
-        lock_dep: r.lock_dep,
-        extra_deps: r.extra_deps,
-    };
-    funding_builder::build_base(&lent, r.figures, out).map_err(|e| e.number())
+    funding_builder::build_base(&r.lent, r.figures, out).map_err(|e| e.number())
 }
 
 fn build_cell(r: &Request<'_>) -> Told<(u128, u128)> {
-    match funding_cell::build_funding_cell(r.ours, r.udt, r.figures) {
-        Ok(cell) => Ok((cell.capacity.0, cell.token.0)),
-        Err(e) => Err(e.number()),
-    }
+    funding_cell::build_funding_cell(r.lent.ours, r.lent.udt, r.figures)
+        .map(|cell| (cell.capacity.0, cell.token.0))
+        .map_err(|e| e.number())
 }
 
 fn build_pick(r: &Request<'_>, out: &mut [u8]) -> Told<(usize, u128, u128)> {
+    let lent = r.lent;
     let wanted = Tokens(r.figures.local_amount);
-    match udt_cells::build_udt_inputs_outputs(r.cells, r.udt, r.source, wanted, out) {
-        Ok(built) => Ok((built.taken, built.change.0, built.capacity.0)),
-        Err(e) => Err(e.number()),
-    }
+    udt_cells::build_udt_inputs_outputs(lent.cells, lent.udt, lent.source, wanted, out)
+        .map(|built| (built.taken, built.change.0, built.capacity.0))
+        .map_err(|e| e.number())
 }
 
 // ---- what it comes to
@@ -148,7 +132,7 @@ fn is_right(r: &Request<'_>, alloc: Global) -> Result<bool, AllocError> {
     )
 }
 
-#[derive(Drop)]
+#[derive(Debug, Drop, PartialEq, Eq)]
 struct Requests {
     alloc: Global,
     by_number: Tallies<NUMBERS>,

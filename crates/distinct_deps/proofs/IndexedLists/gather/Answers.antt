@@ -1,7 +1,7 @@
-use Rattle.distinct_deps.proofs.DistinctLaws.{gather_old, gather_new}
+use Rattle.distinct_deps.proofs.DistinctLaws.{gather_start, gather_old, gather_new}
 use Rattle.distinct_deps.proofs.Ways.{ways}
-use Rattle.distinct_deps.proofs.Indexed.gather.Goals as goal
-use Rattle.distinct_deps.proofs.Indexed.gather.Goals.{then-is_new+else-room-count, else-is_new}
+use Rattle.distinct_deps.proofs.IndexedLists.gather.Goals as goal
+use Rattle.distinct_deps.proofs.IndexedLists.gather.Goals.{then-is_new+else-room-count, else-is_new}
 
 pub loop-i-preserved : goal.loop-i-preserved
 loop-i-preserved c =
@@ -12,7 +12,7 @@ loop-i-preserved c =
     ]
 
 pub loop-i-init : goal.loop-i-init
-loop-i-init c = search ways
+loop-i-init c = gather_start _ _ _ _ _ (rw c.lists.ensures at c.dep_count-i-end.ensures) c.requires
 
 pub returns-then-room-count : goal.returns-then-room-count
 returns-then-room-count c = search ways

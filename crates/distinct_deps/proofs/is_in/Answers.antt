@@ -1,5 +1,0 @@
-use Rattle.distinct_deps.proofs.Ways.{ways}
-use Rattle.distinct_deps.proofs.is_in.Goals as goal
-
-pub returns : goal.returns
-returns c = search ways

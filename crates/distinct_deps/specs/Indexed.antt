@@ -1,0 +1,6 @@
+-- The four lists of deps, as the code holds them with their indexes.
+use Rattle.cell_deps.specs.declared.DepLists.{DepLists}
+use Rattle.distinct_deps.specs.declared.IndexedLists.{IndexedLists}
+
+abbrev pub lists_in : IndexedLists → DepLists
+lists_in d = record { present = d.present.list; udt = d.udt.list; lock = d.lock; extra = d.extra.list }
