@@ -9,6 +9,7 @@ use lib.Seq.{take-nil}
 use Rattle.arithmetic.specs.LittleEndian.{u32_at}
 use Rattle.molecule.specs.Partial.{only, pick}
 use Rattle.molecule.specs.Layout.{part}
+use Rattle.molecule.proofs.TestLaws.{both_ways}
 use Rattle.case_file.specs.CaseFile.{kind_at, length_at, body_end, item_end, body_at, all_zero, item_at}
 
 -- ---- words
@@ -23,21 +24,12 @@ length-is s at = refl
 
 -- ---- bodies
 
-pub part-empty : (s : List ℕ) → part s 0 0 ≡ []
-unfolding part
-part-empty [] = refl
-part-empty (b ∷ s) = refl
-
 part_past : (s : List ℕ) (from to : ℕ) → length s ≤ from → part s from to ≡ []
 unfolding part
 part_past s from to h = rw (drop_of_length-le s h) (take-nil (to - from))
 
 pub body_past : (s : List ℕ) (at : ℕ) → length s < at → body_at s at ≡ []
 body_past s at h = part_past s (at + 4) (body_end s at) (omega arith)
-
-pub part_short : (s : List ℕ) (from to : ℕ) → length (part s from to) ≤ length s
-unfolding part
-part_short s from to = simp (length-take, length-drop) (omega arith)
 
 -- ---- padding
 
@@ -60,13 +52,8 @@ unfolding all_zero pick
 each-zeros [] h = refl
 each-zeros (b ∷ s) h = rw (eq-eqb b 0 (h 0 (omega arith))) (each-zeros s (λ k l. h (suc k) (omega arith)))
 
-same : (b t : Bool) → (b ≡ true → t ≡ true) → (t ≡ true → b ≡ true) → b ≡ t
-same true t f g = sym (f refl)
-same false true f g = g refl
-same false false f g = refl
-
 pub zeros-is : (s : List ℕ) (b : Bool) → (IsTrue b ↔ EachIndex s (λ k. slice_index s k ≡ 0)) → b ≡ all_zero s
-zeros-is s b h = same b (all_zero s) (λ e. each-zeros s (h.0 e)) (λ e. h.1 (zeros-each s e))
+zeros-is s b h = both_ways b (all_zero s) (λ e. each-zeros s (h.0 e)) (λ e. h.1 (zeros-each s e))
 
 -- ---- whether an item is there
 

@@ -15,7 +15,7 @@ use Rattle.molecule.proofs.ItemsLaws.{length-join, unwords_length, length-offset
 use Rattle.molecule.proofs.WriteLaws.{did, none, then, and_put, as_bytes, length-kept}
 use Rattle.case_file.specs.CaseFile.{kind_at, body_at, item_at}
 use Rattle.case_file.specs.Walk.{end_of, body_there, entry_at, next_at, cell_bytes, walk}
-use Rattle.case_file.proofs.RecordLaws.{cell-length}
+use Rattle.case_file.proofs.RecordLaws.{entry-none, cell-length}
 
 -- ---- a cell
 
@@ -48,10 +48,6 @@ module _ (out : List ℕ) (at : ℕ) (o d : List ℕ) {o₁ o₂ o₃ o₄ : Lis
       as_bytes (cell_runs o d) (and_put d p₃ e₄ f₄ (simp length-append (omega arith)))
 
 -- ---- a record
-
-pub entry-none : (s : List ℕ) (at : ℕ) → eqb (kind_at s at) 9 ≡ true → entry_at s at ≡ []
-unfolding entry_at pick
-entry-none s at h = rw h
 
 pub entry-cell : (s : List ℕ) (at : ℕ) → eqb (kind_at s at) 9 ≡ false → entry_at s at ≡ cell_bytes (body_at s at) (body_there s (end_of (item_at s 7 at)))
 unfolding entry_at pick

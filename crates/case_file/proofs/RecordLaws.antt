@@ -114,9 +114,9 @@ next-is {A} e = ap (λ (x : Read A). x.next) (some-injective _ _ e)
 got-is : {A : Type 0} {r : Read A} {g : A} {n : ℕ} → some r ≡ some (record { got = g; next = n }) → r.got ≡ g
 got-is {A} e = ap (λ (x : Read A). x.got) (some-injective _ _ e)
 
-dead_bytes : (s : List ℕ) (at : ℕ) → eqb (kind_at s at) 9 ≡ true → entry_at s at ≡ []
+pub entry-none : (s : List ℕ) (at : ℕ) → eqb (kind_at s at) 9 ≡ true → entry_at s at ≡ []
 unfolding entry_at pick
-dead_bytes s at k = rw k
+entry-none s at k = rw k
 
 dead_entry : (s : List ℕ) (at : ℕ) {r : Read (Option Cell)} → eqb (kind_at s at) 9 ≡ true → dead_at s at ≡ some r → Entry s at r
 unfolding dead_at record_bytes
@@ -128,12 +128,12 @@ dead_entry s at {r} k e =
     let m : r.next ≡ x.next = next-is (sym e₃) in
     let g : r.got ≡ none = got-is (sym e₃) in
     let q : x.next ≡ item_end s at = ap (λ (y : Read (List ℕ)). y.next) f.gives in
-    let z : length (entry_at s at) ≡ 0 = ap length (dead_bytes s at k) in
+    let z : length (entry_at s at) ≡ 0 = ap length (entry-none s at k) in
     let h = f.room in
     record {
       forth = omega arith;
       within = omega arith;
-      bytes = rw (g, dead_bytes s at k);
+      bytes = rw (g, entry-none s at k);
       light = omega arith;
     }
 

@@ -17,6 +17,7 @@ use Rattle.std.proofs.Common.{length-take-le}
 use Rattle.std.proofs.lemmas.Grind.{get_or_default_zero}
 use Rattle.std.proofs.lemmas.List.{get_or-take}
 use Rattle.molecule.specs.Layout.{span}
+use Rattle.molecule.proofs.TestLaws.{both_ways}
 use Rattle.lists.specs.Lists.{eq_bytes, contains}
 use Rattle.lists.proofs.LoopLaws.{at_place}
 use Rattle.lists.proofs.EqualLaws.{eq_refl}
@@ -127,11 +128,6 @@ put_in s t n at x h m l moved same = record {
 }
 
 -- ---- the deps after one was put in
-
-both_ways : (b c : Bool) → (b ≡ true → c ≡ true) → (c ≡ true → b ≡ true) → b ≡ c
-both_ways true c f g = sym (f refl)
-both_ways false true f g = g refl
-both_ways false false f g = refl
 
 -- where an item that is there stands
 stands : {A : Type 0} (y : List ℕ) (g : ℕ → List ℕ) (j k : ℕ) → contains y (span g j k) ≡ true → ((i : ℕ) → i < k → eq_bytes y (g (j + i)) ≡ true → A) → A

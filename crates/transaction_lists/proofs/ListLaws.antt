@@ -39,10 +39,6 @@ none-beyond tx list h = by (readable Transaction tx)
     by true = beyond (tx_at tx) list h
     by false = refl
 
-pub no_bytes : (tx : List ℕ) → part tx 0 0 ≡ []
-unfolding part
-no_bytes tx = refl
-
 pub item-none : (tx : List ℕ) (list i : ℕ) → length (list_in tx list) ≤ i → item_in tx list i ≡ []
 item-none tx list i h = get_or-eq_default (list_in tx list) [] h
 

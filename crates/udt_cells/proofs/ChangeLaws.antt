@@ -18,6 +18,7 @@ use Rattle.units.specs.Fee.{change_shannons, change_capacity}
 use Rattle.molecule.specs.Molecule.{readable, option}
 use Rattle.molecule.specs.Layout.{part, field_of, content, items_of}
 use Rattle.molecule.specs.Write.{put_at}
+use Rattle.molecule.proofs.LayoutLaws.{part_short}
 use Rattle.molecule.proofs.ReadableLaws.{dynamic, below}
 use Rattle.molecule.proofs.WriteLaws.{put_yes, splice_zero}
 use Rattle.transaction.specs.Ckb.{Script, TokenCells}
@@ -37,13 +38,9 @@ pub capacity-is : (s t : List ℕ) {x y : List ℕ} {r : Option Shannons} → x 
 capacity-is s t ex ey e = e ∙ ap₂ (λ (a b : List ℕ). change_capacity (length a) (length b)) ex ey
 
 -- the args of a script are a part of it, and a readable script says its length in four bytes
-part-within : (s : List ℕ) (from to : ℕ) → length (part s from to) ≤ length s
-unfolding part
-part-within s from to = omega (arith, length-take (to - from) (drop from s), length-drop from s)
-
 pub args_within : (s : List ℕ) → length (args_of s) ≤ length s
 unfolding args_of content field_of
-args_within s = le_trans (part-within (field_of s 3 2) 4 _) (part-within s _ _)
+args_within s = le_trans (part_short (field_of s 3 2) 4 _) (part_short s _ _)
 
 pub capacity-below : (s t : List ℕ) → AllBytes s → AllBytes t → readable Script s ≡ true → readable (option Script) t ≡ true → capacity_for s t < 2 ^ 64
 unfolding dynamic
