@@ -30,7 +30,7 @@ use Rattle.out_points.proofs.AgainLaws.{point-fits, item-bytes}
 use Rattle.exclusion_entries.specs.Exclusions.{Entry, excluded, fitting}
 use Rattle.table_bytes.specs.Lent.{leaving, with_bytes}
 use Rattle.exclusion_entries.specs.declared.{Rule.Rule, Survey.Survey}
-use Rattle.exclusion_entries.specs.Entries.{block_of, map_bytes, FitEntry, excluded_at, is_map}
+use Rattle.exclusion_entries.specs.Entries.{block_of, map_bytes, FitEntry, excluded_at}
 use Rattle.exclusion_entries.specs.Survey.{keeps, takes, stay, ahead, behind, survey_of}
 use Rattle.exclusion_entries.proofs.MapLaws.{map-long, map-fits, map-size, splice-back}
 use Rattle.exclusion_entries.proofs.StayLaws.{stay-split, stay_all, renew-split, told_good, told_stays, told-points}
@@ -99,9 +99,6 @@ all_between P [] r x a p = (p, a)
 all_between P (e ∷ l) r x a p = (a.0, all_between P l r x a.1 p)
 
 module _ (rule : Rule) (s : List ℕ) (hash : Byte32) (f : List ℕ) {v : Survey} (ev : Ok v ≡ survey_of rule s) {n : ℕ} (en : n ≡ fix_count f) where
-  g : is_map s ≡ true
-  g = told_good rule s ev
-
   abbrev after : List Entry
   after = renew (takes rule) (entry_with hash f) (keep (keeps rule) (excluded_at s))
 
@@ -139,7 +136,7 @@ module _ (rule : Rule) (s : List ℕ) (hash : Byte32) (f : List ℕ) {v : Survey
 
   module _ (h : v.stays < 64) (k : v.points + n ≤ 512) {o : List ℕ} (eo : o ≡ splice s 0 (map_bytes after)) where
     put : o ≡ put_at s 0 (map_bytes after)
-    put = eo ∙ sym (put_yes s 0 (map_bytes after) (omega (arith, map-size after, after-count, after-points, map-long s g)))
+    put = eo ∙ sym (put_yes s 0 (map_bytes after) (omega (arith, map-size after, after-count, after-points, map-long s (told_good rule s ev))))
 
     pub enter_done : AllBytes s → AllBytes f → hash.a < 2 ^ 64 → hash.b < 2 ^ 64 → hash.c < 2 ^ 64 → hash.d < 2 ^ 64 → told (with_bytes excluded_at) (Ok tt) o ≡ leaving map_bytes s (fitting after)
     unfolding told leaving fitting with_bytes

@@ -1,7 +1,7 @@
 -- A new entry put into the table.
 use mathlib.Core.Path.{◌≡◌, refl, sym, ap, ap₂, ◌∙◌}
 use Prim.Native.Nat.{ℕ, ◌+◌, ◌-◌, ◌*◌, ◌≤◌, ◌<◌}
-use mathlib.Core.Bool.{true, false}
+use mathlib.Core.Bool.{false}
 use mathlib.Core.List.{List, ◌∷◌, ◌++◌, map, append_assoc}
 use mathlib.Core.Option.{none}
 use native.Mathlib.Omega.{arith}
@@ -27,7 +27,7 @@ use Rattle.molecule.proofs.ItemsLaws.{bytes_drop, bytes_take}
 use Rattle.out_points.proofs.AgainLaws.{point_again}
 use Rattle.exclusion_entries.specs.Exclusions.{Entry}
 use Rattle.exclusion_entries.specs.declared.{Rule.Rule, Survey.Survey}
-use Rattle.exclusion_entries.specs.Entries.{kind_of, block_of, state_bytes, entry_bytes, entries_bytes, map_bytes, excluded_at, is_map}
+use Rattle.exclusion_entries.specs.Entries.{kind_of, block_of, state_bytes, entry_bytes, entries_bytes, map_bytes, excluded_at}
 use Rattle.exclusion_entries.specs.Survey.{keeps, takes, stay, ahead, behind, survey_of}
 use Rattle.exclusion_entries.proofs.EntryLaws.{length-entry, entries-size, bytes-join}
 use Rattle.exclusion_entries.proofs.MapLaws.{map-long, map-few, map-count, map-points}
@@ -227,11 +227,8 @@ module _ (rule : Rule) (s : List ℕ) {v : Survey} (ev : Ok v ≡ survey_of rule
   pub place_within : v.place ≤ 4 + 48 * v.stays + 36 * v.points
   place_within = omega (arith, told-place rule s ev, sizes)
 
-  g : is_map s ≡ true
-  g = told_good rule s ev
-
   stays_room : 4 + length (entries_bytes stays) ≤ length s
-  stays_room = omega (arith, stay-size (keeps rule) (takes rule) false (excluded_at s), entries-size (excluded_at s), map-count s g, map-few s g, map-points s g, map-long s g)
+  stays_room = omega (arith, stay-size (keeps rule) (takes rule) false (excluded_at s), entries-size (excluded_at s), map-count s (told_good rule s ev), map-few s (told_good rule s ev), map-points s (told_good rule s ev), map-long s (told_good rule s ev))
 
   module _ {s₁ : List ℕ} (e₁ : s₁ ≡ splice s 4 (entries_bytes stays)) where
     length-gathered : length s₁ ≡ length s
@@ -243,12 +240,12 @@ module _ (rule : Rule) (s : List ℕ) {v : Survey} (ev : Ok v ≡ survey_of rule
         let C = to_le 4 v.stays in
         let l : length C ≡ 4 = length-to_le 4 v.stays in
         let z : 0 + length C ≡ 4 = omega arith in
-        put_yes s₁ 0 C (omega (arith, length-gathered, map-long s g)) ∙ ap (λ (x : List ℕ). splice x 0 C) (e₁ ∙ ap (λ (k : ℕ). splice s k (entries_bytes stays)) (sym z))
+        put_yes s₁ 0 C (omega (arith, length-gathered, map-long s (told_good rule s ev))) ∙ ap (λ (x : List ℕ). splice x 0 C) (e₁ ∙ ap (λ (k : ℕ). splice s k (entries_bytes stays)) (sym z))
         ∙ splice-under s 0 C (entries_bytes stays) (omega (arith, stays_room)) ∙ ap (λ (k : ℕ). splice s 0 (to_le 4 k ++ entries_bytes stays)) (told_stays rule s ev)
 
     module _ (hash : Byte32) (f : List ℕ) (few : v.stays < 64) (most : v.points + fix_count f ≤ 512) where
       pub replace_room : 4 + 48 * v.stays + 36 * v.points + (48 + 36 * fix_count f) ≤ length s₁
-      replace_room = omega (arith, length-gathered, map-long s g)
+      replace_room = omega (arith, length-gathered, map-long s (told_good rule s ev))
 
       pub replace_put : splice (splice s₁ v.place (entry_bytes (entry_with hash f) ++ take (4 + 48 * v.stays + 36 * v.points - v.place) (drop v.place s₁))) 0 (to_le 4 (v.stays + 1))
           ≡ splice s 0 (map_bytes (renew (takes rule) (entry_with hash f) (keep (keeps rule) (excluded_at s))))
@@ -264,7 +261,7 @@ module _ (rule : Rule) (s : List ℕ) {v : Survey} (ev : Ok v ≡ survey_of rule
           let z : 0 + length C ≡ 4 = omega arith in
           let p : v.place ≡ 4 + length bA = told-place rule s ev in
           let q : 4 + 48 * v.stays + 36 * v.points - v.place ≡ length bB = omega (arith, sizes) in
-          let l = map-long s g in
+          let l = map-long s (told_good rule s ev) in
           let t : s₁ ≡ splice s 4 (bA ++ bB) = e₁ ∙ ap (splice s 4) parts in
           let room : 4 + length bA + length bB ≤ length s = omega (arith, sizes) in
           let tail : take (4 + 48 * v.stays + 36 * v.points - v.place) (drop v.place s₁) ≡ bB = rw (q, p, t) (part-splice s 4 bA bB room) in

@@ -1,7 +1,6 @@
 // A flat table of rows of k bytes in lent bytes: four bytes for the count, then the rows. Whoever keeps a table asks `is_table` first, and refuses what
 // is none; a call that has nothing to do (a row of another length, no room, no row at that place) leaves all bytes as they were. The bytes do not say how long
-// their rows are, so each call takes s and k: in a struct of both, what is lent to be written would stand behind a field, and a contract speaks of it there by a
-// clause more.
+// their rows are, so each call takes s and k: a struct of both would hold a `&mut`, and each contract would say in a clause more that it is still the same one.
 #![tactic(auto, using(crate::proofs::Ways::ways), unfolding(crate::specs::Rows::has_key, crate::specs::Rows::pushed, crate::specs::Rows::replaced, crate::specs::Rows::removed, crate::specs::Rows::room_for, crate::specs::Rows::with_row, crate::specs::Rows::with_count, crate::specs::Rows::rows_behind))]
 
 ghost use Rattle.std.specs.Prelude.{◌≡◌};
