@@ -1,6 +1,6 @@
 // Reads a case file from standard input, at most 65,536 bytes, and prints the verdict line: 0 and the capacity surplus in hex, or a refusal's number and
 // its values. A read that fails counts as the end of the file, and a write that fails is passed over: the status is 0 whatever is printed.
-#![tactic(auto)]
+#![tactic(auto, using(crate::proofs::Ways::ways))]
 
 ghost use Rattle.std.specs.Prelude.{◌≤◌, length};
 
