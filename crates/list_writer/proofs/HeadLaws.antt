@@ -7,13 +7,12 @@ use lib.ListN.{length, length-append}
 use Rattle.arithmetic.specs.LittleEndian.{to_le}
 use Rattle.arithmetic.proofs.LittleEndianLaws.{length-to_le}
 use Rattle.molecule.specs.Items.{join, unwords, offsets, header}
-use Rattle.molecule.specs.Write.{put_at, put_end, Put}
-use Rattle.molecule.proofs.ItemsLaws.{length-join}
+use Rattle.molecule.specs.Write.{splice, put_at, put_end, Put}
+use Rattle.molecule.proofs.ItemsLaws.{length-join, length-unwords}
 use Rattle.molecule.proofs.Offsets.{span-length}
-use Rattle.molecule.proofs.WriteLaws.{did, then, as_bytes, none, length-kept}
+use Rattle.molecule.proofs.WriteLaws.{did, then, as_bytes, none, length-kept, put_yes, end_yes}
 use Rattle.list_writer.specs.ListWriter.{item_or, later, if_any, if_positive}
 use Rattle.list_writer.specs.Around.{around, head_size, list_size, places, head_of, Room}
-use Rattle.list_writer.proofs.JoinLaws.{words_length}
 use Rattle.list_writer.proofs.SpanLaws.{flatten_append, offsets-append, unwords-append}
 
 -- ---- the place of a last item, if there is one
@@ -23,17 +22,14 @@ unfolding if_positive
 positive zero xs h = absurd (h refl)
 positive (suc n) xs h = refl
 
-module _ (out : List ℕ) (at n p : ℕ) (h : (at + min (4 * n) 4 ≤ length out) × (p < 2 ^ 32)) where
-  pub no_place : n ≡ 0 → Put out at (if_positive n (to_le 4 p)) out at
-  unfolding if_positive
-  no_place e = let k : at ≤ length out = omega arith in rw e (none out at k)
+pub nothing : (out : List ℕ) (at : ℕ) → at ≤ length out → splice out at [] ≡ out
+nothing out at h = sym (none out at h).bytes
 
-  module _ {r : ℕ} (pos : n ≡ 0 → ⊥) (f : r ≡ put_end out at (to_le 4 p)) where
-    pub place_put : {after : List ℕ} → after ≡ put_at out at (to_le 4 p) → Put out at (if_positive n (to_le 4 p)) after r
-    place_put e = let l = length-to_le 4 p in as_bytes (sym (positive n (to_le 4 p) pos)) (did (to_le 4 p) e f (omega arith))
+pub none-positive : (n : ℕ) (xs : List ℕ) → n ≡ 0 → if_positive n xs ≡ []
+unfolding if_positive
+none-positive n xs h = rw h
 
-    pub place_end : r ≡ at + min (4 * n) 4
-    place_end = let l = length-to_le 4 p in let e = (did (to_le 4 p) refl f (omega arith)).end in omega arith
+pub ruleset place = (positive, none-positive, nothing, put_yes, end_yes, length-to_le)
 
 -- ---- a header
 
@@ -56,7 +52,7 @@ module _ (first : ℕ) (s : List ℕ) (k last : ℕ) {size w : ℕ} (ew : w ≡ 
       → Put out at (head_of first s k last) o₃ n₃
   put_head_lem {at = at} h d f q r =
       let room = h.0 in
-      let p = as_bytes (two_words _ _) (did (unwords ((8 + 4 * k + w + first + size + last) ∷ (8 + 4 * k + w) ∷ [])) d f (omega (arith, words_length ((8 + 4 * k + w + first + size + last) ∷ (8 + 4 * k + w) ∷ [])))) in
+      let p = as_bytes (two_words _ _) (did (unwords ((8 + 4 * k + w + first + size + last) ∷ (8 + 4 * k + w) ∷ [])) d f (omega (arith, length-unwords ((8 + 4 * k + w + first + size + last) ∷ (8 + 4 * k + w) ∷ [])))) in
       as_bytes (head_runs (omega (arith, h.1))) (then (then p q) r)
 
 -- ---- a list is its header and its items

@@ -7,6 +7,7 @@ use Rattle.arithmetic.specs.LittleEndian.{to_le}
 use Rattle.arithmetic.proofs.LittleEndianLaws.{length-to_le}
 use Rattle.molecule.specs.Items.{unwords}
 use Rattle.molecule.specs.Write.{put_at, put_end, Put}
+use Rattle.molecule.proofs.ItemsLaws.{length-unwords}
 use Rattle.molecule.proofs.WriteLaws.{none, and_put, as_bytes, put_yes, end_yes}
 use Rattle.list_writer.specs.ListWriter.{joined}
 
@@ -76,11 +77,7 @@ words_of [] = refl
 words_of (n ∷ ns) = ap (λ (l : List ℕ). to_le 4 n ++ l) (words_of ns)
 
 bytes-length : (ns : List ℕ) → length (flat_map (to_le 4) ns) ≡ 4 * length ns
-bytes-length [] = refl
-bytes-length (n ∷ ns) = omega (arith, length-append (to_le 4 n) (flat_map (to_le 4) ns), length-to_le 4 n, bytes-length ns)
-
-pub words_length : (ns : List ℕ) → length (unwords ns) ≡ 4 * length ns
-words_length ns = ap length (sym (words_of ns)) ∙ bytes-length ns
+bytes-length ns = ap length (words_of ns) ∙ length-unwords ns
 
 pub words_start : (ns out : List ℕ) (at : ℕ) → at ≤ length out → length ns ≤ (length out - at) / 4 → Each (to_le 4) ns out at 0 out at
 words_start ns out at h k = each_none (to_le 4) ns out at (omega (arith, bytes-length ns))
@@ -94,3 +91,6 @@ module _ {ns out after : List ℕ} {at i next : ℕ} (g : Each (to_le 4) ns out 
 
   pub words_end : next ≡ put_end out at (unwords ns)
   words_end = put_next words_did
+
+-- how long numbers are
+pub ruleset word_lengths = (length-unwords)

@@ -55,7 +55,7 @@ fn has_room(parts: &[&[u8]], room: usize) -> bool
 
 // Puts them at `at`, one after the other, and answers the place after them. Where there is no room for all of them nothing is written, and the place
 // that is answered is the one that was given.
-#[tactic(auto, using(std::proofs::lemmas::Bool::Decides::nat_tests), unfolding(molecule::specs::Write::put_at, molecule::specs::Write::put_end))]
+#[tactic(auto, using(std::proofs::lemmas::Bool::Decides::nat_tests, crate::proofs::JoinLaws::stretches_start), unfolding(molecule::specs::Write::put_at, molecule::specs::Write::put_end))]
 pub fn put_all(out: &mut [u8], at: usize, parts: &[&[u8]]) -> usize
     ensures out_after { out.new ≡ put_at out.old at (joined parts.now) }
     ensures value { result ≡ put_end out.old at (joined parts.now) }
@@ -71,7 +71,7 @@ pub fn put_all(out: &mut [u8], at: usize, parts: &[&[u8]]) -> usize
 }
 
 // Puts numbers of four bytes likewise.
-#[tactic(auto, using(std::proofs::lemmas::Bool::Decides::nat_tests, crate::proofs::JoinLaws::words_length), unfolding(molecule::specs::Write::put_at, molecule::specs::Write::put_end))]
+#[tactic(auto, using(std::proofs::lemmas::Bool::Decides::nat_tests, crate::proofs::JoinLaws::word_lengths), unfolding(molecule::specs::Write::put_at, molecule::specs::Write::put_end))]
 pub fn put_words(out: &mut [u8], at: usize, words: &[u32]) -> usize
     ensures out_after { out.new ≡ put_at out.old at (unwords words.now) }
     ensures value { result ≡ put_end out.old at (unwords words.now) }
@@ -152,6 +152,7 @@ fn place_len(n: usize) -> usize
 }
 
 // Puts that place.
+#[tactic(auto, using(crate::proofs::HeadLaws::place))]
 fn put_place(out: &mut [u8], at: usize, n: usize, place: usize) -> usize
     requires { (at + min (4 * n) 4 ≤ length out.old) × (place < 2 ^ 32) }
     ensures put { Put out.old at (if_positive n (to_le 4 place)) out.new result }
@@ -185,7 +186,7 @@ impl Lengths<'_> {
     }
 
     // Puts its header.
-    #[tactic(auto, using(molecule::proofs::WriteLaws::end_yes, crate::proofs::JoinLaws::words_length))]
+    #[tactic(auto, using(molecule::proofs::WriteLaws::end_yes, crate::proofs::JoinLaws::word_lengths))]
     fn put_head(self, out: &mut [u8], at: usize) -> usize
         requires { Room out.old at (total self) }
         ensures put { Put out.old at (head_in self.entry) out.new result }
