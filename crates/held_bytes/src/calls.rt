@@ -23,7 +23,8 @@ fn leave(s: &mut [u8], r: Result<Held, Refusal>) -> Answer
     Ok(())
 }
 
-// Makes a call on the lent table, by value.
+// Makes a call on the lent table, by value. Within its callers: in a call of its own the table, of 14 KB, is copied once more.
+#[inline(always)]
 fn on_table<F: FnOnce(Held) -> Result<Held, Refusal>>(s: &mut [u8], call: F) -> Answer
     requires { F.IsAlwaysCallable call }
     ensures { (o : Outcome Held (List Hold)) → ((r : _) → F.post call (held_of s.old) r → outcome_on (held_of s.old) r ≡ o) → told (with_bytes held_at) result s.new ≡ lent_table held_bytes held_size s.old o }
