@@ -167,16 +167,17 @@ fn group(rt: &(impl Print + AllocGlobal), g: &[u8]) -> io::Result<Count> {
     for v in Items::of(molecule::field(g, 3, 2)) {
         count.add(vector(rt.alloc(), kind, v)?);
     }
-    print(rt, molecule::field(g, 3, 1), count)?;
+    // a write that fails is passed over
+    let _ = print(rt, molecule::field(g, 3, 1), count);
     Ok(count)
 }
 
 fn main(rt: HostRuntime) -> io::Result<()> {
-    let mut file = Vec::new(rt.alloc());
-    rt.reader().take(LONGEST).read_to_end(&mut file)?;
+    let file = recorded_calls::read_all(&rt, LONGEST)?;
     let mut all = Count::default();
     for g in Items::of(&file) {
         all.add(group(&rt, g)?);
     }
-    print(&rt, b"all", all)
+    let _ = print(&rt, b"all", all);
+    Ok(())
 }

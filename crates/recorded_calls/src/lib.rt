@@ -13,5 +13,5 @@ pub use calls::{Call, FILL, Mark, Table, is_written, replay_calls};
 pub use changes::changed;
 pub use items::Items;
 pub use numbers::u128_of;
-pub use parts::{Replay, each_part, each_sparse_part};
+pub use parts::{Replay, each_part, each_sparse_part, read_all};
 pub use tally::{Tallies, Tally};

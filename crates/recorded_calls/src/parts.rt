@@ -1,7 +1,12 @@
-// The parts of a recording. Of one that is cut off, or that says more than there is room for, the missing bytes are what stood in the room before.
+// The parts of a recording. Of one that is cut off, or that says more than there is room for, the missing bytes are what stood in the room before. A read that fails
+// counts as the end of the input.
+ghost use Rattle.std.specs.Prelude.{◌≡◌, IfErr};
+ghost use Rattle.std.specs.IoError.{error_kind};
+ghost use Rattle.std.specs.declared.io.ErrorKind.TheVariants.{OutOfMemory};
+
 use std::alloc::Global;
 use std::io;
-use std::io::Read;
+use std::io::{ErrorKind, Read};
 
 // What a program does with each part.
 pub trait Replay {
@@ -9,17 +14,26 @@ pub trait Replay {
 }
 
 // Reads until `buf` is full or the input ends.
-fn fill<I: Read>(input: &mut I, buf: &mut [u8]) -> io::Result<()> {
+fn fill<I: Read>(input: &mut I, buf: &mut [u8]) {
     let mut at = 0;
     // a while: each read says how far it came
     while at < buf.len() {
-        let n = input.read(&mut buf[at..])?;
-        if n == 0 {
-            break;
+        match input.read(&mut buf[at..]) {
+            Ok(0) | Err(_) => break,
+            Ok(n) => at += n,
         }
-        at += n;
     }
-    Ok(())
+}
+
+// The whole input, up to so many bytes. It fails only where there is no memory.
+pub fn read_all(rt: &(impl Input + AllocGlobal), most: u64) -> io::Result<Vec<u8>>
+    ensures { IfErr result (λ e. error_kind e ≡ OutOfMemory) }
+{
+    let mut bytes = Vec::new(rt.alloc());
+    match rt.reader().take(most).read_to_end(&mut bytes) {
+        Err(e) if e.kind() == ErrorKind::OutOfMemory => Err(e),
+        _ => Ok(bytes),
+    }
 }
 
 // A recording, and room for a part of it.
@@ -30,18 +44,17 @@ struct Recording<I> {
 }
 
 impl<I: Read> Recording<I> {
-    fn read_u32(&mut self) -> io::Result<u32> {
+    fn read_u32(&mut self) -> u32 {
         let mut bytes = [0; 4];
-        fill(&mut self.input, &mut bytes)?;
-        Ok(u32::from_le_bytes(bytes))
+        fill(&mut self.input, &mut bytes);
+        u32::from_le_bytes(bytes)
     }
 
     // Reads n bytes to `at`, if there is room for them.
-    fn read_to(&mut self, at: usize, n: usize) -> io::Result<()> {
+    fn read_to(&mut self, at: usize, n: usize) {
         let room = self.room.as_mut_slice();
-        match room.get_mut(at..at.saturating_add(n)) {
-            Some(stretch) => fill(&mut self.input, stretch),
-            None => Ok(()),
+        if let Some(stretch) = room.get_mut(at..at.saturating_add(n)) {
+            fill(&mut self.input, stretch);
         }
     }
 
@@ -53,37 +66,37 @@ impl<I: Read> Recording<I> {
     }
 
     // Reads a piece to `at`, and answers where it ends.
-    fn piece(&mut self, at: usize) -> io::Result<usize> {
+    fn piece(&mut self, at: usize) -> usize {
         let mut head = [0; 6];
-        fill(&mut self.input, &mut head)?;
+        fill(&mut self.input, &mut head);
         let [n, c0, c1, d0, d1, d2] = head;
         let n = usize::from(n);
         let copies = usize::from(u16::from_le_bytes([c0, c1]));
         let back = u32::from_le_bytes([d0, d1, d2, 0]) as usize;
         let end = at.saturating_add(n);
-        self.read_to(at, n)?;
+        self.read_to(at, n);
         self.copy_back(end, copies, back);
-        Ok(end.saturating_add(copies))
+        end.saturating_add(copies)
     }
 
     // Reads a part to `at`, piece by piece, and answers where it ends.
-    fn pieces(&mut self, at: usize) -> io::Result<usize> {
+    fn pieces(&mut self, at: usize) -> usize {
         let mut end = at;
-        for _ in 0..self.read_u32()? {
-            end = self.piece(end)?;
+        for _ in 0..self.read_u32() {
+            end = self.piece(end);
         }
-        Ok(end)
+        end
     }
 
     // Reads a part that is stored without a run of zeros, and answers where it ends.
-    fn sparse(&mut self) -> io::Result<usize> {
-        let size = self.read_u32()? as usize;
-        let place = self.read_u32()? as usize;
-        let zeros = self.read_u32()? as usize;
+    fn sparse(&mut self) -> usize {
+        let size = self.read_u32() as usize;
+        let place = self.read_u32() as usize;
+        let zeros = self.read_u32() as usize;
         self.room.fill(0);
-        self.read_to(0, place)?;
-        self.read_to(place.saturating_add(zeros), size.saturating_sub(place))?;
-        Ok(size.saturating_add(zeros))
+        self.read_to(0, place);
+        self.read_to(place.saturating_add(zeros), size.saturating_sub(place));
+        size.saturating_add(zeros)
     }
 }
 
@@ -97,10 +110,10 @@ pub fn each_part<I: Read + Drop, R: Replay>(
 ) -> io::Result<()> {
     let room = vec![in alloc; 0u8; longest]?;
     let mut recording = Recording { input, room };
-    let parts = recording.read_u32()?;
-    let first = recording.pieces(0)?;
+    let parts = recording.read_u32();
+    let first = recording.pieces(0);
     for _ in 1..parts {
-        let end = recording.pieces(first)?;
+        let end = recording.pieces(first);
         replay.part(molecule::part(&recording.room, first, end))?;
     }
     Ok(())
@@ -115,8 +128,8 @@ pub fn each_sparse_part<I: Read + Drop, R: Replay>(
 ) -> io::Result<()> {
     let room = vec![in alloc; 0u8; longest]?;
     let mut recording = Recording { input, room };
-    for _ in 0..recording.read_u32()? {
-        let end = recording.sparse()?;
+    for _ in 0..recording.read_u32() {
+        let end = recording.sparse();
         replay.part(molecule::part(&recording.room, 0, end))?;
     }
     Ok(())

@@ -171,5 +171,7 @@ fn main(rt: HostRuntime) -> io::Result<()> {
     };
     let input = BufReader::new(alloc, rt.reader())?;
     recorded_calls::each_part(alloc, input, LONGEST, &mut requests)?;
-    print(&rt, &requests)
+    // a write that fails is passed over
+    let _ = print(&rt, &requests);
+    Ok(())
 }

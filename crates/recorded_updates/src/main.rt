@@ -104,5 +104,7 @@ fn main(rt: HostRuntime) -> io::Result<()> {
     };
     let input = BufReader::new(alloc, rt.reader())?;
     recorded_calls::each_sparse_part(alloc, input, LONGEST, &mut files)?;
-    print(&rt, &files)
+    // a write that fails is passed over
+    let _ = print(&rt, &files);
+    Ok(())
 }

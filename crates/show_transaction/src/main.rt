@@ -126,8 +126,13 @@ fn main(rt: HostRuntime) -> io::Result<()> {
     // one byte more than may be there
     let most = LONGEST as u64 + 1;
     let mut tx = Vec::new(rt.alloc());
-    rt.reader().take(most).read_to_end(&mut tx)?;
+    if let Err(e) = rt.reader().take(most).read_to_end(&mut tx)
+        && e.kind() == io::ErrorKind::OutOfMemory
+    {
+        return Err(e);
+    }
     let mut out = BufWriter::new(rt.alloc(), io::writer(&rt))?;
-    show(&mut out, &tx)?;
-    out.flush()
+    let _ = show(&mut out, &tx);
+    let _ = out.flush();
+    Ok(())
 }

@@ -27,21 +27,22 @@ fn vector(v: &[u8]) -> Tally {
 }
 
 // The vectors of a type.
-fn group(rt: &impl Print, g: &[u8]) -> io::Result<Tally> {
+fn group(rt: &impl Print, g: &[u8]) -> Tally {
     let mut tally = Tally::default();
     for v in Items::of(molecule::field(g, 2, 1)) {
         tally.add(vector(v));
     }
-    print(rt, molecule::field(g, 2, 0), tally)?;
-    Ok(tally)
+    // a write that fails is passed over
+    let _ = print(rt, molecule::field(g, 2, 0), tally);
+    tally
 }
 
 fn main(rt: HostRuntime) -> io::Result<()> {
-    let mut file = Vec::new(rt.alloc());
-    rt.reader().take(LONGEST).read_to_end(&mut file)?;
+    let file = recorded_calls::read_all(&rt, LONGEST)?;
     let mut all = Tally::default();
     for g in Items::of(&file) {
-        all.add(group(&rt, g)?);
+        all.add(group(&rt, g));
     }
-    print(&rt, b"all", all)
+    let _ = print(&rt, b"all", all);
+    Ok(())
 }
