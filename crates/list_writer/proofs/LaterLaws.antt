@@ -1,5 +1,5 @@
 -- The loops over the later items of a list, whose items start at 1: one law for each need that the general ones do not close as they are.
-use mathlib.Core.Path.{◌≡◌, ap}
+use mathlib.Core.Path.{◌≡◌, refl, ap}
 use Prim.Native.Nat.{ℕ, ◌+◌, ◌*◌, ◌^◌, ◌≤◌, ◌<◌, min}
 use mathlib.Core.List.{List, flatten}
 use lib.ListN.{length}
@@ -8,13 +8,23 @@ use mir.Val.{Fits}
 use Rattle.arithmetic.specs.LittleEndian.{to_le}
 use Rattle.molecule.specs.Write.{put_at, put_end, Put}
 use Rattle.list_writer.specs.ListWriter.{item_or, later}
+use Rattle.molecule.specs.Layout.{span}
 use Rattle.list_writer.specs.Around.{places}
+use Rattle.list_writer.proofs.SpanLaws.{body}
 use Rattle.list_writer.proofs.LoopLaws.{Sizing, size-more, size-end, Writing, write-none, write-more, write-end, Placing, place_none, place-fits, place-more, place_end}
 
 module _ (s : List ℕ) (k : ℕ) where
   pub later-size : {i n : ℕ} → Sizing (item_or s) 1 k i n → k ≤ i → n ≡ min (length (flatten (later s k))) 133117
   unfolding later
   later-size = size-end
+
+  pub later_body : flatten (later s k) ≡ body (item_or s) 1 k
+  unfolding later body
+  later_body = refl
+
+  pub later_places : (o : ℕ) → places o (later s k) ≡ places o (span (item_or s) 1 k)
+  unfolding later
+  later_places o = refl
 
   pub later-start : (out : List ℕ) (at : ℕ) → at + length (flatten (later s k)) ≤ length out → Writing (item_or s) 1 out at k 0 out at
   unfolding later
