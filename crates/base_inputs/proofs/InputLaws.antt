@@ -11,7 +11,7 @@ use Rattle.molecule.proofs.WriteLaws.{did, then, and_put, as_bytes, length-kept}
 use Rattle.transaction.specs.Tx.{first_of}
 use Rattle.list_writer.specs.Around.{fits_at, Room}
 use Rattle.list_writer.proofs.SpanLaws.{flatten_append, body, body_next}
-use Rattle.list_writer.proofs.LoopLaws.{Sizing, size-more, size-end, Writing, write-none, write-room, write_then, write-end}
+use Rattle.list_writer.proofs.LoopLaws.{Sizing, size-more, Writing, write-room, write_then}
 use Rattle.list_writer.proofs.AnswerLaws.{fit-room}
 use Rattle.list_writer.specs.ListWriter.{fix_list}
 use Rattle.base_inputs.specs.BaseInputs.{picked_input, picked, input_list, inputs_size}
@@ -62,21 +62,12 @@ module _ (cells : List ℕ) (i : ℕ) {point : List ℕ} (ep : point ≡ first_o
       as_bytes (sym picked-is) (and_put point p e₂ f₂ (omega (arith, picked-length)))
 
 module _ (cells : List ℕ) (k : ℕ) where
-  pub picked-end : {i n : ℕ} → Sizing (picked cells) 0 k i n → k ≤ i → n ≡ min (length (flatten (span (picked cells) 0 k))) 133117
-  picked-end = size-end
-
-  pub write-start : (out : List ℕ) (at : ℕ) → at + length (flatten (span (picked cells) 0 k)) ≤ length out → Writing (picked cells) 0 out at k 0 out at
-  write-start out at h = write-none (picked cells) 0 out at k h
-
   module _ {out o₁ : List ℕ} {at i n₁ : ℕ} (g : Writing (picked cells) 0 out at k i o₁ n₁) where
     pub turn_room : i < k → n₁ + length (picked cells i) ≤ length o₁
     turn_room h = rw add-zero at (write-room g h)
 
     pub turn_more : {o₂ : List ℕ} {n₂ : ℕ} → i < k → Put o₁ n₁ (picked cells i) o₂ n₂ → Writing (picked cells) 0 out at k (i + 1) o₂ n₂
     turn_more h p = write_then g h (rw add-zero p)
-
-    pub turn_end : k ≤ i → Put out at (flatten (span (picked cells) 0 k)) o₁ n₁
-    turn_end h = write-end g h
 
 -- each has 8 bytes or more
 eight : (cells : List ℕ) (i : ℕ) → 8 ≤ length (picked cells i)

@@ -15,7 +15,7 @@ use Rattle.molecule.proofs.WriteLaws.{did, then, length-kept}
 use Rattle.list_writer.specs.ListWriter.{fix_list, put_list, put_list_end}
 use Rattle.list_writer.specs.Around.{fits_at}
 use Rattle.list_writer.proofs.AnswerLaws.{fit-room, list_in_lem, list_in_end}
-use Rattle.list_writer.proofs.LoopLaws.{Sizing, size-more, size-end, Writing, write-none, write-more, write-end}
+use Rattle.list_writer.proofs.LoopLaws.{Sizing, size-more, size-end, Writing, write-more}
 use Rattle.cell_deps.specs.CellDeps.{dep_at, deps_at, placed_at}
 use Rattle.cell_deps.proofs.DepLaws.{map-span}
 
@@ -29,12 +29,6 @@ module _ (a b c d x : List ℕ) where
   deps-size {j} {size} {r} g h e =
       let s : size ≡ min (length (flatten (deps_at a b c d x))) 133117 = size-end g h ∙ ap (λ (l : List (List ℕ)). min (length (flatten l)) 133117) (sym chosen-span) in
       omega (arith, length-append (to_le 4 (length (deps_at a b c d x))) (flatten (deps_at a b c d x)), length-to_le 4 (length (deps_at a b c d x)))
-
-  pub deps-start : (out : List ℕ) (at : ℕ) → at + length (flatten (deps_at a b c d x)) ≤ length out → Writing (placed_at a b c d x) 0 out at (length x) 0 out at
-  deps-start out at h = write-none (placed_at a b c d x) 0 out at (length x) (rw (← chosen-span) h)
-
-  pub deps-end : {out after : List ℕ} {at j next : ℕ} → Writing (placed_at a b c d x) 0 out at (length x) j after next → length x ≤ j → Put out at (flatten (deps_at a b c d x)) after next
-  deps-end g h = rw chosen-span (write-end g h)
 
 module _ (a b c d x : List ℕ) (j : ℕ) {y : List ℕ} {p : ℕ} (ep : p ≡ get_or x j 0) (ey : y ≡ dep_at a b c d p) where
   is-chosen : y ≡ placed_at a b c d x (j + 0)

@@ -3,10 +3,8 @@ use mathlib.Core.Path.{◌≡◌, refl, sym, ap, ◌∙◌}
 use Prim.Native.Nat.{ℕ, ◌+◌, ◌-◌, ◌≤◌, ◌<◌, min}
 use mathlib.Core.Bool.{Bool, true, false, cond}
 use mathlib.Core.List.{List, [], ◌∷◌, ◌++◌, map}
-use native.Mathlib.Numerals.{add-one}
 use native.Mathlib.Omega.{arith}
 use lib.ListN.{length, take, set, length-set, length-take, length-append, length-map}
-use lib.Seq.{take-suc-set}
 use Rattle.std.specs.Borrow.{Bor}
 use Rattle.std.specs.declared.cmp.Ordering.{Ordering}
 use Rattle.std.specs.Ordering.{ordering_index}
@@ -14,6 +12,7 @@ use Rattle.std.specs.Fn.{Mut, Called, ComputesKey}
 use Rattle.std.specs.List.{HoldsAt, CopiedTo, SameBelow}
 use Rattle.std.specs.List.Sorted.{IsNonDecreasingBy, IsPartitionPoint}
 use Rattle.std.proofs.lemmas.Fn.{always_returns_same}
+use Rattle.std.proofs.lemmas.List.{map-append, take_more_set}
 use Rattle.item_index.specs.Order.{order_of}
 use Rattle.lists.specs.Lists.{eq_bytes, contains}
 use Rattle.lists.proofs.SpanLaws.{span-on, span-end, span-whole}
@@ -45,10 +44,6 @@ pub all_grow : (deps xs : List (List ℕ)) → length deps ≤ length (push_all 
 unfolding push_all
 all_grow deps [] = omega arith
 all_grow deps (x ∷ xs) = let a = pushed_grows deps x in let b = all_grow (pushed deps x) xs in omega arith
-
-pub map_snoc : (f : ℕ → List ℕ) (l : List ℕ) (n : ℕ) → map f (l ++ (n ∷ [])) ≡ map f l ++ (f n ∷ [])
-map_snoc f [] n = refl
-map_snoc f (x ∷ l) n = ap (λ ys. f x ∷ ys) (map_snoc f l n)
 
 -- ---- the loop
 
@@ -155,7 +150,7 @@ module _ (a b c d : List ℕ) where
 
         one_more : deps ++ (y ∷ []) ≡ map (dep_at a b c d) (take count p ++ (i ∷ []))
         unfolding deps_at
-        one_more = sym (map_snoc (dep_at a b c d) (take count p) i)
+        one_more = sym (map-append (dep_at a b c d) (take count p) (i ∷ []))
 
         pub choose_put : (t : List ℕ) → count < min l m → length t ≡ length s → CopiedTo s t at (at + 1) (count - at) → SameBelow s t (at + 1) → Inserted s count at i (set t at i)
         choose_put t u v moved same =
@@ -167,7 +162,7 @@ module _ (a b c d : List ℕ) where
         unfolding deps_at
         choose_new u {after} put =
             let w = k.whole in
-            let f : take (count + 1) (set p count i) ≡ take count p ++ (i ∷ []) = rw add-one (take-suc-set p count i (omega arith)) in
+            let f : take (count + 1) (set p count i) ≡ take count p ++ (i ∷ []) = take_more_set p count i (omega arith) in
             let g : deps ++ (y ∷ []) ≡ map (dep_at a b c d) (take (count + 1) (set p count i)) = one_more ∙ ap (map (dep_at a b c d)) (sym f) in
             let q : pushed deps y ≡ map (dep_at a b c d) (take (count + 1) (set p count i)) = new deps y refl fresh ∙ g in
             record {

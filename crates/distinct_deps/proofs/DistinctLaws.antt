@@ -3,12 +3,10 @@ use mathlib.Core.Path.{◌≡◌, refl, sym, ap, ap₂, ◌∙◌}
 use Prim.Native.Nat.{ℕ, zero, suc, ◌+◌, ◌-◌, ◌≤◌, ◌<◌}
 use mathlib.Core.Bool.{Bool, true, false, false≢true, not, cond}
 use mathlib.Core.List.{List, [], ◌∷◌, ◌++◌, map}
-use native.Mathlib.Numerals.{add-one}
 use native.Mathlib.Omega.{arith}
 use borrow.Author.Tests.{eq-eqb, ne_eqb, eqb-true}
 use lib.Dec.{eqb}
 use lib.ListN.{length, take, set, length-set, length-append}
-use lib.Seq.{take-suc-set}
 use Rattle.molecule.specs.Layout.{span, fix_count, fix_item}
 use Rattle.lists.specs.Lists.{eq_bytes, contains}
 use Rattle.lists.proofs.EqualLaws.{eq_refl, eq_true}
@@ -17,6 +15,7 @@ use Rattle.std.specs.Prelude.{Option, Some, nat_eq}
 use Rattle.std.specs.Option.{option_eq}
 use Rattle.std.specs.List.{position}
 use Rattle.std.proofs.Common.{length-take-le}
+use Rattle.std.proofs.lemmas.List.{map-append, take_more_set}
 use Rattle.std.proofs.Math.Logic.{∥∥₁_elim}
 use Rattle.std.proofs.Props.{props}
 use Rattle.molecule.proofs.Offsets.{span-length}
@@ -27,7 +26,7 @@ use Rattle.item_index.proofs.OrderLaws.{three}
 use Rattle.cell_deps.specs.CellDeps.{before, any_count, last_dep_at, own_dep_at, dep_at, pushed, push_all, cell_deps, dep_count, deps_at, Chooses}
 use Rattle.cell_deps.proofs.DepLaws.{before_in, before_past, any_none, span_agree, span-split, span-before, all_spans}
 use Rattle.distinct_deps.proofs.SortedLaws.{contains_last}
-use Rattle.distinct_deps.proofs.ChooseLaws.{there, new, all_grow, map_snoc, chosen-long}
+use Rattle.distinct_deps.proofs.ChooseLaws.{there, new, all_grow, chosen-long}
 
 -- ---- its own list
 
@@ -289,8 +288,8 @@ module _ (a b c d : List ℕ) where
         gather_new u =
             let w = k.whole in
             let x = k.fits in
-            let f : take (count + 1) (set p count i) ≡ take count p ++ (i ∷ []) = rw add-one (take-suc-set p count i (omega arith)) in
-            let g : deps ++ (y ∷ []) ≡ map (dep_at a b c d) (take (count + 1) (set p count i)) = sym (map_snoc (dep_at a b c d) (take count p) i) ∙ ap (map (dep_at a b c d)) (sym f) in
+            let f : take (count + 1) (set p count i) ≡ take count p ++ (i ∷ []) = take_more_set p count i (omega arith) in
+            let g : deps ++ (y ∷ []) ≡ map (dep_at a b c d) (take (count + 1) (set p count i)) = sym (map-append (dep_at a b c d) (take count p) (i ∷ [])) ∙ ap (map (dep_at a b c d)) (sym f) in
             let q : pushed deps y ≡ map (dep_at a b c d) (take (count + 1) (set p count i)) = new deps y (sym (k.members y)) fresh ∙ g in
             record {
               within = omega arith;

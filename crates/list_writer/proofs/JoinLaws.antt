@@ -4,7 +4,6 @@ use Rattle.std.proofs.lemmas.List.{take_more, flat_map_more}
 use Rattle.std.proofs.lemmas.List.Folds.{length-flat_map-take}
 use borrow.Author.Tests.{leb-true}
 use Rattle.arithmetic.specs.LittleEndian.{to_le}
-use Rattle.arithmetic.proofs.LittleEndianLaws.{length-to_le}
 use Rattle.molecule.specs.Items.{unwords}
 use Rattle.molecule.specs.Write.{put_at, put_end, Put}
 use Rattle.molecule.proofs.ItemsLaws.{length-unwords}

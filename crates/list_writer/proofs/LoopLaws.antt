@@ -1,5 +1,5 @@
 -- The loops that size and write items: after i turns the first i of m are done, where item i is f (i + b).
-use mathlib.Core.Path.{◌≡◌, refl, ap, ◌∙◌}
+use mathlib.Core.Path.{◌≡◌, ap, ◌∙◌}
 use Prim.Native.Nat.{ℕ, ◌+◌, ◌*◌, ◌^◌, ◌≤◌, ◌<◌, min}
 use mathlib.Core.List.{List, ◌++◌, flatten}
 use native.Mathlib.Omega.{arith}
@@ -10,18 +10,15 @@ use Rattle.arithmetic.specs.LittleEndian.{to_le}
 use Rattle.arithmetic.proofs.LittleEndianLaws.{length-to_le}
 use Rattle.molecule.specs.Layout.{span}
 use Rattle.molecule.specs.Write.{put_at, put_end, Put}
-use Rattle.molecule.proofs.WriteLaws.{did, then, and_put, none, length-kept}
+use Rattle.molecule.proofs.WriteLaws.{did, then, and_put, length-kept}
 use Rattle.list_writer.specs.Around.{places}
-use Rattle.list_writer.proofs.SpanLaws.{body, body_none, body_more, body_next, body_in, places-none, places-more}
+use Rattle.list_writer.proofs.SpanLaws.{body, body_more, body_next, body_in, places-more}
 
 -- ---- how many bytes
 
 pub record Sizing (f : ℕ → List ℕ) (b m i n : ℕ) : Type 0 where
   pub within : i ≤ m
   pub size : n ≡ min (length (body f b i)) 133117
-
-pub size_none : (f : ℕ → List ℕ) (b m : ℕ) → Sizing f b m 0 0
-size_none f b m = record { within = omega arith; size = omega (arith, ap length (body_none f b)) }
 
 pub size-more : {f : ℕ → List ℕ} {b m i n k x : ℕ} → Sizing f b m i n → i < m → x ≡ length (f (i + b)) → k ≡ min (n + x) 133117 → Sizing f b m (i + 1) k
 size-more {f} {b} {m} {i} g h e q = record { within = omega arith; size = omega (arith, body_next f b i) }
@@ -38,12 +35,6 @@ pub record Writing (f : ℕ → List ℕ) (b : ℕ) (out : List ℕ) (at m i : �
   pub long : length after ≡ length out
   pub room : at + length (body f b m) ≤ length out
 
-pub write-none : (f : ℕ → List ℕ) (b : ℕ) (out : List ℕ) (at m : ℕ) → at + length (flatten (span f b m)) ≤ length out → Writing f b out at m 0 out at
-unfolding body
-write-none f b out at m h =
-    let k : at ≤ length out = omega arith in
-    record { within = omega arith; put = rw (body_none f b) (none out at k); long = refl; room = h }
-
 module _ {f : ℕ → List ℕ} {b : ℕ} {out o₁ : List ℕ} {at m i n₁ : ℕ} (g : Writing f b out at m i o₁ n₁) (h : i < m) where
   pub write-room : n₁ + length (f (i + b)) ≤ length o₁
   write-room = let p = g.put in omega (arith, body_in f b i m h, p.end, g.long, g.room)
@@ -59,11 +50,6 @@ module _ {f : ℕ → List ℕ} {b : ℕ} {out o₁ : List ℕ} {at m i n₁ : �
   pub write-more : {o₂ : List ℕ} {n₂ : ℕ} → o₂ ≡ put_at o₁ n₁ (f (i + b)) → n₂ ≡ put_end o₁ n₁ (f (i + b)) → Writing f b out at m (i + 1) o₂ n₂
   write-more e k = write_then (did (f (i + b)) e k write-room)
 
-pub write-end : {f : ℕ → List ℕ} {b : ℕ} {out after : List ℕ} {at m i next : ℕ} → Writing f b out at m i after next → m ≤ i
-    → Put out at (flatten (span f b m)) after next
-unfolding body
-write-end {m = m} {i = i} g h = let e : i ≡ m = omega arith in rw e at g.put
-
 -- ---- where each begins, the first at o
 
 pub record Placing (f : ℕ → List ℕ) (b o : ℕ) (out : List ℕ) (at m i : ℕ) (after : List ℕ) (next place : ℕ) : Type 0 where
@@ -75,22 +61,6 @@ pub record Placing (f : ℕ → List ℕ) (b o : ℕ) (out : List ℕ) (at m i :
   pub low : place < 2 ^ 32
   pub end : next ≡ at + 4 * i
   pub room : at + 4 * m ≤ length out
-
-pub place_none : (f : ℕ → List ℕ) (b o : ℕ) (out : List ℕ) (at m : ℕ) → at + 4 * m ≤ length out → o + length (flatten (span f b m)) < 2 ^ 32
-    → Placing f b o out at m 0 out at o
-unfolding body
-place_none f b o out at m h k =
-    let l : at ≤ length out = omega arith in
-    record {
-      within = omega arith;
-      put = rw (places-none o f b) (none out at l);
-      long = refl;
-      begins = omega (arith, ap length (body_none f b));
-      fits = k;
-      low = omega arith;
-      end = omega arith;
-      room = h;
-    }
 
 module _ {f : ℕ → List ℕ} {b o : ℕ} {out o₁ : List ℕ} {at m i n₁ place x : ℕ} (g : Placing f b o out at m i o₁ n₁ place) (h : i < m) (e : x ≡ length (f (i + b))) where
   -- the sum that the turn makes is small
@@ -116,7 +86,3 @@ module _ {f : ℕ → List ℕ} {b o : ℕ} {out o₁ : List ℕ} {at m i n₁ p
         end = omega (arith, q.end);
         room = g.room;
       }
-
-module _ {f : ℕ → List ℕ} {b o : ℕ} {out after : List ℕ} {at m i next place : ℕ} (g : Placing f b o out at m i after next place) (h : m ≤ i) where
-  pub place_end : Put out at (places o (span f b m)) after next
-  place_end = let e : i ≡ m = omega arith in rw e at g.put

@@ -40,6 +40,10 @@ unfoldable pub body : (ℕ → List ℕ) → ℕ → ℕ → List ℕ
 body f b n = flatten (span f b n)
 
 module _ (f : ℕ → List ℕ) (b : ℕ) where
+  pub body_is : (n : ℕ) → flatten (span f b n) ≡ body f b n
+  unfolding body
+  body_is n = refl
+
   pub body_none : body f b 0 ≡ []
   unfolding body span flatten
   body_none = refl

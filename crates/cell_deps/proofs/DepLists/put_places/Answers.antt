@@ -1,11 +1,5 @@
 use Rattle.cell_deps.proofs.Ways.{ways}
 use Rattle.cell_deps.proofs.DepLists.put_places.Goals as goal
 
-pub loop-place-init : goal.loop-place-init
-loop-place-init c = search ways
-
 pub loop-place-preserved : goal.loop-place-preserved
 loop-place-preserved c = search ways
-
-pub returns : goal.returns
-returns c = search ways

@@ -1,11 +1,5 @@
 use Rattle.list_writer.proofs.Ways.{ways}
 use Rattle.list_writer.proofs.Later.put_places.Goals as goal
 
-pub loop-i-init : goal.loop-i-init
-loop-i-init c = search ways
-
 pub loop-i-preserved : goal.loop-i-preserved
 loop-i-preserved c = search ways
-
-pub returns-clause-put : goal.returns-clause-put
-returns-clause-put c = search ways
