@@ -1,6 +1,6 @@
 -- What is written is the transaction of the definition.
 use mathlib.Core.Path.{◌≡◌, refl, sym, ap, ◌∙◌}
-use Prim.Native.Nat.{ℕ, ◌-◌, ◌≤◌, ◌<◌, min}
+use Prim.Native.Nat.{ℕ, ◌≤◌, ◌<◌, min}
 use mathlib.Core.List.{List}
 use Rattle.std.specs.Prelude.{Err}
 use native.Mathlib.Omega.{arith}

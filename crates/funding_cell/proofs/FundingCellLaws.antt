@@ -1,5 +1,5 @@
 -- Laws of specs/FundingCell.antt.
-use Rattle.std.proofs.Common.{◌≡◌, ℕ, ◌+◌, ◌^◌, ◌<◌, Bool, true, false, refl, ap, ap₂, ◌∙◌, subst, add-zero, ltb}
+use Rattle.std.proofs.Common.{◌≡◌, ℕ, ◌^◌, ◌<◌, Bool, true, false, refl, ap₂, ◌∙◌, subst, add-zero, ltb}
 use lib.Dec.{ltb→lt}
 use Rattle.rules.specs.Outcome.{fine}
 use Rattle.rules.specs.Judge.{Figures}

@@ -2,33 +2,28 @@
 use Rattle.std.proofs.Common.{Option, Some, None}
 use mathlib.Core.Path.{◌≡◌, sym, ap, ap₂, ◌∙◌}
 use Prim.Native.Nat.{ℕ, ◌+◌, ◌-◌, ◌^◌, ◌≤◌, ◌<◌, min}
-use mathlib.Core.Bool.{Bool, true, false, not}
+use mathlib.Core.Bool.{Bool, true}
 use mathlib.Core.List.{List, ◌++◌}
 use native.Mathlib.Nat.{le_trans}
 use native.Mathlib.Omega.{arith}
-use borrow.Author.Tests.{le-leb, lt-leb, leb-true, leb-false, lt-ltb, eq-eqb, eqb-true, not-true, not-false}
+use borrow.Author.Tests.{lt-ltb}
 use lib.ListN.{length, drop, length-take, length-drop}
-use lib.Dec.{leb, eqb}
-use Rattle.error.specs.Refusal.{number, values}
-use Rattle.error.specs.declared.Refusal.{Refusal}
 use Rattle.arithmetic.specs.LittleEndian.{AllBytes}
 use Rattle.units.specs.declared.{Shannons.Shannons}
-use Rattle.units.specs.Units.{in_shannons, shannon_count, token_count}
+use Rattle.units.specs.Units.{in_shannons, shannon_count}
 use Rattle.units.specs.Fee.{change_shannons, change_capacity}
 use Rattle.molecule.specs.Molecule.{readable, option}
-use Rattle.molecule.specs.Layout.{part, field_of, content, items_of}
+use Rattle.molecule.specs.Layout.{part, field_of, content}
 use Rattle.molecule.specs.Write.{put_at}
 use Rattle.molecule.proofs.LayoutLaws.{part_short}
 use Rattle.molecule.proofs.ReadableLaws.{dynamic, below}
 use Rattle.molecule.proofs.WriteLaws.{put_yes, splice_zero}
 use Rattle.transaction.specs.Ckb.{Script, TokenCells}
 use Rattle.transaction.specs.Tx.{args_of}
-use Rattle.rules.specs.Outcome.{Outcome, fine, check, check_with, ◌>>◌}
-use Rattle.rules.proofs.Checks.{skip, fail, pass, last_is}
+use Rattle.rules.specs.Outcome.{fine, check, check_with, ◌>>◌}
 use Rattle.rules.proofs.Tests.{is_true, check-fine, check_last}
 use Rattle.cell_output.specs.CellOutput.{cell_output}
-use Rattle.udt_cells.specs.Pick.{told, pick_typed}
-use Rattle.udt_cells.specs.Change.{Built, answered, capacity_for, put_first, with_change, lent, unless_refused, udt_inputs_outputs}
+use Rattle.udt_cells.specs.Change.{capacity_for, lent}
 use Rattle.cell_output.proofs.CellOutputLaws.{output-length}
 
 -- ---- the capacity

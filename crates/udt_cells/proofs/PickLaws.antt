@@ -1,5 +1,5 @@
 -- Laws of specs/Pick.antt: the loop over the cells.
-use Rattle.std.proofs.Common.{◌≡◌, ℕ, ◌+◌, ◌-◌, ◌≤◌, ◌<◌, Bool, false, List, [], ◌∷◌, ap, ◌∙◌, sym, leb, Option, Some, None, Result, Ok, Err}
+use Rattle.std.proofs.Common.{◌≡◌, ℕ, ◌+◌, ◌-◌, ◌≤◌, ◌<◌, false, List, [], ◌∷◌, ap, ◌∙◌, sym, leb, Option, Some, None, Result, Ok, Err}
 use borrow.Author.Tests.{le-leb, lt-leb}
 use Rattle.std.specs.Option.{option_map}
 use Rattle.error.specs.declared.Refusal.{Refusal}
@@ -12,8 +12,7 @@ use Rattle.molecule.specs.Layout.{span, item_count, item_of, items_of}
 use Rattle.lists.proofs.SpanLaws.{span-on, span-end, span-whole}
 use Rattle.rules.specs.Outcome.{Outcome, fine, ◌>>=◌}
 use Rattle.rules.specs.Told.{told_by, refusal}
-use Rattle.udt_cells.specs.declared.Picked.{Picked}
-use Rattle.udt_cells.specs.Pick.{Pick, told, plus_cell, enough_or, pick_from}
+use Rattle.udt_cells.specs.Pick.{Pick, plus_cell, enough_or, pick_from}
 
 -- where the total is enough, no cell is looked at
 pub enough : (wanted taken total : ℕ) (cells : List (List ℕ)) → wanted ≤ total → pick_from wanted taken total cells ≡ fine (record { taken = taken; change = total - wanted })
