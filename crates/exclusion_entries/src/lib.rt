@@ -94,8 +94,7 @@ fn is_entry(x: &[u8]) -> bool
 pub fn has_hash(x: &[u8], hash: Byte32) -> bool
     ensures { result ≡ has_hash hash (entry_of x.now) }
 {
-    little_endian::u64_at(x, 0) == hash.a
-        && out_points::byte32_at(x, 0) == hash
+    little_endian::u64_at(x, 0) == hash.a && out_points::byte32_at(x, 0) == hash
 }
 
 // Whether it is pending, or was committed after what `truncate` drops at this tip.

@@ -107,7 +107,8 @@ fn same_within(s: &[u8], i: usize, p: OutPoint) -> bool
     p.hash.a == little_endian::u64_at(x, 0) && p == out_point_at(x, 0)
 }
 
-// Whether p is among the first n items, which no slice of their own has: they stand in Molecule bytes, which may go on behind them or end before the last. Where the bytes end before the last of them, what is missing is read as zeros.
+// Whether p is among the first n items. Where the bytes end before the last of them, what is missing is read as zeros; so there is no slice of just those items that
+// could be lent in place of the list and n.
 fn has_among(s: &[u8], n: usize, p: OutPoint) -> bool
     requires { (n ≤ fix_count s.now) × (n < 4294967296) }
     ensures { result ≡ has p (span (point_of s.now) 0 n) }
@@ -128,7 +129,7 @@ fn has_among(s: &[u8], n: usize, p: OutPoint) -> bool
     false
 }
 
-// Whether p is among the first n items of the lent list, or among all where it has fewer; n as in `has_among`.
+// Whether p is among the first n items of the lent list, or among all where it has fewer. The list and n, as in `has_among`.
 pub fn has_before(s: &[u8], n: usize, p: OutPoint) -> bool
     ensures { result ≡ has p (span (point_of s.now) 0 (min n (fix_count s.now))) }
 {
