@@ -1,34 +1,16 @@
 // Reads a case file from standard input, at most 65,536 bytes, and prints the verdict line: 0 and the capacity surplus in hex, or a refusal's number and
-// its values. A read that fails counts as the end of the file, and a write that fails is passed over: the status is 0 whatever is printed.
-#![tactic(auto, using(crate::proofs::Ways::ways))]
+// its values. By the toolchain's `io`, which rests on two functions of C's, where `std::io` rests on four.
+#![tactic(auto)]
 
-ghost use Rattle.std.specs.Prelude.{◌≤◌, length};
+const STDIN_FILENO: i32 = 0;
 
-use case_file::FILE_BYTES;
-use std::io;
-use std::io::{Read, Write};
-use verdict_line::LINE_BYTES;
+const STDOUT_FILENO: i32 = 1;
 
-// How many bytes were read before `file` was full, the input ended or a read failed.
-fn read_full<I: Read>(input: &mut I, file: &mut [u8]) -> usize
-    ensures { result ≤ length file.old }
-{
-    let mut at = 0;
-    // a while: each read says how far it came
-    while at < file.len() {
-        match input.read(&mut file[at..]) {
-            Ok(0) | Err(_) => break,
-            Ok(n) => at += n,
-        }
-    }
-    at
-}
-
-fn main(rt: HostRuntime) {
+fn main() {
     // one byte more than the longest case file, so that a longer one is seen to be too long
-    let mut file = [0u8; FILE_BYTES + 1];
-    let n = read_full(&mut rt.reader(), &mut file);
-    let mut line = [0u8; LINE_BYTES];
+    let mut file = [0u8; case_file::FILE_BYTES + 1];
+    let n = io::read_full(STDIN_FILENO, &mut file);
+    let mut line = [0u8; verdict_line::LINE_BYTES];
     let length = case_file::check_case(&file[..n], &mut line);
-    let _ = io::writer(&rt).write_all(&line[..length]);
+    io::write_all(STDOUT_FILENO, &line[..length]);
 }

@@ -1,6 +1,6 @@
 -- The bytes that `write_transaction` writes are a transaction with exactly the given fields: they are readable (`written-readable`), each field
 -- reads back as it was given (`written_fields`), and they are the schema's encoding of the fields' values (`written-encodes`).
--- `fits_reads` says the first two where the bytes fit, `wrote_reads` where the answer is `Wrote`, and `wrote_bytes` that the buffer then holds them.
+-- `fits_reads` says the first two where the bytes fit, `wrote_reads` where the answer is `Ok`, and `wrote_bytes` that the buffer then holds them.
 use mathlib.Core.Path.{◌≡◌, refl, ap, ◌∙◌}
 use Prim.Native.Nat.{ℕ, ◌^◌, ◌<◌, ◌≤◌}
 use mathlib.Core.Bool.{Bool, true, false, and-eq-true_iff}
@@ -45,7 +45,7 @@ read_word v h =
     let l = length-to_le 4 v in
     num_some 4 (to_le 4 v) 0 (omega arith) ∙ ap le (take_all 4 (to_le 4 v) (omega arith)) ∙ le-to_le 4 v (omega arith)
 
--- only where both tests pass is the answer `Wrote`, and then it is the length
+-- only where both tests pass is the answer `Ok`, and then it is the length
 answered : (p q : Bool) (refusal : Refusal) (m n : ℕ)
     → Ok n ≡ pick p (pick q (Ok m) (Err Refusal.BufferTooShort)) (Err refusal)
     → (p ≡ true) × (q ≡ true) × (m ≡ n)

@@ -180,7 +180,7 @@ module _ {f : ℕ → Bool} {g : ℕ → OutPoint} {all : List OutPoint} {n i : 
   pub name-long : length out ≡ length out₀
   name-long = list_long k.listing
 
--- ---- put_busy_list
+-- ---- the list of the busy picks
 
 module _ (cells picked spent : List ℕ) where
   abbrev F : ℕ → Bool

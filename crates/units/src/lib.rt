@@ -3,7 +3,7 @@
 
 pub mod fee;
 
-ghost use Rattle.std.specs.Prelude.{◌≡◌, ℕ};
+ghost use Rattle.std.specs.Prelude.{◌≡◌, ℕ, refl};
 ghost use Rattle.std.specs.Option.{option_map};
 ghost use Rattle.arithmetic.specs.Amount.{sum, difference, amount_at};
 ghost use Rattle.units.specs.Units.{in_shannons, in_tokens, capped_sum, later, is_at_least};
@@ -22,6 +22,8 @@ pub trait Figure: Copy {
 
     fn count(self) -> u128
         ensures { result ≡ count self };
+
+    ghost told: { (n : ℕ) → count (of n) ≡ n };
 
     // The sum, where it is below 2^128.
     final fn checked_add(self, other: Self) -> Option<Self>
@@ -63,6 +65,8 @@ impl Figure for Shannons {
 
     ghost of = { in_shannons };
 
+    ghost told = { λ n. refl };
+
     fn new(n: u128) -> Shannons {
         Shannons(n)
     }
@@ -76,6 +80,8 @@ impl Figure for Tokens {
     ghost count = { λ t. t.0 };
 
     ghost of = { in_tokens };
+
+    ghost told = { λ n. refl };
 
     fn new(n: u128) -> Tokens {
         Tokens(n)
