@@ -12,7 +12,7 @@ use arithmetic::little_endian;
 use molecule::write;
 
 // How many bytes an out point has.
-const OUT_POINT_BYTES: u32 = 36;
+pub const OUT_POINT_BYTES: u32 = 36;
 
 // A hash, in words of eight bytes, so that two are compared in four steps.
 #[derive(Clone, Copy, Debug, Default, PartialEq, Eq, Hash)]
