@@ -18,7 +18,7 @@ use units::Millis;
 // How long a cell that the watchtower took stays held while its transaction is built and sent.
 pub const WATCHTOWER_PICK_HOLD_MS: u64 = 60_000;
 
-// The table with a funding record last for each of the cells.
+// The table with a funding record last for each of the cells. No `push`: see `tally` of crate picks.
 fn append(h: Held, holder: u64, cells: &[u8]) -> Held
     requires { h.count + fix_count cells.now ≤ 256 }
     ensures result_value { records_of result ≡ records_of h ++ map (held_by (Owner.Funding holder)) (points cells.now) }

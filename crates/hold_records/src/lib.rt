@@ -37,13 +37,16 @@ pub enum Taker {
 }
 
 // The first `count` records stand; where `count` is beyond the array, all of it. No ==: one that is derived would tell tables apart by what is behind those.
+// An array and its count, since there is no heap. That the count is 256 at most stands in the contracts: as an invariant here it would ask callers for it, who
+// now may lend any count.
 #[derive(Clone, Copy, Debug)]
 pub struct Held {
     pub records: [Hold; 256],
     pub count: usize,
 }
 
-// Which records a table is to keep.
+// Which records a table is to keep. No closure for it: a public function that calls one needs a `requires`, and the public functions here have none. For the same
+// reason `held_bytes::read_kept` and the release of the watchtower's records, whose tests are others, go over the records by themselves.
 #[derive(Clone, Copy, Debug, PartialEq, Eq, Hash)]
 pub enum Rule {
     // All but the watchtower records that have ended.
@@ -131,7 +134,8 @@ fn cell_of(r: Hold) -> OutPoint
     r.point
 }
 
-// Puts the cells of the records from `from` on, one after the other from `at` on.
+// Puts the cells of the records from `from` on, one after the other from `at` on. This list and the two of picks (`unavailable_picks`, `picks`) each have a loop
+// of their own: one loop for all would be a public function over a closure that gives the points, and such a one needs a `requires`.
 fn put_points(h: Held, from: usize, out: &mut [u8], at: usize) -> usize
     requires { at + 36 * (min h.count 256 - from) ≤ length out.old }
     ensures put { Put out.old at (bytes_of (cells_of (drop from (records_of h)))) out.new result }

@@ -85,7 +85,8 @@ impl<'a> Keys<'a> {
         }
     }
 
-    // Makes the index of the first n items in s, where both slices have room for n places; t is work room.
+    // Makes the index of the first n items in s, where both slices have room for n places; t is work room. n stands beside the
+    // slices since a slice may have more places than a u32 counts: of slices of exact length as little would be promised, with one condition more.
     pub fn build(self, n: u32, s: &mut [u32], t: &mut [u32])
         ensures { n ≤ length s.old → n ≤ length t.old → Index (keys_of self.entry) n s.new }
     {

@@ -12,7 +12,7 @@ use arithmetic::little_endian;
 use molecule::write;
 
 // How many bytes an out point has.
-const OUT_POINT_BYTES: u32 = 36;
+pub const OUT_POINT_BYTES: u32 = 36;
 
 // A hash, in words of eight bytes, so that two are compared in four steps.
 #[derive(Clone, Copy, Debug, Default, PartialEq, Eq, Hash)]
@@ -107,8 +107,7 @@ fn same_within(s: &[u8], i: usize, p: OutPoint) -> bool
     p.hash.a == little_endian::u64_at(x, 0) && p == out_point_at(x, 0)
 }
 
-// Whether p is among the first n items. Where the bytes end before the last of them, what is missing is read as zeros; so there is no slice of just those items that
-// could be lent in place of the list and n.
+// Whether p is among the first n items. The list and n, since bytes that are missing at its end are read as zeros: such items have no slice of their own.
 fn has_among(s: &[u8], n: usize, p: OutPoint) -> bool
     requires { (n ≤ fix_count s.now) × (n < 4294967296) }
     ensures { result ≡ has p (span (point_of s.now) 0 n) }
@@ -129,7 +128,7 @@ fn has_among(s: &[u8], n: usize, p: OutPoint) -> bool
     false
 }
 
-// Whether p is among the first n items of the lent list, or among all where it has fewer. The list and n, as in `has_among`.
+// Whether p is among the first n items of the lent list, or among all where it has fewer.
 pub fn has_before(s: &[u8], n: usize, p: OutPoint) -> bool
     ensures { result ≡ has p (span (point_of s.now) 0 (min n (fix_count s.now))) }
 {

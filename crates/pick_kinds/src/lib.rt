@@ -10,9 +10,7 @@ ghost use Rattle.pick_kinds.specs.Indexed.{Whole, Places, First, Adds};
 ghost use Rattle.pick_kinds.specs.Picks.{KindsOf, AreWhole};
 
 use item_index::Keys;
-
-// How many bytes an out point has.
-const OUT_POINT_BYTES: u32 = 36;
+use out_points::OUT_POINT_BYTES;
 
 // So many picks are indexed. Two lists of 133,116 bytes hold no more.
 pub const MOST_PICKS: usize = 7394;

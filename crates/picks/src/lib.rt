@@ -48,6 +48,8 @@ impl<'a> Sorted<'a> {
         self.kinds[i] == Kind::Free
     }
 
+    // What the free picks come to. No `push` puts a record last: it would answer whether there is room, and each of its three callers does something else where
+    // there is none (`append` of crate held_cells has made sure of it, this goes on counting, `renew_from` of crate watchtower_holds refuses).
     fn tally(self, h: Held, owner: Owner) -> Taken
         ensures { Tallied owner (free_of self.entry.picked.now self.entry.kinds.now) h result.held result.count }
     {
@@ -72,7 +74,7 @@ impl<'a> Sorted<'a> {
         Taken { held: g, count }
     }
 
-    // Puts the picks that are not taken, one after the other from `at` on.
+    // Puts the picks that are not taken, one after the other from `at` on. By a loop of its own: see `put_points` of crate hold_records.
     fn put_refused(self, out: &mut [u8], at: usize) -> usize
         requires { at + 36 * length (left_of self.picked.now self.kinds.now) ≤ length out.old }
         ensures { Put out.old at (bytes_of (left_of self.entry.picked.now self.entry.kinds.now)) out.new result }

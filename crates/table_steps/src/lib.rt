@@ -1,6 +1,6 @@
 // Each call on the table of holds with, beside its own contract, that it is a step of a list of calls (`Called`, crates/table_laws): the laws over such
-// lists are about calls of the code, and have the parameters of those, one by one. `Funded`, `Watched`, `Locked` and `Took` are what those laws say of a call that is
-// done. The same for a lent table in `lent`, and for the exclusion map in `maps`.
+// lists are about calls of the code, and have the parameters of those, one by one. `Funded`, `Watched`, `Locked` and `Took` are what those laws say of a call
+// that is done. The same for a lent table in `lent`, and for the exclusion map in `maps`.
 #![tactic(auto, using(crate::proofs::Ways::ways))]
 
 ghost use Rattle.std.specs.Prelude.{◌≡◌, ◌≤◌, IfOk};

@@ -170,7 +170,7 @@ impl<'a> Known<'a> {
         count
     }
 
-    // Puts those picks, one after the other from `at` on.
+    // Puts those picks, one after the other from `at` on. By a loop of its own: see `put_points` of crate hold_records.
     fn put_busy(self, out: &mut [u8], at: usize) -> usize
         requires in_bounds { at + 36 * length (named_of self.marked.picks) ≤ length out.old }
         ensures { Put out.old at (bytes_of (named_of self.entry.marked.picks)) out.new result }

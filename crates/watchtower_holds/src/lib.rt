@@ -1,5 +1,5 @@
-// The watchtower's holds on cells: the table of holds goes in by value and comes back by value, and the caller of a refused call still has the very table that it lent.
-// Parameters stand one by one, as in the C functions of the calls: a struct would be made there for each single call.
+// The watchtower's holds on cells: the table of holds goes in by value and comes back by value, and the caller of a refused call still has the very table that it
+// lent. Parameters stand one by one, as in the C functions of the calls: a struct would be made there for each single call.
 #![tactic(auto, using(crate::proofs::Ways::ways))]
 
 ghost use Rattle.std.specs.Prelude.{◌≡◌, [], ◌+◌, ◌-◌, ◌*◌, ◌<◌, ◌≤◌, min, nat_eq, length, get_or, set, IfOk};
@@ -19,7 +19,8 @@ use units::Millis;
 pub const WATCHTOWER_HOLD_MS: u64 = 1_800_000;
 
 // Two hints for each slot of out points: where the first of the watchtower's records of the slot stands, and one less than where any other may stand. Both are
-// 255 where there is none: the last place, at which a record is looked at like at any other, and the place behind it.
+// 255 where there is none: the last place, at which a record is looked at like at any other, and the place behind it. So 255 needs no case of its own, as the
+// None of an Option would. No struct for them: `Hints` is a fact of hints and table together, which change in turn, so contracts would name both all the same.
 const HINTS: usize = 2 * SLOTS;
 
 // Where the first of the watchtower's records in the slot of p stands. If that is beyond the records, the slot has none.
@@ -129,7 +130,8 @@ fn counted(count: usize, at: usize) -> usize
     count.max(at + 1)
 }
 
-// The watchtower's record on each of the cells lasts until `end`: in its place, or last. More than one record is looked at only where a slot has more than one.
+// The watchtower's record on each of the cells lasts until `end`: in its place, or last (without a `push`: see `tally` of crate picks). More than one record is
+// looked at only where a slot has more than one.
 fn renew_from(from: Held, cells: &[u8], end: Millis, hints: &mut [u8]) -> Result<Held, Refusal>
     requires { (from.count ≤ 256) × Hints hints.old from.records (min from.count 256) }
     ensures held_value { (h : Held) → outcome_on h result ≡ at_most_256 h (renew_all end (records_of from) (points cells.now)) }
