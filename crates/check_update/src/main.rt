@@ -9,7 +9,8 @@ use std::io;
 use std::io::{Read, Write};
 use verdict_line::LINE_BYTES;
 
-// How many bytes were read before `file` was full, the input ended or a read failed.
+// How many bytes were read before `file` was full, the input ended or a read failed. `recorded_calls` fills a buffer in the same way, but this program is
+// shipped and does without that crate, which is for tests and asks for a heap; and there a read that fails ends the program.
 fn read_full<I: Read>(input: &mut I, file: &mut [u8]) -> usize
     ensures { result ≤ length file.old }
 {

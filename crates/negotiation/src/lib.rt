@@ -20,7 +20,7 @@ use error::Refusal;
 use rules::Update;
 
 // What a list of updates came to: how many they were, how many were accepted, and which transaction is then in force: 0 for the one at the start, k + 1 for
-// that of update k.
+// that of update k. That is a number and no Option, as it crosses to C.
 #[derive(Clone, Copy, Debug, PartialEq, Eq, Hash)]
 pub struct Summary {
     pub updates: usize,
