@@ -45,7 +45,7 @@ fn is_right(file: &[u8], line: &[u8]) -> bool {
     n == line.len() && out.starts_with(line)
 }
 
-#[derive(Drop)]
+#[derive(Debug, Drop, PartialEq, Eq)]
 struct Files {
     alloc: Global,
     by_number: Tallies<NUMBERS>,
