@@ -79,7 +79,8 @@ pub fn entry_size(n: u32) -> usize
     48 + 36 * n as usize
 }
 
-// Whether its kind and its block are in form.
+// Whether its kind and its block are in form. No `Option<BlockNumber>` is made of the two, which is read in one place alone (`is_recent`): the Option of
+// `state_of` is not the one of the code, and it would need a definition beside that one. Here both numbers are asked for, as bytes may be out of form.
 #[tactic(auto, unfolding(crate::specs::Entries::is_entry))]
 fn is_entry(x: &[u8]) -> bool
     ensures { result ≡ is_entry x.now }
