@@ -148,7 +148,7 @@ fn is_right(r: &Request<'_>, alloc: Global) -> Result<bool, AllocError> {
     )
 }
 
-#[derive(Drop)]
+#[derive(Debug, Drop, PartialEq, Eq)]
 struct Requests {
     alloc: Global,
     by_number: Tallies<NUMBERS>,
