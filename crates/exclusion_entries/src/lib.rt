@@ -79,7 +79,8 @@ pub fn entry_size(n: u32) -> usize
     48 + 36 * n as usize
 }
 
-// Whether its kind and its block are in form.
+// Whether its kind and its block are in form. No `Option<BlockNumber>` is made of the two, which is read in one place alone (`is_recent`): the Option of
+// `state_of` is not the one of the code, and it would need a definition beside that one. Here both numbers are asked for, as bytes may be out of form.
 #[tactic(auto, unfolding(crate::specs::Entries::is_entry))]
 fn is_entry(x: &[u8]) -> bool
     ensures { result ≡ is_entry x.now }
@@ -132,7 +133,7 @@ pub fn takes(rule: Rule, x: &[u8]) -> bool
 
 // ---- a hash that is lent
 
-// The hash that the bytes are.
+// The hash that the bytes are. No TryFrom: the refusal is the one that the calls on the map give, and not one of the type.
 #[tactic(auto, unfolding(crate::specs::LentMap::hash_of))]
 pub fn hash_of(s: &[u8]) -> Result<Byte32, Refusal>
     ensures { result ≡ hash_of s.now }
@@ -226,7 +227,8 @@ fn touched(v: Survey, rule: Rule, x: &[u8]) -> Survey
     stayed(v, point_count(x))
 }
 
-// Reads a table, and finds what a call by this rule makes of it.
+// Reads a table, and finds what a call by this rule makes of it. An iterator over the entries would be no plainer: it needs the place and what is left too,
+// as each entry tells where the next one starts, and the next is there only while the out points are not too many.
 pub fn read_map(s: &[u8], rule: Rule) -> Result<Survey, Refusal>
     ensures { result ≡ survey_of rule s.now }
 {

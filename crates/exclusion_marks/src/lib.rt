@@ -64,7 +64,8 @@ pub fn commit(map: &mut [u8], hash: &[u8], block: BlockNumber) -> Answer
     Ok(())
 }
 
-// Puts the out points of all entries from 4 on.
+// Puts the out points of all entries from 4 on. An iterator over the entries would be no plainer: it would count the same place, for this one loop alone, as
+// `mark` writes to the bytes that it walks.
 fn put_excluded(s: &[u8], out: &mut [u8])
     requires all_bytes { AllBytes s.now }
     requires s_value { is_map s.now ≡ true }

@@ -71,7 +71,8 @@ fn sift_one(s: &mut [u8], rule: Rule, c: Sift) -> Sift
 
 // ---- a whole pass
 
-// A rule, and what the pass by it finds in a map.
+// A rule, and what the pass by it finds in a map. `Found` stands in what the functions here require, and not in the type: it is about the map too, which they
+// change, so that the struct would have to hold it.
 #[derive(Clone, Copy, Debug, PartialEq, Eq, Hash)]
 pub(crate) struct Pass {
     pub(crate) rule: Rule,

@@ -1,7 +1,7 @@
 // A negotiation: a lent list of updates, each judged against the transaction that the one before it left in force.
 #![tactic(auto, using(crate::proofs::Ways::ways))]
 
-ghost use Rattle.std.specs.Prelude.{◌≡◌, ◌+◌, ◌*◌, ◌≤◌, length};
+ghost use Rattle.std.specs.Prelude.{◌≡◌, ◌+◌, ◌*◌, ◌≤◌, length, Ok};
 ghost use Rattle.molecule.specs.Molecule.{option, readable};
 ghost use Rattle.molecule.specs.Layout.{inside, item_count};
 ghost use Rattle.molecule.specs.Write.{splice};
@@ -10,7 +10,6 @@ ghost use Rattle.rules.specs.Judge.{judge};
 ghost use Rattle.rules.specs.Outcome.{fine};
 ghost use Rattle.rules.specs.Told.{told, in_force_of};
 ghost use Rattle.rules.specs.Run.{verdicts, update_for_peer};
-ghost use Rattle.negotiation.specs.Updates as form;
 ghost use Rattle.negotiation.specs.Updates.{Updates, bytes_of, bytes_start, rate_of, call_at, calls_of, transaction_at, place_at};
 ghost use Rattle.negotiation.specs.Words.{words};
 ghost use Rattle.negotiation.specs.Replay.{replay_of, leaves, answered};
@@ -19,8 +18,10 @@ use arithmetic::little_endian;
 use error::Refusal;
 use rules::Update;
 
+mod entities;
+
 // What a list of updates came to: how many they were, how many were accepted, and which transaction is then in force: 0 for the one at the start, k + 1 for
-// that of update k.
+// that of update k. That is a number and no Option, as it crosses to C.
 #[derive(Clone, Copy, Debug, PartialEq, Eq, Hash)]
 pub struct Summary {
     pub updates: usize,
@@ -32,35 +33,15 @@ pub type Replayed = Result<Summary, Refusal>;
 
 // ---- the form of the list
 
-// Whether s is an update: the peer's transaction, the records, the source lock, and the fee rate.
-fn is_update(s: &[u8]) -> bool
-    ensures { result ≡ readable form.Update s.now }
-{
-    molecule::has_items(s, 4)
-        && molecule::is_bytes(molecule::field(s, 4, 0))
-        && molecule::is_bytes(molecule::field(s, 4, 1))
-        && molecule::is_bytes(molecule::field(s, 4, 2))
-        && molecule::field_len(s, 4, 3) == 8
-}
-
 // Whether s is a list of updates.
 pub fn is_updates(s: &[u8]) -> bool
     ensures { result ≡ readable Updates s.now }
 {
-    let n = molecule::item_count(s) as usize;
-    if !molecule::has_items(s, n) {
-        return false;
-    }
-    for i in 0..n {
-        let x = molecule::item(s, i);
-        if !is_update(x) {
-            return false;
-        }
-    }
-    true
+    molecule::is_dynvec_of::<entities::Update>(s)
 }
 
-// The bytes of field j of update i.
+// The bytes of field j of update i. It takes the list alone, as `transaction_at` does, which asks its callers for no lock and type: those go with it into the
+// `Negotiation`.
 fn bytes(updates: &[u8], i: usize, j: usize) -> &[u8]
     ensures result_value { result.now ≡ bytes_of updates.now i j }
     ensures ref_ptr_value { result.ref_ptr ≡ inside updates.entry.ref_ptr (bytes_start updates.now i j) }
@@ -111,7 +92,8 @@ fn put_words(answers: &mut [u64], at: usize, update: Update)
     copy(answers, at, &five);
 }
 
-// Which of two goes with an answer: the second after an acceptance, the first after a refusal.
+// Which of two goes with an answer: the second after an acceptance, the first after a refusal. `funding_tx::in_force` is the same of slices: one function for
+// both would be no plainer, as it would not say of slices that the bytes go with the answer too.
 fn after(update: Update, ours: usize, peer: usize) -> usize
     ensures { result ≡ in_force_of update ours peer }
 {
@@ -152,9 +134,9 @@ impl Negotiation<'_> {
 
     // Judges the updates one after another. The start is read once: where it is readable so is every transaction that is accepted after it, and where it is not
     // none is accepted.
-    fn judge_all(self, answers: &mut [u64]) -> Replayed
+    fn judge_all(self, answers: &mut [u64]) -> Summary
         requires { 5 * item_count self.updates.now ≤ length answers.old }
-        ensures { (answered result, answers.new) ≡ leaves (fine (verdicts (update_for_peer self.entry.lock.now self.entry.udt.now) self.entry.start.now (calls_of self.entry.updates.now))) answers.old }
+        ensures { (answered (Ok result), answers.new) ≡ leaves (fine (verdicts (update_for_peer self.entry.lock.now self.entry.udt.now) self.entry.start.now (calls_of self.entry.updates.now))) answers.old }
     {
         let n = molecule::item_count(self.updates) as usize;
         let known = transaction::is_optional_transaction(self.start);
@@ -166,11 +148,11 @@ impl Negotiation<'_> {
             at = after(update, at, i + 1);
             accepted = after(update, accepted, accepted + 1);
         }
-        Ok(Summary {
+        Summary {
             updates: n,
             accepted,
             at,
-        })
+        }
     }
 
     // Judges the updates, each against the transaction that the one before it left in force, under one expected lock and type. For update k, five words of
@@ -186,6 +168,6 @@ impl Negotiation<'_> {
         if answers.len() / 5 < n {
             return Err(Refusal::BufferTooShort);
         }
-        self.judge_all(answers)
+        Ok(self.judge_all(answers))
     }
 }

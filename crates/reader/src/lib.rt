@@ -35,7 +35,7 @@ impl<'a> Reader<'a> {
         }
     }
 
-    // The number of four bytes where it stands: a version, or how many items a fixvec says that it has.
+    // The number of four bytes where it stands: a version, or how many items a fixvec says that it has. It reads bytes, so it is no conversion of a reader.
     pub fn number(self) -> u32
         ensures { result ≡ u32_at self.entry.src.now self.entry.at }
     {

@@ -2,7 +2,7 @@
 ghost use Rattle.std.specs.Prelude.{◌≡◌, ◌+◌, ◌*◌, ◌^◌};
 ghost use Rattle.arithmetic.specs.LittleEndian.{u64_at};
 
-use arithmetic::little_endian;
+use arithmetic::{amount, little_endian};
 
 // The number of the first 16 bytes. A half of which less than all stands there is 0.
 pub fn u128_of(s: &[u8]) -> u128
@@ -10,5 +10,5 @@ pub fn u128_of(s: &[u8]) -> u128
 {
     let low = little_endian::u64_at(s, 0);
     let high = little_endian::u64_at(s, 8);
-    u128::from(low) + (u128::from(high) << 64)
+    amount::from_halves(low, high)
 }

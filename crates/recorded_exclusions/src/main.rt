@@ -40,18 +40,13 @@ impl Kind {
     ];
 }
 
-// A number that no call has.
-#[derive(Clone, Copy, Debug, PartialEq, Eq)]
-struct UnknownKind(u8);
-
-impl TryFrom<u8> for Kind {
-    type Error = UnknownKind;
-
-    fn try_from(number: u8) -> Result<Kind, UnknownKind> {
+// A call of no known kind starts a sequence.
+impl From<u8> for Kind {
+    fn from(number: u8) -> Kind {
         Kind::ALL
             .get(usize::from(number))
             .copied()
-            .ok_or(UnknownKind(number))
+            .unwrap_or(Kind::Start)
     }
 }
 
@@ -71,7 +66,7 @@ impl fmt::Display for Kind {
 
 // ---- one call
 
-// Zeros are the empty map, with which a call of no known kind starts too.
+// Zeros are the empty map.
 fn start(map: &mut [u8]) -> Answer {
     map.fill(0);
     Ok(())
@@ -80,14 +75,14 @@ fn start(map: &mut [u8]) -> Answer {
 fn answer(map: &mut [u8], call: &Call<'_>, list: &mut [u8]) -> Answer {
     let [hash, new_hash] = call.lent;
     let [block, _] = call.numbers;
-    match Kind::try_from(call.kind) {
-        Ok(Kind::Add) => exclusions::add(map, hash, call.tx),
-        Ok(Kind::Commit) => exclusion_marks::commit(map, hash, BlockNumber(block)),
-        Ok(Kind::Remove) => exclusions::remove(map, hash),
-        Ok(Kind::MigrateFundingTx) => exclusions::migrate_funding_tx(map, hash, new_hash, call.tx),
-        Ok(Kind::Truncate) => exclusions::truncate(map, BlockNumber(block)),
-        Ok(Kind::Apply) => exclusion_marks::apply(map, list),
-        Ok(Kind::Start) | Err(UnknownKind(_)) => start(map),
+    match Kind::from(call.kind) {
+        Kind::Add => exclusions::add(map, hash, call.tx),
+        Kind::Commit => exclusion_marks::commit(map, hash, BlockNumber(block)),
+        Kind::Remove => exclusions::remove(map, hash),
+        Kind::MigrateFundingTx => exclusions::migrate_funding_tx(map, hash, new_hash, call.tx),
+        Kind::Truncate => exclusions::truncate(map, BlockNumber(block)),
+        Kind::Apply => exclusion_marks::apply(map, list),
+        Kind::Start => start(map),
     }
 }
 

@@ -42,18 +42,13 @@ impl Kind {
     ];
 }
 
-// A number that no call has.
-#[derive(Clone, Copy, Debug, PartialEq, Eq)]
-struct UnknownKind(u8);
-
-impl TryFrom<u8> for Kind {
-    type Error = UnknownKind;
-
-    fn try_from(number: u8) -> Result<Kind, UnknownKind> {
+// A call of no known kind is run as the last one.
+impl From<u8> for Kind {
+    fn from(number: u8) -> Kind {
         Kind::ALL
             .get(usize::from(number))
             .copied()
-            .ok_or(UnknownKind(number))
+            .unwrap_or(Kind::LockHeld)
     }
 }
 
@@ -74,7 +69,7 @@ impl fmt::Display for Kind {
 
 // ---- one call
 
-// The table after the call. One of no known kind is run as the last one.
+// The table after the call.
 fn answer(
     held: Held,
     call: &Call<'_>,
@@ -84,11 +79,11 @@ fn answer(
     let [holder, now] = call.numbers;
     let now = Millis(now);
     let [cells, spent] = call.lent;
-    match Kind::try_from(call.kind) {
-        Ok(Kind::Start) => Ok(hold_records::empty()),
-        Ok(Kind::HoldFunding) => held_cells::hold_funding(held, holder, cells),
-        Ok(Kind::HoldForWatchtower) => watchtower_holds::hold_for_watchtower(held, cells, now),
-        Ok(Kind::TakeForHolder) => {
+    match Kind::from(call.kind) {
+        Kind::Start => Ok(hold_records::empty()),
+        Kind::HoldFunding => held_cells::hold_funding(held, holder, cells),
+        Kind::HoldForWatchtower => watchtower_holds::hold_for_watchtower(held, cells, now),
+        Kind::TakeForHolder => {
             held_cells::take(
                 held,
                 cells,
@@ -99,15 +94,15 @@ fn answer(
                 second,
             )
         }
-        Ok(Kind::TakeForWatchtower) => {
+        Kind::TakeForWatchtower => {
             held_cells::take(held, cells, spent, Taker::Watchtower, now, first, second)
         }
-        Ok(Kind::ReleaseForWatchtower) => watchtower_holds::release_for_watchtower(held, cells),
-        Ok(Kind::Unavailable) => {
+        Kind::ReleaseForWatchtower => watchtower_holds::release_for_watchtower(held, cells),
+        Kind::Unavailable => {
             held_cells::unavailable(held, cells, spent, now, first)?;
             Ok(held)
         }
-        Ok(Kind::LockHeld) | Err(UnknownKind(_)) => held_cells::lock_held(held, now, first),
+        Kind::LockHeld => held_cells::lock_held(held, now, first),
     }
 }
 

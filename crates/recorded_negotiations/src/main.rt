@@ -4,12 +4,12 @@
 #![tactic(auto)]
 
 use arithmetic::little_endian;
-use error::Refusal;
 use recorded_calls::{Items, Replay};
-use rules::Update;
+use rules::{Surplus, Update};
 use std::alloc::{AllocError, Global};
 use std::io::BufReader;
 use std::{fmt, io};
+use units::{Shannons, Tokens};
 
 // How long a part is at most: in the longest one transaction is over the limit of size.
 const LONGEST: usize = 140_000;
@@ -36,8 +36,8 @@ impl<'a> From<&'a [u8]> for Negotiation<'a> {
             udt: molecule::field(part, 6, 2),
             updates: molecule::field(part, 6, 3),
             surplus: Surplus {
-                capacity: recorded_calls::u128_of(sums),
-                token: recorded_calls::u128_of(molecule::part(sums, 16, 32)),
+                capacity: Shannons(recorded_calls::u128_of(sums)),
+                token: Tokens(recorded_calls::u128_of(molecule::part(sums, 16, 32))),
             },
             in_force: little_endian::u32_at(molecule::field(part, 6, 5), 0),
         }
@@ -81,38 +81,22 @@ impl Proposal<'_> {
 
 // ---- what the library answers
 
-// The surpluses of what is accepted, capped where they sum to more than any recorded sum.
-#[derive(Clone, Copy, Debug, Default, PartialEq, Eq)]
-struct Surplus {
-    capacity: u128,
-    token: u128,
-}
-
-impl Surplus {
-    fn add(&mut self, other: Surplus) {
-        self.capacity = self.capacity.saturating_add(other.capacity);
-        self.token = self.token.saturating_add(other.token);
-    }
-}
-
-fn told(update: Update) -> Result<Surplus, Refusal> {
-    match update {
-        Ok(surplus) => Ok(Surplus {
-            capacity: surplus.capacity.0,
-            token: surplus.token.0,
-        }),
-        Err(refusal) => Err(refusal),
+// The sum of two surpluses, capped where it is more than any recorded sum.
+fn sum(x: Surplus, y: Surplus) -> Surplus {
+    Surplus {
+        capacity: x.capacity.saturating_add(y.capacity),
+        token: Tokens(x.token.0.saturating_add(y.token.0)),
     }
 }
 
 // An answer as it is recorded: its number and each of its values, or 0 and the surpluses.
-fn recorded(alloc: Global, answer: Result<Surplus, Refusal>) -> Result<Vec<u8>, AllocError> {
+fn recorded(alloc: Global, update: Update) -> Result<Vec<u8>, AllocError> {
     let mut bytes = Vec::new(alloc);
-    match answer {
+    match update {
         Ok(surplus) => {
             bytes.push(0)?;
-            bytes.extend_from_slice(&surplus.capacity.to_le_bytes())?;
-            bytes.extend_from_slice(&surplus.token.to_le_bytes())?;
+            bytes.extend_from_slice(&surplus.capacity.0.to_le_bytes())?;
+            bytes.extend_from_slice(&surplus.token.0.to_le_bytes())?;
         }
         Err(refusal) => {
             bytes.push(refusal.number())?;
@@ -168,14 +152,13 @@ impl Negotiations {
             proposal.rate,
             proposal.records,
         );
-        let answer = told(update);
         self.updates = self.updates.saturating_add(1);
         self.panics = self.panics.saturating_add(u64::from(proposal.is_marked()));
-        self.judge(proposal.has_answer(&recorded(self.alloc, answer)?));
-        self.accepted = self.accepted.saturating_add(u64::from(answer.is_ok()));
-        let in_force = if answer.is_ok() { proposal.peer } else { ours };
+        self.judge(proposal.has_answer(&recorded(self.alloc, update)?));
+        self.accepted = self.accepted.saturating_add(u64::from(update.is_ok()));
+        let in_force = if update.is_ok() { proposal.peer } else { ours };
         self.judge(funding_tx::in_force(update, ours, proposal.peer) == in_force);
-        Ok(answer.ok())
+        Ok(update.ok())
     }
 }
 
@@ -183,19 +166,19 @@ impl Replay for Negotiations {
     fn part(&mut self, part: &[u8]) -> io::Result<()> {
         let negotiation = Negotiation::from(part);
         let mut ours = negotiation.start;
-        let mut sum = Surplus::default();
+        let mut total = Surplus::default();
         let mut in_force = 0u32;
         let mut number = 0u32;
         for item in Items::of(negotiation.updates) {
             let proposal = Proposal::from(item);
             number = number.saturating_add(1);
             if let Some(surplus) = self.propose(&negotiation, ours, &proposal)? {
-                sum.add(surplus);
+                total = sum(total, surplus);
                 ours = proposal.peer;
                 in_force = number;
             }
         }
-        self.judge(sum == negotiation.surplus && in_force == negotiation.in_force);
+        self.judge(total == negotiation.surplus && in_force == negotiation.in_force);
         self.all = self.all.saturating_add(1);
         Ok(())
     }

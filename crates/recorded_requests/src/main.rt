@@ -23,7 +23,7 @@ const NUMBERS: usize = 14;
 
 // ---- a request
 
-// What an answer tells, or its number.
+// What an answer tells, or its number: the recording has the number alone, and no values to make a refusal of.
 type Told<T> = Result<T, u8>;
 
 // A request, how long the lent buffer is, and what is lent; and what is recorded: of the base transaction how long it is and its bytes, of the funding cell

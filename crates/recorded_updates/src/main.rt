@@ -45,8 +45,8 @@ fn is_right(file: &[u8], line: &[u8]) -> bool {
     n == line.len() && out.starts_with(line)
 }
 
-// What was counted, by the digit that a line begins with. It holds the heap's handle, which can't be compared or printed.
-#[derive(Drop)]
+// What was counted, by the digit that a line begins with.
+#[derive(Debug, Drop, PartialEq, Eq)]
 struct Files {
     alloc: Global,
     by_number: Tallies<NUMBERS>,

@@ -57,11 +57,18 @@ fn show_cell_deps<W: Write>(out: &mut W, tx: &[u8]) -> io::Result<()> {
     Ok(())
 }
 
-fn show_header_deps<W: Write>(out: &mut W, tx: &[u8]) -> io::Result<()> {
-    let n = lists::header_dep_count(tx);
-    writeln!(out, "header deps {n}")?;
+// A list whose items are shown as they are: header deps or witnesses.
+fn show_bytes<'a, W: Write, F: Fn(usize) -> &'a [u8]>(
+    out: &mut W,
+    name: &str,
+    n: u32,
+    item: F,
+) -> io::Result<()>
+    requires { F.IsAlwaysCallable item }
+{
+    writeln!(out, "{name} {n}")?;
     for i in 0..n as usize {
-        writeln!(out, "  {}", Hex(lists::header_dep(tx, i)))?;
+        writeln!(out, "  {}", Hex(item(i)))?;
     }
     Ok(())
 }
@@ -81,9 +88,9 @@ fn show_output<W: Write>(out: &mut W, tx: &[u8], i: usize) -> io::Result<()> {
     let output = lists::output(tx, i);
     writeln!(out, "  shannons {}", fields::capacity(output).0)?;
     writeln!(out, "    lock {}", Script(fields::lock(output)))?;
-    let kind = fields::type_script(output);
-    if !kind.is_empty() {
-        writeln!(out, "    type {}", Script(kind))?;
+    let type_script = fields::type_script(output);
+    if !type_script.is_empty() {
+        writeln!(out, "    type {}", Script(type_script))?;
     }
     writeln!(out, "    data {}", Hex(lists::output_data(tx, i)))
 }
@@ -93,15 +100,6 @@ fn show_outputs<W: Write>(out: &mut W, tx: &[u8]) -> io::Result<()> {
     writeln!(out, "outputs {n}")?;
     for i in 0..n as usize {
         show_output(out, tx, i)?;
-    }
-    Ok(())
-}
-
-fn show_witnesses<W: Write>(out: &mut W, tx: &[u8]) -> io::Result<()> {
-    let n = lists::witness_count(tx);
-    writeln!(out, "witnesses {n}")?;
-    for i in 0..n as usize {
-        writeln!(out, "  {}", Hex(lists::witness(tx, i)))?;
     }
     Ok(())
 }
@@ -116,10 +114,14 @@ fn show<W: Write>(out: &mut W, tx: &[u8]) -> io::Result<()> {
     writeln!(out, "bytes {}", tx.len())?;
     writeln!(out, "version {}", lists::version(tx))?;
     show_cell_deps(out, tx)?;
-    show_header_deps(out, tx)?;
+    show_bytes(out, "header deps", lists::header_dep_count(tx), |i| {
+        lists::header_dep(tx, i)
+    })?;
     show_inputs(out, tx)?;
     show_outputs(out, tx)?;
-    show_witnesses(out, tx)
+    show_bytes(out, "witnesses", lists::witness_count(tx), |i| {
+        lists::witness(tx, i)
+    })
 }
 
 fn main(rt: HostRuntime) -> io::Result<()> {

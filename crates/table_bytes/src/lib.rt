@@ -13,6 +13,7 @@ use out_points::OutPoint;
 // How many bytes a place has.
 const PLACE_BYTES: u32 = 48;
 
+// The kind is a number, as it stands in the bytes that cross to C: what kinds there are is for the table that they hold to say.
 #[derive(Clone, Copy, Debug, PartialEq, Eq, Hash)]
 pub struct Place {
     pub point: OutPoint,

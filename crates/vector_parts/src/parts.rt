@@ -35,6 +35,7 @@ fn shannons(output: &[u8]) -> u64 {
     arithmetic::amount::low(fields::capacity(output).0)
 }
 
+// It picks an accessor by its number, so it is no conversion of the bytes.
 fn number(s: &[u8], accessor: u8) -> u64 {
     match accessor {
         1 => u64::from(molecule::word(s, 0)),
