@@ -1,4 +1,5 @@
-// The calls on tables of cells that the caller keeps as bytes and lends to each call: thin functions over crates held_bytes and exclusions.
+// The calls on tables of cells that the caller keeps as bytes and lends to each call: thin functions over crates held_bytes, exclusions and
+// exclusion_marks.
 ghost use Rattle.std.specs.Prelude.{◌≡◌, cond};
 ghost use Rattle.hold_records.specs.declared.{Taker.Taker};
 ghost use Rattle.hold_records.specs.Holds.{hold_funding, release_for_watchtower, hold_for_watchtower, lock_held, unavailable, take_cells};
