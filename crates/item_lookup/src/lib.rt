@@ -67,8 +67,8 @@ enum Chain {
     TooLong,
 }
 
-// The items of `ours` before place m are looked for among the first n of `theirs`. All have `size` bytes. Both counts stand in the bytes too; as methods they would
-// be read again for each item that is looked at.
+// The items of `ours` before place m are looked for among the first n of `theirs`. All have `size` bytes. Both counts stand in the bytes too; as methods they
+// would be read again for each item that is looked at.
 #[derive(Clone, Copy)]
 struct Search<'a> {
     ours: &'a [u8],
@@ -186,8 +186,8 @@ impl<'a> Search<'a> {
         true
     }
 
-    // The same by chains, which are links between places: there is no heap. An item that is not met in its chain is looked for one by one. If it is there all the same, its chain is long: the rest goes by an index,
-    // for which the chains make room.
+    // The same by chains, which are links between places: there is no heap. An item that is not met in its chain is looked for one by one. If it is there all
+    // the same, its chain is long: the rest goes by an index, for which the chains make room.
     fn chain_all(self, from: usize) -> bool
         requires { self.n ≤ 3600 }
         ensures { result ≡ rest_among self.entry from }

@@ -58,7 +58,8 @@ fn added_cell_deps(ours: &[u8], peer: &[u8]) -> u32
     added(ours, peer, fields::cell_dep_count)
 }
 
-// Whether the peer's transaction keeps within the limits; the refusal is 4. A bool is plainer than an `Answer`, which would name the one refusal at each of the four exits.
+// Whether the peer's transaction keeps within the limits; the refusal is 4. A bool is plainer than an `Answer`, which would name the one
+// refusal at each of the four exits.
 pub fn validate_peer_funding_tx_complexity(ours: &[u8], peer: &[u8]) -> bool
     ensures { check 4 result ≡ limits (length peer.now + 4) (tx_at ours.now) (tx_at peer.now) }
 {
