@@ -19,8 +19,8 @@ pub fn put_first(s: &[u8], out: &mut [u8]) -> Written
     Ok(write::put(out, 0, s))
 }
 
-// Puts an item of a list of a transaction at the start of out. Refused, and out as it was: bytes that are no transaction (1), a list or an item that there is not (3), an
-// item over out or over 133,116 bytes (13).
+// Puts an item of a list of a transaction at the start of out. Refused, and out as it was: bytes that are no transaction (1), a list or an item that there is
+// not (3), an item over out or over 133,116 bytes (13).
 // The three parameters that name an item are those of the C interface, and cross it apart.
 pub fn put_item(tx: &[u8], list: u32, i: usize, out: &mut [u8]) -> Written
     ensures { (told result, out.new) ≡ written (item_found tx.now list i) out.old }

@@ -23,7 +23,7 @@ pub fn high(amount: u128) -> u64
     (amount >> 64) as u64
 }
 
-// The amount as a u64, and u64::MAX where it is wider.
+// The amount as a u64, by `TryFrom`, and u64::MAX where it is wider.
 pub fn capped_u64(amount: u128) -> u64
     ensures { result ≡ min amount (2 ^ 64 - 1) }
 {

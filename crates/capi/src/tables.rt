@@ -1,4 +1,5 @@
-// The calls on tables of cells that the caller keeps as bytes and lends to each call: thin functions over crates held_bytes and exclusions.
+// The calls on tables of cells that the caller keeps as bytes and lends to each call: thin functions over crates held_bytes, exclusions and
+// exclusion_marks.
 #![tactic(auto, using(crate::proofs::TableWays::ways))]
 
 ghost use Rattle.std.specs.Prelude.{◌≡◌, cond};

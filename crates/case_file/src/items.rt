@@ -6,7 +6,8 @@ ghost use Rattle.case_file.specs.Walk.{number_of, end_of, places_of, optional_bo
 
 use arithmetic::little_endian;
 
-// The kinds of the items, in the order in which they stand, with their numbers in a word. A record is an output and its data, or one item where its cell is not live.
+// The kinds of the items, in the order in which they stand, with their numbers in a word. A record is an output and its data, or one item where its cell is not
+// live.
 #[derive(Clone, Copy, Debug, PartialEq, Eq, Hash)]
 pub enum Kind {
     Ours = 1,

@@ -40,7 +40,7 @@ pub enum Refusal {
 pub type Answer = Result<(), Refusal>;
 
 impl Refusal {
-    // Its number for programs.
+    // Its number for programs, the rules' number of this refusal: a case with fields has none by `as`.
     pub fn number(self) -> u8
         ensures { result ≡ number self }
     {
@@ -136,7 +136,7 @@ impl fmt::Display for Refusal {
 
 impl Error for Refusal {}
 
-// An answer's number for programs, 0 where the call is done.
+// An answer's number for programs, 0 where the call is done: the C interface has it, and `From` can't be of a `Result` for a number, since both are the library's.
 pub fn number<T: Drop>(answer: Result<T, Refusal>) -> u8
     ensures { result ≡ answered answer }
 {

@@ -11,7 +11,8 @@ ghost use Rattle.rules.specs.Run.{handed_back, next, update_for_peer};
 use error::Refusal;
 use rules::Update;
 
-// Whether the expected funding lock and type (empty for none) and our source lock are scripts; the refusal is 3.
+// Whether the expected funding lock and type (empty for none) and our source lock are scripts; the refusal is 3. As an `Answer` the one test would be no shorter,
+// and a struct of the three, which the C interface lends apart, would be made for this call alone.
 pub fn are_scripts(lock: &[u8], udt: &[u8], source: &[u8]) -> bool
     ensures { check 3 result ≡ scripts lock.now udt.now source.now }
 {

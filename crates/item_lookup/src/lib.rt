@@ -19,7 +19,7 @@ const CHAINS: usize = 8192;
 // So many items of a chain are looked at. No chain of 3,600 items is longer unless they were made to meet: by chance one in 10^15 is.
 const STEPS: usize = 16;
 
-// Behind the last item of a chain.
+// Behind the last item of a chain. There is no heap for chains of boxes, and links that are an `Option<u32>` take twice the room.
 const NONE: u32 = 4_294_967_295;
 
 // So few are looked at one by one.
@@ -67,7 +67,8 @@ enum Chain {
     TooLong,
 }
 
-// The items of `ours` before place m are looked for among the first n of `theirs`. All have `size` bytes.
+// The items of `ours` before place m are looked for among the first n of `theirs`. All have `size` bytes. Both counts stand in the bytes too; as methods they
+// would be read again for each item that is looked at.
 #[derive(Clone, Copy)]
 struct Search<'a> {
     ours: &'a [u8],
@@ -185,8 +186,8 @@ impl<'a> Search<'a> {
         true
     }
 
-    // The same by chains. An item that is not met in its chain is looked for one by one. If it is there all the same, its chain is long: the rest goes by an index,
-    // for which the chains make room.
+    // The same by chains, which are links between places: there is no heap. An item that is not met in its chain is looked for one by one. If it is there all
+    // the same, its chain is long: the rest goes by an index, for which the chains make room.
     fn chain_all(self, from: usize) -> bool
         requires { self.n ≤ 3600 }
         ensures { result ≡ rest_among self.entry from }

@@ -1,5 +1,6 @@
--- Lines that the check program prints for whole files: 1, 2, 3 and 5. Those that begin with 0, 4, 6, 7 and 8 are among the known outcomes (crates/known_outcomes/specs/Outcomes.antt).
--- And what `basinpantry_check_case` leaves of a line in a lent buffer. proofs/KnownPrinted.antt proves all rows at once.
+-- Lines that the check program prints for whole files: 1, 2, 3 and 5. Those that begin with 0, 4, 6, 7 and 8 are among the known outcomes
+-- (crates/known_outcomes/specs/Outcomes.antt). And what `basinpantry_check_case` leaves of a line in a lent buffer.
+-- proofs/KnownPrinted.antt proves all rows at once.
 use Rattle.std.specs.Prelude.{ℕ, ◌-◌, List, [], ◌∷◌, ◌++◌, length, take, replicate}
 use Rattle.arithmetic.specs.LittleEndian.{to_le}
 use Rattle.case_file.specs.CaseFile.{case_line}

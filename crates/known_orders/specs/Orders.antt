@@ -1,5 +1,5 @@
--- Updates on which wrong versions of the rules answer otherwise. Beside each case stands what it shuts out, and what the wrong rule would answer. proofs/KnownOrders.antt proves all rows
--- at once.
+-- Updates on which wrong versions of the rules answer otherwise. Beside each case stands what it shuts out, and what the wrong rule would answer.
+-- proofs/KnownOrders.antt proves all rows at once.
 use Rattle.std.specs.Prelude.{ℕ, ◌-◌, ◌^◌, List, [], ◌∷◌, ◌++◌, replicate}
 use Rattle.std.proofs.Math.Option.{none, some}
 use Rattle.arithmetic.specs.LittleEndian.{to_le}

@@ -1,27 +1,15 @@
 -- Laws of the limits, one for each way out of the functions.
-use mathlib.Core.Path.{◌≡◌, sym, ap, ap₂, ◌∙◌}
+use mathlib.Core.Path.{◌≡◌, ap}
 use Prim.Native.Nat.{ℕ, ◌+◌, ◌-◌, ◌≤◌, ◌<◌}
 use mathlib.Core.List.{List}
 use mathlib.Core.Bool.{true, false}
 use borrow.Author.Tests.{lt-leb, le-leb}
 use lib.ListN.{length}
 use lib.Dec.{leb}
-use Rattle.molecule.specs.Layout.{fix_count, item_count}
-use Rattle.molecule.proofs.Offsets.{span-length}
-use Rattle.transaction.specs.Tx.{tx_at, raw_field}
+use Rattle.transaction.specs.Tx.{tx_at}
 use Rattle.rules.specs.Outcome.{check}
 use Rattle.rules.specs.Judge.{limits}
 use Rattle.rules.proofs.Checks.{skip, fail, pass, last_is}
-
-module _ (o p : List ℕ) {a b r : ℕ} where
-  pub inputs-added : a ≡ fix_count (raw_field o 3) → b ≡ fix_count (raw_field p 3) → r ≡ b - a → r ≡ length (tx_at p).inputs - length (tx_at o).inputs
-  inputs-added ea eb h = h ∙ ap₂ ◌-◌ (eb ∙ sym (span-length _ 0 _)) (ea ∙ sym (span-length _ 0 _))
-
-  pub outputs-added : a ≡ item_count (raw_field o 4) → b ≡ item_count (raw_field p 4) → r ≡ b - a → r ≡ length (tx_at p).outputs - length (tx_at o).outputs
-  outputs-added ea eb h = h ∙ ap₂ ◌-◌ (eb ∙ sym (span-length _ 0 _)) (ea ∙ sym (span-length _ 0 _))
-
-  pub deps-added : a ≡ fix_count (raw_field o 1) → b ≡ fix_count (raw_field p 1) → r ≡ b - a → r ≡ length (tx_at p).cell_deps - length (tx_at o).cell_deps
-  deps-added ea eb h = h ∙ ap₂ ◌-◌ (eb ∙ sym (span-length _ 0 _)) (ea ∙ sym (span-length _ 0 _))
 
 -- n is the figure that a line of the limits bounds by k
 over : {k n m : ℕ} → n ≡ m → k < n → leb m k ≡ false

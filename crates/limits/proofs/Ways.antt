@@ -1,5 +1,5 @@
 -- What closes the needs of this crate's functions: `search ways`.
 use borrow.Author.Rules.{rules}
-use Rattle.limits.proofs.LimitsLaws.{inputs-added, outputs-added, deps-added, limit_size, limit_inputs, limit_outputs, limit_deps}
+use Rattle.limits.proofs.LimitsLaws.{limit_size, limit_inputs, limit_outputs, limit_deps}
 
-pub ruleset ways = (rules, inputs-added, outputs-added, deps-added, limit_size, limit_inputs, limit_outputs, limit_deps)
+pub ruleset ways = (rules, limit_size, limit_inputs, limit_outputs, limit_deps)

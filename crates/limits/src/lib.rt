@@ -1,7 +1,7 @@
 // Complexity budgets for peer-supplied funding transactions: cheap checks that come before any record is looked at.
 #![tactic(auto, using(crate::proofs::Ways::ways))]
 
-ghost use Rattle.std.specs.Prelude.{◌≡◌, ◌+◌, ◌-◌, length};
+ghost use Rattle.std.specs.Prelude.{◌≡◌, ◌+◌, ◌-◌, ℕ, List, length};
 ghost use Rattle.transaction.specs.Tx.{tx_at};
 ghost use Rattle.rules.specs.Outcome.{check};
 ghost use Rattle.rules.specs.Judge.{limits};
@@ -27,34 +27,39 @@ pub fn serialized_size_in_block(tx: &[u8]) -> u64
     tx.len() as u64 + 4
 }
 
-// How many inputs the peer added; fewer than before count as none.
+// Of what `count` counts in a transaction: how many the peer added; fewer than before count as none.
+fn added<'a, F: Fn(&'a [u8]) -> u32>(ours: &'a [u8], peer: &'a [u8], count: F) -> u32
+    requires { F.IsAlwaysCallable count }
+    ensures { (n : List ℕ → ℕ) → ((s : _) (r : ℕ) → F.post count s r → r ≡ n s.now) → result ≡ n peer.now - n ours.now }
+{
+    let before = count(ours);
+    let after = count(peer);
+    after.saturating_sub(before)
+}
+
+// How many inputs the peer added.
 pub fn added_inputs(ours: &[u8], peer: &[u8]) -> u32
     ensures { result ≡ length (tx_at peer.now).inputs - length (tx_at ours.now).inputs }
 {
-    let before = fields::input_count(ours);
-    let after = fields::input_count(peer);
-    after.saturating_sub(before)
+    added(ours, peer, fields::input_count)
 }
 
 // The same for outputs.
 fn added_outputs(ours: &[u8], peer: &[u8]) -> u32
     ensures { result ≡ length (tx_at peer.now).outputs - length (tx_at ours.now).outputs }
 {
-    let before = fields::output_count(ours);
-    let after = fields::output_count(peer);
-    after.saturating_sub(before)
+    added(ours, peer, fields::output_count)
 }
 
 // And for cell deps.
 fn added_cell_deps(ours: &[u8], peer: &[u8]) -> u32
     ensures { result ≡ length (tx_at peer.now).cell_deps - length (tx_at ours.now).cell_deps }
 {
-    let before = fields::cell_dep_count(ours);
-    let after = fields::cell_dep_count(peer);
-    after.saturating_sub(before)
+    added(ours, peer, fields::cell_dep_count)
 }
 
-// Whether the peer's transaction keeps within the limits; the refusal is 4.
+// Whether the peer's transaction keeps within the limits; the refusal is 4. A bool is plainer than an `Answer`, which would name the one
+// refusal at each of the four exits.
 pub fn validate_peer_funding_tx_complexity(ours: &[u8], peer: &[u8]) -> bool
     ensures { check 4 result ≡ limits (length peer.now + 4) (tx_at ours.now) (tx_at peer.now) }
 {

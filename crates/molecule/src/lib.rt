@@ -1,6 +1,7 @@
 // Readers of Molecule (RFC 0008) over a lent slice of bytes. Each is total: past the end a number is 0 and a part is empty. A part that is handed
 // back is a stretch of the lent bytes: `ensures` says which bytes, and where in the lent slice they stand. The number n beside a slice is that of the items
-// that a schema or a header says it has, and no length of the slice.
+// that a schema or a header says it has, and no length of the slice. An item of a fixvec is told by its size k, which the schema says and the bytes do not,
+// and by its place i: a struct of the two would be made for each call.
 #![tactic(auto, using(crate::proofs::Ways::ways), unfolding(crate::specs::Layout::word, crate::specs::Layout::start, crate::specs::Layout::has_header, crate::specs::Layout::field_of, crate::specs::Layout::field_start, crate::specs::Layout::item_count, crate::specs::Layout::item_of, crate::specs::Layout::item_start, crate::specs::Layout::fix_count, crate::specs::Layout::fix_item, crate::specs::Layout::fix_start, crate::specs::Layout::content, crate::specs::Layout::content_start, crate::specs::Layout::entry_of, crate::specs::Layout::entry_start))]
 
 pub mod write;

@@ -24,7 +24,8 @@ fn has_our_lock(source: &[u8], resolved: &[u8]) -> bool
     lists::same_script(source, l)
 }
 
-// Whether a record is readable, as `transaction::is_record` says, which has two callers and so is compiled into neither: by way of it 64 records take a third longer.
+// Whether a record is readable, as `transaction::is_record` says. That one has a caller of its own, would have two and be compiled into neither: by way of it
+// 64 records take a third longer.
 // Compiled into the walk below, what was tested is known where the record is read.
 #[tactic(auto, using(molecule::proofs::HeaderLaws::pair_is))]
 fn is_record(s: &[u8]) -> bool

@@ -1,5 +1,5 @@
--- What an entry owes for each acceptance, so that the law over lists of updates (docs/RULES.md, "The three demands", 3) holds of it: a step (ours: docs/DECISIONS.md,
--- "A peer's update").
+-- What an entry owes for each acceptance, so that the law over lists of updates (docs/RULES.md, "The three demands", 3) holds of it: a step (ours:
+-- docs/DECISIONS.md, "A peer's update").
 use Rattle.std.specs.Prelude.{◌≡◌, ℕ, ◌+◌, List, [], ◌∷◌, length, drop}
 use Rattle.transaction.specs.Tx.{Tx}
 use Rattle.rules.specs.Cells.{Cell, cells}

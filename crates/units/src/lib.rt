@@ -111,7 +111,7 @@ impl From<u64> for Tokens {
 impl Shannons {
     pub const ZERO: Shannons = Shannons(0);
 
-    // The sum, and the greatest amount where that is wider: a sum of capacities of 64 bits never is.
+    // The sum, and the greatest amount where that is wider: a sum of capacities of 64 bits never is. The library has no trait for it.
     pub fn saturating_add(self, other: Shannons) -> Shannons
         ensures { result ≡ capped_sum self other }
     {
@@ -131,7 +131,7 @@ impl Tokens {
 }
 
 impl Millis {
-    // The time after a wait, and the greatest one where that is too far off.
+    // The time after a wait, and the greatest one where that is too far off. The library has no trait for it.
     pub fn saturating_add(self, wait: Millis) -> Millis
         ensures { result ≡ later self wait }
     {

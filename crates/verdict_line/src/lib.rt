@@ -1,4 +1,5 @@
-// Writes the line that the check program prints for an answer.
+// Writes the line that the check program prints for an answer. Digits are put by hand: as text that the library
+// prints into a buffer of its own and that is put into the line then, with a law that its digits are those of the definition, this is no plainer.
 #![tactic(auto, using(crate::proofs::Ways::ways))]
 
 ghost use Rattle.std.specs.Prelude.{◌≡◌, ◌+◌, ◌≤◌, [], ◌∷◌, length};

@@ -1,0 +1,7 @@
+use Rattle.std.proofs.Common.{◌∙◌, sym, length}
+use Rattle.molecule.proofs.Offsets.{span-length}
+use Rattle.transaction.specs.Tx.{tx_at}
+use Rattle.limits.proofs.added_outputs.Goals as goal
+
+pub returns : goal.returns
+returns c = c.added.ensures (λ s. length (tx_at s).outputs) (λ s r e. e ∙ sym (span-length _ 0 _))
