@@ -19,7 +19,7 @@ use transaction_writer::{Sizes, TxFields, Written};
 use units::{Shannons, Tokens};
 
 // The figures of a base transaction: the funding cell's, how many token cells are taken, what change is left of them, and the capacity of its
-// output, 0 where there is none.
+// output, 0 where there is none: the rules' own figures, so that an `Option` would be turned back into 0 at each definition that reads one.
 #[derive(Clone, Copy, Debug, PartialEq, Eq, Hash)]
 pub struct Plan {
     pub capacity: Shannons,

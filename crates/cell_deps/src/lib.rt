@@ -11,7 +11,7 @@ ghost use Rattle.cell_deps.specs.DepLists.{dep_of, count_of, chosen_of};
 use molecule::write;
 
 // How many bytes a cell dep has: an out point and the dep type.
-const CELL_DEP_BYTES: u32 = 37;
+pub const CELL_DEP_BYTES: u32 = 37;
 
 // Whether there is a dep: none is empty.
 pub fn any_count(dep: &[u8]) -> usize

@@ -6,10 +6,8 @@ ghost use Rattle.item_index.specs.Index.{place_in};
 ghost use Rattle.distinct_deps.specs.Listed.{Listed, keys_in};
 
 use crate::ROOM;
+use cell_deps::CELL_DEP_BYTES;
 use item_index::Keys;
-
-// How many bytes a cell dep has: an out point and the dep type.
-const CELL_DEP_BYTES: u32 = 37;
 
 // The deps of a list as keys.
 fn keys(list: &[u8]) -> Keys<'_>

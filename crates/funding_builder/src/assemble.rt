@@ -36,7 +36,7 @@ fn if_picked(taken: usize, deps: &[u8]) -> &[u8]
     deps
 }
 
-// The capacity of the change output, 0 where no change is left.
+// The capacity of the change output, 0 where no change is left, as `Plan` and the rules have it.
 #[tactic(auto, using(crate::proofs::CheckLaws::no_change, crate::proofs::CheckLaws::some_change), unfolding(units::specs::Fee::change_capacity))]
 fn change_capacity(change: Tokens, source: &[u8], udt: &[u8]) -> Shannons
     requires { (readable Script source.now ≡ true) × (readable (option Script) udt.now ≡ true) }

@@ -20,7 +20,8 @@ use transaction_writer::Written;
 use udt_cells::Picked;
 use units::Tokens;
 
-// Whether the bytes are a list of cell deps, or nothing.
+// Whether the bytes are a list of cell deps, or nothing. By hand, here and below: `Option::<T>::is` needs a type and an impl of `Entity` for each of the two,
+// which is longer than both tests.
 fn is_optional_cell_deps(s: &[u8]) -> bool
     ensures { result ≡ readable (option CellDeps) s.now }
 {
@@ -56,7 +57,8 @@ pub struct Lent<'a> {
 }
 
 impl<'a> Lent<'a> {
-    // Whether the lent lists are readable; the refusal is 3.
+    // Whether the lent lists are readable; the refusal is 3. A `bool`, and no `Result`, as four tests have one refusal (docs/PROVING.md, "A chain of checks with
+    // one number").
     fn are_lists(&self) -> bool
         ensures { check 3 result ≡ lists self.now.cells.now self.now.udt_deps.now self.now.lock_dep.now self.now.extra_deps.now }
     {

@@ -1,5 +1,5 @@
--- A list of unsized items (RFC 0008: a dynvec), as it is sized and written: an item of its own, the later items of another list, and a last one (docs/RULES.md, "Our own
--- side": "funding cell, present outputs after 0, change; each output's data").
+-- A list of unsized items (RFC 0008: a dynvec), as it is sized and written: an item of its own, the later items of another list, and a last one (docs/RULES.md,
+-- "Our own side": "funding cell, present outputs after 0, change; each output's data").
 use Rattle.std.specs.Prelude.{ℕ, ◌+◌, ◌*◌, ◌≤◌, min, Bool, ◌&&◌, length, leb}
 use mathlib.Core.List.{List, ◌∷◌, ◌++◌, flatten}
 use Rattle.arithmetic.specs.LittleEndian.{to_le}

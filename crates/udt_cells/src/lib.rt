@@ -25,7 +25,8 @@ pub struct Picked {
     pub change: Tokens,
 }
 
-// The same with the capacity of the change output; change and capacity are 0 where there is no such output.
+// The same with the capacity of the change output; change and capacity are 0 where there is no such output. They are not an `Option`: the C interface answers
+// these two words, 0 for none.
 #[derive(Clone, Copy, Debug, PartialEq, Eq, Hash)]
 pub struct UdtInputsOutputs {
     pub taken: usize,
@@ -124,7 +125,7 @@ fn put_change(
 
 // ---- the call
 
-// Whether the lent bytes are readable.
+// Whether the lent bytes are readable. A `bool`, and no `Result`, as three tests have one refusal (docs/PROVING.md, "A chain of checks with one number").
 fn are_readable(cells: &[u8], udt: &[u8], source: &[u8]) -> bool
     ensures { check 3 result ≡ lent cells.now udt.now source.now }
 {
