@@ -53,7 +53,7 @@ fn mark_both(picks: Picks<'_>, marks: &mut [u8])
 }
 
 // The picks, with the marks of the cells that are busy.
-#[derive(Clone, Copy)]
+#[derive(Clone, Copy, Debug, PartialEq, Eq)]
 struct Marked<'a> {
     picks: Picks<'a>,
     marks: &'a [u8],
@@ -61,7 +61,7 @@ struct Marked<'a> {
 }
 
 // The same, with the kinds of the first picks, which have been sorted out: the others are looked up.
-#[derive(Clone, Copy)]
+#[derive(Clone, Copy, Debug, PartialEq, Eq)]
 struct Known<'a> {
     marked: Marked<'a>,
     kinds: &'a [Kind],
