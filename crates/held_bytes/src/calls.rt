@@ -23,7 +23,9 @@ fn leave(s: &mut [u8], r: Result<Held, Refusal>) -> Answer
     Ok(())
 }
 
-// Makes a call on the lent table, by value. Within its callers: in a call of its own the table, of 14 KB, is copied once more.
+// Makes a call on the lent table, by value. Within its callers: in a call of its own the table, of 14 KB, is copied once more. Three calls test the length
+// themselves: `lock_held` reads no more than the live records, `unavailable` writes no table, and for `take` by a closure the proof of what its two buffers are
+// after did not close.
 #[inline(always)]
 fn on_table<F: FnOnce(Held) -> Result<Held, Refusal>>(s: &mut [u8], call: F) -> Answer
     requires { F.IsAlwaysCallable call }

@@ -20,6 +20,7 @@ pub mod calls;
 pub const HELD_BYTES: usize = 4 + 48 * MOST_RECORDS;
 
 // What a place holds: kind 0 is a funding, and the number its holder; any other the watchtower, and the number the end.
+// No `From`, here and below: neither type is of this crate, and such an impl is refused.
 fn hold_of(p: Place) -> Hold
     ensures { result ≡ hold_of p }
 {

@@ -3,7 +3,7 @@ use mathlib.Core.Path.{◌≡◌, refl, sym, ap, ◌∙◌, subst}
 use Prim.Native.Nat.{ℕ, suc, ◌+◌, ◌-◌, ◌*◌, ◌^◌, ◌≤◌, ◌<◌, min}
 use native.Mathlib.Omega.{arith}
 use borrow.Author.Tests.{le-leb, lt-leb}
-use mathlib.Core.Bool.{true, false}
+use mathlib.Core.Bool.{Bool, true, false}
 use mathlib.Core.List.{List, [], ◌∷◌, ◌++◌, append_assoc, append-nil}
 use lib.ListN.{length, get_or, drop, length-append, length-map, length-take, length-drop}
 use lib.Seq.{append_snoc}
@@ -168,32 +168,22 @@ module _ (h : Held) (from : ℕ) (out : List ℕ) {u n : ℕ} (eu : u ≡ min h.
       cells-written p =
           list_put (cells_of (drop from (records_of h))) out counted-cells (omega arith) e f p ∙ sym (put_yes (cells_of (drop from (records_of h))) out cells_fit)
 
+      pub cells_listed : {o₂ : List ℕ} {a : ℕ} → Put o at (bytes_of (cells_of (drop from (records_of h)))) o₂ a → All Fit (cells_of (drop from (records_of h)))
+          → (true ≡ true → points o₂ ≡ cells_of (drop from (records_of h)))
+      unfolding written
+      cells_listed p fits _ =
+          ap points (list_put (cells_of (drop from (records_of h))) out counted-cells (omega arith) e f p)
+          ∙ list_before (cells_of (drop from (records_of h))) _ (omega (arith, counted-cells)) fits
+
 -- ---- list_cells
 
 pub fits-point : {p : OutPoint} → p.hash.a < 2 ^ 64 → p.hash.b < 2 ^ 64 → p.hash.c < 2 ^ 64 → p.hash.d < 2 ^ 64 → p.index < 2 ^ 32 → Fit p
 fits-point a b c d i = record { a_fits = a; b_fits = b; c_fits = c; d_fits = d; index-fits = i }
 
-module _ (h : Held) (out : List ℕ) {n : ℕ} (en : n ≡ min h.count 256) (w : length h.records ≡ 256) where
-  counted_all : n ≡ length (cells_of (records_of h))
-  counted_all = omega (arith, length-cells h 0 w)
+module _ (h : Held) (out : List ℕ) (w : length h.records ≡ 256) where
+  all_fit : 9220 ≤ length out → true ≡ has_room (cells_of (records_of h)) out
+  all_fit l = room_yes (cells_of (records_of h)) out (length-cells h 0 w) (omega arith)
 
-  pub all_kept : min (length out) 133116 < 4 + 36 * n → out ≡ put_if (cells_of (records_of h)) out
-  all_kept s = put_no (cells_of (records_of h)) out (room_no (cells_of (records_of h)) out counted_all s)
-
-  pub all_short : min (length out) 133116 < 4 + 36 * n → (9220 ≤ length out → points out ≡ cells_of (records_of h))
-  all_short s l = absurd (let m : min h.count 256 ≤ 256 = omega arith in omega arith)
-
-  module _ (room : 4 + 36 * n ≤ min (length out) 133116) {o : List ℕ} {at : ℕ} (e : o ≡ put_at out 0 (to_le 4 n)) (f : at ≡ put_end out 0 (to_le 4 n)) where
-    pub all_room : at + 36 * (min h.count 256 - 0) ≤ length o
-    all_room = let b = behind-count out n (36 * n) (omega arith) e f in omega arith
-
-    module _ {o₂ : List ℕ} {a : ℕ} (p : Put o at (bytes_of (cells_of (drop 0 (records_of h)))) o₂ a) where
-      listed : o₂ ≡ written (cells_of (records_of h)) out
-      listed = list_put (cells_of (records_of h)) out counted_all (omega arith) e f p
-
-      pub all_put : o₂ ≡ put_if (cells_of (records_of h)) out
-      all_put = listed ∙ sym (put_yes (cells_of (records_of h)) out (room_yes (cells_of (records_of h)) out counted_all room))
-
-      pub all_listed : All Fit (cells_of (drop 0 (records_of h))) → (9220 ≤ length out → points o₂ ≡ cells_of (records_of h))
-      unfolding written
-      all_listed fits l = ap points listed ∙ list_before (cells_of (records_of h)) _ (omega (arith, counted_all)) fits
+  pub all_listed : {b : Bool} {l : List OutPoint} → b ≡ has_room (cells_of (drop 0 (records_of h))) out → (b ≡ true → l ≡ cells_of (drop 0 (records_of h)))
+      → (9220 ≤ length out → l ≡ cells_of (records_of h))
+  all_listed e f r = f (e ∙ sym (all_fit r))

@@ -46,7 +46,7 @@ pub struct Held {
 }
 
 // Which records a table is to keep. No closure for it: a public function that calls one needs a `requires`, and the public functions here have none. For the same
-// reason `held_bytes::read_kept` and the release of the watchtower's records, whose tests are others, go over the records by themselves.
+// reason `held_bytes::read_kept`, which reads the records from bytes, and `without` of crate watchtower_holds, which goes by marks, have loops of their own.
 #[derive(Clone, Copy, Debug, PartialEq, Eq, Hash)]
 pub enum Rule {
     // All but the watchtower records that have ended.
@@ -153,6 +153,7 @@ fn put_points(h: Held, from: usize, out: &mut [u8], at: usize) -> usize
 pub fn put_cells(h: Held, from: usize, out: &mut [u8]) -> bool
     ensures value { result ≡ has_room (cells_of (drop from (records_of h))) out.old }
     ensures out_after { out.new ≡ put_if (cells_of (drop from (records_of h))) out.old }
+    ensures listed { result ≡ true → points out.new ≡ cells_of (drop from (records_of h)) }
 {
     let n = used(h.count).saturating_sub(from) as u32;
     if !out_points::fits(n, out.len()) {
@@ -168,10 +169,5 @@ pub fn list_cells(h: Held, out: &mut [u8])
     ensures out_after { out.new ≡ put_if (cells_of (records_of h)) out.old }
     ensures out_after_2 { 9220 ≤ length out.old → points out.new ≡ cells_of (records_of h) }
 {
-    let n = used(h.count) as u32;
-    if !out_points::fits(n, out.len()) {
-        return;
-    }
-    let at = write::put_u32(out, 0, n);
-    put_points(h, 0, out, at);
+    put_cells(h, 0, out);
 }

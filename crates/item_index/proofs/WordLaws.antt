@@ -79,8 +79,8 @@ module _ {a b : List ℕ} {i : ℕ} (w : Alike a b i) (e : length a ≡ length b
     pub next_other : {o : Ordering} → (u ≡ v → ⊥) → o ≡ nat_cmp u v → o ≡ order_of a b
     next_other n eo = at_first w e i (omega arith) (omega arith) eu.0 eu.1 ev.0 ev.1 (λ m. absurd (n m)) (λ m. eo ∙ m)
 
-    pub next-same : u ≡ v → Alike a b (i + 8)
-    next-same = at_same w e i (omega arith) (omega arith) eu.0 eu.1 ev.0 ev.1
+    pub next-same : {j : ℕ} → j ≡ i + 8 → u ≡ v → Alike a b j
+    next-same z m = rw z (at_same w e i (omega arith) (omega arith) eu.0 eu.1 ev.0 ev.1 m)
 
   -- the last
   pub last_word : {o : Ordering} → o ≡ nat_cmp u v → length a - 8 ≤ i → 8 ≤ length a → (u ≡ horner 0 8 a (length a - 8)) × AllBytes a → (v ≡ horner 0 8 b (length a - 8)) × AllBytes b → o ≡ order_of a b

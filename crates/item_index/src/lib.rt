@@ -14,7 +14,7 @@ ghost use Rattle.item_index.specs.Order.{order_of};
 use std::cmp::Ordering;
 
 // The keys of a list's items of `size` bytes: of each the bytes from `skip` on.
-#[derive(Clone, Copy)]
+#[derive(Clone, Copy, Debug, PartialEq, Eq)]
 pub struct Keys<'a> {
     pub items: &'a [u8],
     pub size: u32,

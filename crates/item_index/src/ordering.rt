@@ -34,15 +34,12 @@ fn compare_words(a: &[u8], b: &[u8]) -> Ordering
     ensures { result ≡ order_of a.now b.now }
 {
     let last = a.len() - WORD;
-    let mut i = 0;
-    // a while: the step is a word, and step_by gets no proof of its end
-    while i < last {
-        let u = word(a, i);
-        let v = word(b, i);
+    for k in 0..(a.len() - 1) / WORD {
+        let u = word(a, WORD * k);
+        let v = word(b, WORD * k);
         if u != v {
             return u.cmp(&v);
         }
-        i += WORD;
     }
     word(a, last).cmp(&word(b, last))
 }

@@ -27,7 +27,7 @@ pub enum Kind {
 }
 
 // The picks, and what makes a cell busy: the cells that are held and those that are spent.
-#[derive(Clone, Copy)]
+#[derive(Clone, Copy, Debug, PartialEq, Eq)]
 pub struct Picks<'a> {
     pub cells: &'a [u8],
     pub picked: &'a [u8],
@@ -35,7 +35,7 @@ pub struct Picks<'a> {
 }
 
 // The same with the index of the first picks, as many as it has places.
-#[derive(Clone, Copy)]
+#[derive(Clone, Copy, Debug, PartialEq, Eq)]
 struct Indexed<'a> {
     picks: Picks<'a>,
     places: &'a [u32],

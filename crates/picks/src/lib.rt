@@ -18,7 +18,7 @@ use pick_kinds::{Kind, MOST_PICKS, Picks};
 use unavailable_picks::CELLS_BYTES;
 
 // How many picks are taken, and the table with a record for each, as far as there is room. No ==: `Held` has none.
-#[derive(Clone, Copy)]
+#[derive(Clone, Copy, Debug)]
 struct Taken {
     held: Held,
     count: u32,
@@ -32,7 +32,7 @@ fn both_fit(count: u32, taken: usize, rest: u32, refused: usize) -> bool
 }
 
 // The picks, and what each of them is.
-#[derive(Clone, Copy)]
+#[derive(Clone, Copy, Debug, PartialEq, Eq)]
 struct Sorted<'a> {
     picked: &'a [u8],
     kinds: &'a [Kind],

@@ -148,7 +148,7 @@ fn is_table(held: &Held, owners: &[u8], points: &[u8]) -> bool {
 }
 
 // No ==: `Held` has none.
-#[derive(Drop)]
+#[derive(Debug, Drop)]
 struct Holds {
     held: Held,
 }

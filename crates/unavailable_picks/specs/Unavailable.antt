@@ -1,5 +1,5 @@
 -- What the functions of this crate answer; no call's contract cites it.
-use Rattle.std.specs.Prelude.{◌≡◌, ℕ, zero, suc, Bool, false, not, cond, List, [], ◌∷◌, length, get_or, set}
+use Rattle.std.specs.Prelude.{◌≡◌, ℕ, zero, suc, Bool, true, false, not, cond, List, [], ◌∷◌, length, get_or, set}
 use Rattle.molecule.specs.Layout.{span}
 use Rattle.out_points.specs.declared.{OutPoint.OutPoint}
 use Rattle.out_points.specs.OutPoints.{slot_of, has, points}
@@ -7,14 +7,14 @@ use Rattle.hold_records.specs.Holds.{firsts}
 use Rattle.pick_kinds.specs.Kinds.{is_among}
 
 -- the marks with those of the out points set: one for each slot
-unfoldable pub marked : List OutPoint → List ℕ → List ℕ
+unfoldable pub marked : List OutPoint → List Bool → List Bool
 marked [] m = m
-marked (p ∷ l) m = marked l (set m (slot_of p) 1)
+marked (p ∷ l) m = marked l (set m (slot_of p) true)
 
--- where its mark is 0, an out point is neither among the cells nor spent
-pub record Marks (cells spent : List OutPoint) (m : List ℕ) : Type 0 where
+-- where its mark is not set, an out point is neither among the cells nor spent
+pub record Marks (cells spent : List OutPoint) (m : List Bool) : Type 0 where
   pub enough : length m ≡ 4093
-  pub unmarked : (p : OutPoint) → get_or m (slot_of p) 0 ≡ 0 → is_among cells spent p ≡ false
+  pub unmarked : (p : OutPoint) → get_or m (slot_of p) false ≡ false → is_among cells spent p ≡ false
 
 -- pick i passes the test, and no pick before it is the same
 unfoldable pub is_first : (OutPoint → Bool) → (ℕ → OutPoint) → ℕ → Bool

@@ -1,7 +1,7 @@
 // Picks against a list of held cells and one of spent cells: what each pick is, and which are unavailable.
 #![tactic(auto, using(crate::proofs::Ways::ways))]
 
-ghost use Rattle.std.specs.Prelude.{◌≡◌, [], ◌+◌, ◌*◌, ◌≤◌, ◌<◌, min, length, set};
+ghost use Rattle.std.specs.Prelude.{◌≡◌, true, [], ◌+◌, ◌*◌, ◌≤◌, ◌<◌, min, length, set};
 ghost use Rattle.molecule.specs.Layout.{fix_count};
 ghost use Rattle.molecule.specs.Write.{Put};
 ghost use Rattle.out_points.specs.OutPoints.{slot_of, point_of, points, bytes_of};
@@ -25,17 +25,17 @@ pub const CELLS_BYTES: usize = 4 + 36 * MOST_RECORDS;
 const FEW_PICKS: usize = 64;
 
 // Sets the mark of the out point, which is that of its slot.
-fn mark(marks: &mut [u8], p: OutPoint)
-    ensures { marks.new ≡ set marks.old (slot_of p) 1 }
+fn mark(marks: &mut [bool], p: OutPoint)
+    ensures { marks.new ≡ set marks.old (slot_of p) true }
 {
     let at = out_points::slot(p);
     if at < marks.len() {
-        marks[at] = 1;
+        marks[at] = true;
     }
 }
 
 // Sets the marks of the list's out points.
-fn mark_list(s: &[u8], marks: &mut [u8])
+fn mark_list(s: &[u8], marks: &mut [bool])
     ensures { marks.new ≡ marked (points s.now) marks.old }
 {
     let n = molecule::fix_count(s) as usize;
@@ -45,7 +45,7 @@ fn mark_list(s: &[u8], marks: &mut [u8])
 }
 
 // Sets the marks of the cells that are busy.
-fn mark_both(picks: Picks<'_>, marks: &mut [u8])
+fn mark_both(picks: Picks<'_>, marks: &mut [bool])
     ensures { marks.new ≡ marked (points picks.entry.spent.now) (marked (points picks.entry.cells.now) marks.old) }
 {
     mark_list(picks.cells, marks);
@@ -53,15 +53,15 @@ fn mark_both(picks: Picks<'_>, marks: &mut [u8])
 }
 
 // The picks, with the marks of the cells that are busy.
-#[derive(Clone, Copy)]
+#[derive(Clone, Copy, Debug, PartialEq, Eq)]
 struct Marked<'a> {
     picks: Picks<'a>,
-    marks: &'a [u8],
+    marks: &'a [bool],
     ghost are_marks: { Marks (points picks.cells.now) (points picks.spent.now) marks.now },
 }
 
 // The same, with the kinds of the first picks, which have been sorted out: the others are looked up.
-#[derive(Clone, Copy)]
+#[derive(Clone, Copy, Debug, PartialEq, Eq)]
 struct Known<'a> {
     marked: Marked<'a>,
     kinds: &'a [Kind],
@@ -73,7 +73,7 @@ impl<'a> Marked<'a> {
     fn is_busy(self, p: OutPoint) -> bool
         ensures { result ≡ among_of self.entry.picks p }
     {
-        self.marks[out_points::slot(p)] != 0
+        self.marks[out_points::slot(p)]
             && (out_points::has_point(self.picks.cells, p)
                 || out_points::has_point(self.picks.spent, p))
     }
@@ -214,7 +214,7 @@ fn sort_many(picks: Picks<'_>, kinds: &mut [Kind]) -> usize
 pub fn put_kinds(picks: Picks<'_>, kinds: &mut [Kind])
     ensures { KindsOf picks.entry (min (fix_count picks.entry.picked.now) (length kinds.new)) kinds.new }
 {
-    let mut marks = [0u8; SLOTS];
+    let mut marks = [false; SLOTS];
     mark_both(picks, &mut marks);
     let known = sort_many(picks, kinds);
     let marked = Marked {
@@ -236,7 +236,7 @@ pub fn put_unavailable(h: Held, picked: &[u8], spent: &[u8], out: &mut [u8]) -> 
         picked,
         spent,
     };
-    let mut marks = [0u8; SLOTS];
+    let mut marks = [false; SLOTS];
     mark_both(picks, &mut marks);
     let marked = Marked {
         picks,

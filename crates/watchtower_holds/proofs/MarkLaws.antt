@@ -24,35 +24,32 @@ use Rattle.watchtower_holds.proofs.HintLaws.{same_default}
 
 -- ---- one mark
 
-pub mark_yes : (m : List ℕ) (at : ℕ) {b : Bool} → b ≡ true → set m at 1 ≡ marked m at b
+pub mark_yes : (m : List Bool) (at : ℕ) {b : Bool} → b ≡ true → set m at true ≡ marked m at b
 unfolding marked
 mark_yes m at e = rw e
 
-pub mark_no : (m : List ℕ) (at : ℕ) {b : Bool} → b ≡ false → m ≡ marked m at b
+pub mark_no : (m : List Bool) (at : ℕ) {b : Bool} → b ≡ false → m ≡ marked m at b
 unfolding marked
 mark_no m at e = rw e
 
-pub mark_none : (m : List ℕ) (at : ℕ) {v : ℕ} → v ≡ get_or m at 0 → eqb v 0 ≡ eqb (get_or m at 0) 0
-mark_none m at e = ap (λ (x : ℕ). eqb x 0) e
-
-marked-long : (m : List ℕ) (at : ℕ) (b : Bool) → length (marked m at b) ≡ length m
+marked-long : (m : List Bool) (at : ℕ) (b : Bool) → length (marked m at b) ≡ length m
 unfolding marked
-marked-long m at true = length-set m at 1
+marked-long m at true = length-set m at true
 marked-long m at false = refl
 
-marked-here : (m : List ℕ) (at : ℕ) (b : Bool) → at < length m → get_or (marked m at b) at 0 ≡ cond b 1 (get_or m at 0)
+marked-here : (m : List Bool) (at : ℕ) (b : Bool) → at < length m → get_or (marked m at b) at false ≡ cond b true (get_or m at false)
 unfolding marked
-marked-here m at true h = get_or-set_same m at 1 0 h
+marked-here m at true h = get_or-set_same m at true false h
 marked-here m at false h = refl
 
-marked_other : (m : List ℕ) (at j : ℕ) (b : Bool) → (j ≡ at → ⊥) → get_or (marked m at b) j 0 ≡ get_or m j 0
+marked_other : (m : List Bool) (at j : ℕ) (b : Bool) → (j ≡ at → ⊥) → get_or (marked m at b) j false ≡ get_or m j false
 unfolding marked
-marked_other m at j true h = get_or-set_other m at j 1 0 h
+marked_other m at j true h = get_or-set_other m at j true false h
 marked_other m at j false h = refl
 
 -- ---- one cell marks the first record of its slot, and those from the second hint on
 
-module _ {hm : List ℕ} {l : List Hold} {n : ℕ} (k : Hints hm l n) (w : n ≤ length l) (p : OutPoint) (m : List ℕ) {at : ℕ} (ea : at ≡ get_or hm (2 * slot_of p) 0) where
+module _ {hm : List ℕ} {l : List Hold} {n : ℕ} (k : Hints hm l n) (w : n ≤ length l) (p : OutPoint) (m : List Bool) {at : ℕ} (ea : at ≡ get_or hm (2 * slot_of p) 0) where
   -- no record is on p where it would be missed
   missed : (j : ℕ) (d : Hold) → j < n → (at < j → get_or hm (2 * slot_of p + 1) 0 < j → ⊥) → (j ≡ at → ⊥) → is_tower_on p (get_or l j d) ≡ false
   missed j d b f z = not_so (is_tower_on p (get_or l j d)) (λ t. by t (ltb at j) refl)
@@ -67,29 +64,29 @@ module _ {hm : List ℕ} {l : List Hold} {n : ℕ} (k : Hints hm l n) (w : n ≤
   sweep-none : n ≤ at → (j : ℕ) (d : Hold) → j < n → is_tower_on p (get_or l j d) ≡ false
   sweep-none h j d b = missed j d b (λ u v. omega arith) (λ q. omega arith)
 
-  module _ (d : Hold) {b : Bool} {m' : List ℕ} {from : ℕ} (c : at < n) (r : n ≤ length m) (eb : b ≡ is_tower_on p (get_or l at d)) (em : m' ≡ marked m at b)
+  module _ (d : Hold) {b : Bool} {m' : List Bool} {from : ℕ} (c : at < n) (r : n ≤ length m) (eb : b ≡ is_tower_on p (get_or l at d)) (em : m' ≡ marked m at b)
       (ef : from ≡ get_or hm (2 * slot_of p + 1) 0 + 1) where
     on-first : (d' : Hold) → b ≡ is_tower_on p (get_or l at d')
     on-first d' = eb ∙ ap (is_tower_on p) (same_default l at d d' (omega arith))
 
-    sweep-first : (j : ℕ) (d' : Hold) → j < n → j < from → get_or m' j 0 ≡ cond (is_tower_on p (get_or l j d')) 1 (get_or m j 0)
+    sweep-first : (j : ℕ) (d' : Hold) → j < n → j < from → get_or m' j false ≡ cond (is_tower_on p (get_or l j d')) true (get_or m j false)
     sweep-first j d' u v = by (eqb j at) refl
       where
-        by : (q : Bool) → eqb j at ≡ q → get_or m' j 0 ≡ cond (is_tower_on p (get_or l j d')) 1 (get_or m j 0)
+        by : (q : Bool) → eqb j at ≡ q → get_or m' j false ≡ cond (is_tower_on p (get_or l j d')) true (get_or m j false)
         by true z = let y : j ≡ at = eqb-true _ _ z in rw (em, y, ← on-first d') (marked-here m at b (omega arith))
         by false z =
             let y : is_tower_on p (get_or l j d') ≡ false = missed j d' u (λ s t. omega arith) (eqb-false _ _ z) in
             rw (em, y) (marked_other m at j b (eqb-false _ _ z))
 
-    sweep-rest : (j : ℕ) (d' : Hold) → j < n → cond (is_tower_on p (get_or l j d')) 1 (get_or m' j 0) ≡ cond (is_tower_on p (get_or l j d')) 1 (get_or m j 0)
+    sweep-rest : (j : ℕ) (d' : Hold) → j < n → cond (is_tower_on p (get_or l j d')) true (get_or m' j false) ≡ cond (is_tower_on p (get_or l j d')) true (get_or m j false)
     sweep-rest j d' u = by (eqb j at) refl
       where
-        again : (t : Bool) (v : ℕ) → cond t 1 (cond t 1 v) ≡ cond t 1 v
+        again : (t v : Bool) → cond t true (cond t true v) ≡ cond t true v
         again true v = refl
         again false v = refl
 
-        by : (q : Bool) → eqb j at ≡ q → cond (is_tower_on p (get_or l j d')) 1 (get_or m' j 0) ≡ cond (is_tower_on p (get_or l j d')) 1 (get_or m j 0)
-        by true z = let y : j ≡ at = eqb-true _ _ z in rw (em, y, marked-here m at b (omega arith), ← on-first d') (again b (get_or m at 0))
+        by : (q : Bool) → eqb j at ≡ q → cond (is_tower_on p (get_or l j d')) true (get_or m' j false) ≡ cond (is_tower_on p (get_or l j d')) true (get_or m j false)
+        by true z = let y : j ≡ at = eqb-true _ _ z in rw (em, y, marked-here m at b (omega arith), ← on-first d') (again b (get_or m at false))
         by false z = rw (em, marked_other m at j b (eqb-false _ _ z))
 
 -- ---- all cells
@@ -102,10 +99,10 @@ unnamed_none r = by r.owner
     by (Owner.Funding n) = refl
     by (Owner.Watchtower t) = refl
 
-pub marks_none : (l : List Hold) (n : ℕ) {m : List ℕ} → m ≡ replicate 256 0 → Marks [] l (min n 256) m
+pub marks_none : (l : List Hold) (n : ℕ) {m : List Bool} → m ≡ replicate 256 false → Marks [] l (min n 256) m
 marks_none l n e = record {
-  room = ap length e ∙ length-replicate {A = ℕ} 256 0;
-  each = λ j d b. (let z : ◌≡◌ {A = ℕ} (get_or (replicate 256 0) j 0) 0 = get_or-replicate {A = ℕ} 256 j 0 0 (omega arith) in rw (e, z) (sym (unnamed_none (get_or l j d))));
+  room = ap length e ∙ length-replicate {A = Bool} 256 false;
+  each = λ j d b. (let z : ◌≡◌ {A = Bool} (get_or (replicate 256 false) j false) false = get_or-replicate {A = Bool} 256 j false false (omega arith) in rw (e, z) (sym (unnamed_none (get_or l j d))));
 }
 
 -- one more cell
@@ -130,7 +127,7 @@ unnamed_more s i r = by r.owner
     by (Owner.Watchtower t) = has_more
 
 -- what i cells have marked: of the last one, p, the records from j on are still to be looked at
-pub record Releasing (s : List ℕ) (h : Held) (hm : List ℕ) (c n : ℕ) (p : OutPoint) (i j : ℕ) (m₀ m : List ℕ) : Type 0 where
+pub record Releasing (s : List ℕ) (h : Held) (hm : List ℕ) (c n : ℕ) (p : OutPoint) (i j : ℕ) (m₀ m : List Bool) : Type 0 where
   pub most : c ≡ min h.count 256
   pub whole : length h.records ≡ 256
   pub hints : Hints hm h.records c
@@ -138,10 +135,10 @@ pub record Releasing (s : List ℕ) (h : Held) (hm : List ℕ) (c n : ℕ) (p : 
   pub within : i ≤ n
   pub start : length m₀ ≡ 256
   pub room : length m ≡ 256
-  pub before : (y : ℕ) (d : Hold) → y < c → y < j → eqb (get_or m y 0) 0 ≡ is_unnamed (span (point_of s) 0 i) (get_or h.records y d)
-  pub after : (y : ℕ) (d : Hold) → y < c → j ≤ y → eqb (cond (is_tower_on p (get_or h.records y d)) 1 (get_or m y 0)) 0 ≡ is_unnamed (span (point_of s) 0 i) (get_or h.records y d)
+  pub before : (y : ℕ) (d : Hold) → y < c → y < j → not (get_or m y false) ≡ is_unnamed (span (point_of s) 0 i) (get_or h.records y d)
+  pub after : (y : ℕ) (d : Hold) → y < c → j ≤ y → not (cond (is_tower_on p (get_or h.records y d)) true (get_or m y false)) ≡ is_unnamed (span (point_of s) 0 i) (get_or h.records y d)
 
-pub free_start : (s : List ℕ) (h : Held) (p : OutPoint) {hm m : List ℕ} {c n : ℕ} → Hints hm h.records (min h.count 256) → Marks [] h.records (min h.count 256) m → c ≡ min h.count 256 → n ≡ fix_count s
+pub free_start : (s : List ℕ) (h : Held) (p : OutPoint) {hm : List ℕ} {m : List Bool} {c n : ℕ} → Hints hm h.records (min h.count 256) → Marks [] h.records (min h.count 256) m → c ≡ min h.count 256 → n ≡ fix_count s
     → length h.records ≡ 256 → Releasing s h hm c n p 0 c m m
 unfolding span
 free_start s h p k q e f l = record {
@@ -156,7 +153,7 @@ free_start s h p k q e f l = record {
   after = λ y d u v. absurd (omega arith);
 }
 
-module _ {s : List ℕ} {h : Held} {hm : List ℕ} {c n : ℕ} {p : OutPoint} {i j : ℕ} {m₀ m : List ℕ} (k : Releasing s h hm c n p i j m₀ m) where
+module _ {s : List ℕ} {h : Held} {hm : List ℕ} {c n : ℕ} {p : OutPoint} {i j : ℕ} {m₀ m : List Bool} (k : Releasing s h hm c n p i j m₀ m) where
   pub free_in : {y : ℕ} → y < c → y < 256
   free_in l = let a = k.most in omega arith
 
@@ -167,7 +164,7 @@ module _ {s : List ℕ} {h : Held} {hm : List ℕ} {c n : ℕ} {p : OutPoint} {i
   free_long = k.room ∙ sym k.start
 
   -- one of the others
-  pub free_other : (d : Hold) {b : Bool} {m' : List ℕ} → j < c → b ≡ is_tower_on p (get_or h.records j d) → m' ≡ marked m j b → Releasing s h hm c n p i (j + 1) m₀ m'
+  pub free_other : (d : Hold) {b : Bool} {m' : List Bool} → j < c → b ≡ is_tower_on p (get_or h.records j d) → m' ≡ marked m j b → Releasing s h hm c n p i (j + 1) m₀ m'
   free_other d {b} {m'} l eb em = record {
     most = k.most;
     whole = k.whole;
@@ -177,13 +174,13 @@ module _ {s : List ℕ} {h : Held} {hm : List ℕ} {c n : ℕ} {p : OutPoint} {i
     start = k.start;
     room = rw em (marked-long m j b ∙ k.room);
     before = λ y d' u v. by y d' u v (ltb y j) refl;
-    after = λ y d' u v. (let z : get_or m' y 0 ≡ get_or m y 0 = ap (λ (x : List ℕ). get_or x y 0) em ∙ marked_other m j y b (λ q. omega arith) in rw z (k.after y d' u (omega arith)));
+    after = λ y d' u v. (let z : get_or m' y false ≡ get_or m y false = ap (λ (x : List Bool). get_or x y false) em ∙ marked_other m j y b (λ q. omega arith) in rw z (k.after y d' u (omega arith)));
   }
     where
-      by : (y : ℕ) (d' : Hold) → y < c → y < j + 1 → (q : Bool) → ltb y j ≡ q → eqb (get_or m' y 0) 0 ≡ is_unnamed (span (point_of s) 0 i) (get_or h.records y d')
+      by : (y : ℕ) (d' : Hold) → y < c → y < j + 1 → (q : Bool) → ltb y j ≡ q → not (get_or m' y false) ≡ is_unnamed (span (point_of s) 0 i) (get_or h.records y d')
       by y d' u v true z =
           let x : y < j = ltb-true _ _ z in
-          let e : get_or m' y 0 ≡ get_or m y 0 = ap (λ (x : List ℕ). get_or x y 0) em ∙ marked_other m j y b (λ q. omega arith) in
+          let e : get_or m' y false ≡ get_or m y false = ap (λ (x : List Bool). get_or x y false) em ∙ marked_other m j y b (λ q. omega arith) in
           rw e (k.before y d' u x)
       by y d' u v false z =
           let x : j ≤ y = ltb-false _ _ z in
@@ -191,16 +188,16 @@ module _ {s : List ℕ} {h : Held} {hm : List ℕ} {c n : ℕ} {p : OutPoint} {i
           let a = k.most in
           let w = k.whole in
           let o : b ≡ is_tower_on p (get_or h.records j d') = eb ∙ ap (is_tower_on p) (same_default h.records j d d' (omega arith)) in
-          let e : get_or m' j 0 ≡ cond (is_tower_on p (get_or h.records j d')) 1 (get_or m j 0) = ap (λ (x : List ℕ). get_or x j 0) em ∙ marked-here m j b (free_room l) ∙ ap (λ (t : Bool). cond t 1 (get_or m j 0)) o in
+          let e : get_or m' j false ≡ cond (is_tower_on p (get_or h.records j d')) true (get_or m j false) = ap (λ (x : List Bool). get_or x j false) em ∙ marked-here m j b (free_room l) ∙ ap (λ (t : Bool). cond t true (get_or m j false)) o in
           rw (at, e) (k.after j d' l (omega arith))
 
   -- a mark that stands, or comes, with one more cell
   module _ (q : c ≤ j) (y : ℕ) (d : Hold) (u : y < c) where
-    next-cell : eqb (cond (is_tower_on (point_of s i) (get_or h.records y d)) 1 (get_or m y 0)) 0 ≡ is_unnamed (span (point_of s) 0 (i + 1)) (get_or h.records y d)
-    next-cell = by (is_tower_on (point_of s i) (get_or h.records y d)) (is_unnamed (span (point_of s) 0 i) (get_or h.records y d)) (get_or m y 0) (k.before y d u (omega arith))
+    next-cell : not (cond (is_tower_on (point_of s i) (get_or h.records y d)) true (get_or m y false)) ≡ is_unnamed (span (point_of s) 0 (i + 1)) (get_or h.records y d)
+    next-cell = by (is_tower_on (point_of s i) (get_or h.records y d)) (is_unnamed (span (point_of s) 0 i) (get_or h.records y d)) (get_or m y false) (k.before y d u (omega arith))
         ∙ sym (unnamed_more s i (get_or h.records y d))
       where
-        by : (t o : Bool) (v : ℕ) → eqb v 0 ≡ o → eqb (cond t 1 v) 0 ≡ cond t false o
+        by : (t o v : Bool) → not v ≡ o → not (cond t true v) ≡ cond t false o
         by true o v e = refl
         by false o v e = e
 
@@ -222,12 +219,12 @@ module _ {s : List ℕ} {h : Held} {hm : List ℕ} {c n : ℕ} {p : OutPoint} {i
       after = λ y d u v. absurd (omega arith);
     }
       where
-        before : (y : ℕ) (d : Hold) → y < c → eqb (get_or m y 0) 0 ≡ is_unnamed (span (point_of s) 0 (i + 1)) (get_or h.records y d)
+        before : (y : ℕ) (d : Hold) → y < c → not (get_or m y false) ≡ is_unnamed (span (point_of s) 0 (i + 1)) (get_or h.records y d)
         before y d u =
             let z : is_tower_on (point_of s i) (get_or h.records y d) ≡ false = rw ep at (sweep-none k.hints long-enough p' m ea b y d u) in
-            sym (ap (λ (t : Bool). eqb (cond t 1 (get_or m y 0)) 0) z) ∙ next-cell q y d u
+            sym (ap (λ (t : Bool). not (cond t true (get_or m y false))) z) ∙ next-cell q y d u
 
-    pub free_first : (d : Hold) {b : Bool} {m' : List ℕ} {from : ℕ} → at < c → b ≡ is_tower_on p' (get_or h.records at d) → m' ≡ marked m at b → from ≡ get_or hm (2 * slot_of p' + 1) 0 + 1
+    pub free_first : (d : Hold) {b : Bool} {m' : List Bool} {from : ℕ} → at < c → b ≡ is_tower_on p' (get_or h.records at d) → m' ≡ marked m at b → from ≡ get_or hm (2 * slot_of p' + 1) 0 + 1
         → Releasing s h hm c n p' (i + 1) from m₀ m'
     free_first d {b} {m'} {from} f eb em ef = record {
       most = k.most;
@@ -237,8 +234,8 @@ module _ {s : List ℕ} {h : Held} {hm : List ℕ} {c n : ℕ} {p : OutPoint} {i
       within = omega arith;
       start = k.start;
       room = rw em (marked-long m at b ∙ k.room);
-      before = λ y d' u v. ap (λ (x : ℕ). eqb x 0) (sweep-first k.hints long-enough p' m ea d f marks_enough eb em ef y d' u v) ∙ rw ep (next-cell q y d' u);
-      after = λ y d' u v. ap (λ (x : ℕ). eqb x 0) (sweep-rest k.hints long-enough p' m ea d f marks_enough eb em ef y d' u) ∙ rw ep (next-cell q y d' u);
+      before = λ y d' u v. ap not (sweep-first k.hints long-enough p' m ea d f marks_enough eb em ef y d' u v) ∙ rw ep (next-cell q y d' u);
+      after = λ y d' u v. ap not (sweep-rest k.hints long-enough p' m ea d f marks_enough eb em ef y d' u) ∙ rw ep (next-cell q y d' u);
     }
       where
         marks_enough : c ≤ length m
@@ -268,8 +265,8 @@ module _ {s : List ℕ} {h : Held} {hm : List ℕ} {c n : ℕ} {p : OutPoint} {i
 
 -- ---- the records without a mark stay
 
-module _ {ps : List OutPoint} {h g : Held} {n to i : ℕ} {m : List ℕ} (q : Marks ps h.records (min h.count 256) m) (k : Keeping (is_unnamed ps) h g n to i) {r : Bool} (l : i < n)
-    (e : r ≡ eqb (get_or m i 0) 0) where
+module _ {ps : List OutPoint} {h g : Held} {n to i : ℕ} {m : List Bool} (q : Marks ps h.records (min h.count 256) m) (k : Keeping (is_unnamed ps) h g n to i) {r : Bool} (l : i < n)
+    (e : r ≡ not (get_or m i false)) where
   stays_is : (d : Hold) → r ≡ is_unnamed ps (get_or h.records i d)
   stays_is d = let a = k.most in e ∙ q.each i d (omega arith)
 

@@ -1,5 +1,5 @@
 -- What private functions of this crate answer; no call's contract cites it. The calls' definitions are crates/hold_records/specs/Holds.antt.
-use Rattle.std.specs.Prelude.{◌≡◌, ℕ, suc, ◌+◌, ◌-◌, ◌*◌, ◌≤◌, ◌<◌, min, Bool, true, cond, List, [], ◌∷◌, ltb, eqb, length, get_or, set}
+use Rattle.std.specs.Prelude.{◌≡◌, ℕ, suc, ◌+◌, ◌-◌, ◌*◌, ◌≤◌, ◌<◌, min, Bool, true, false, not, cond, List, [], ◌∷◌, ltb, length, get_or, set}
 use Rattle.out_points.specs.declared.{OutPoint.OutPoint}
 use Rattle.out_points.specs.OutPoints.{slot_of}
 use Rattle.hold_records.specs.declared.{Hold.Hold}
@@ -30,10 +30,10 @@ pub record Hints (m : List ℕ) (l : List Hold) (n : ℕ) : Type 0 where
 
 -- ---- marks, one for each record
 
-unfoldable pub marked : List ℕ → ℕ → Bool → List ℕ
-marked m at on = cond on (set m at 1) m
+unfoldable pub marked : List Bool → ℕ → Bool → List Bool
+marked m at on = cond on (set m at true) m
 
 -- of the first n records in l those have no mark that stay when the watchtower's holds on the cells go
-pub record Marks (cells : List OutPoint) (l : List Hold) (n : ℕ) (m : List ℕ) : Type 0 where
+pub record Marks (cells : List OutPoint) (l : List Hold) (n : ℕ) (m : List Bool) : Type 0 where
   pub room : length m ≡ 256
-  pub each : (j : ℕ) (d : Hold) → j < n → eqb (get_or m j 0) 0 ≡ is_unnamed cells (get_or l j d)
+  pub each : (j : ℕ) (d : Hold) → j < n → not (get_or m j false) ≡ is_unnamed cells (get_or l j d)

@@ -2,7 +2,7 @@
 // lent. Parameters stand one by one, as in the C functions of the calls: a struct would be made there for each single call.
 #![tactic(auto, using(crate::proofs::Ways::ways))]
 
-ghost use Rattle.std.specs.Prelude.{◌≡◌, [], ◌+◌, ◌-◌, ◌*◌, ◌<◌, ◌≤◌, min, nat_eq, length, get_or, set, IfOk};
+ghost use Rattle.std.specs.Prelude.{◌≡◌, [], ◌+◌, ◌-◌, ◌*◌, ◌<◌, ◌≤◌, min, not, false, length, get_or, set, IfOk};
 ghost use Rattle.out_points.specs.OutPoints.{points, slot_of};
 ghost use Rattle.out_points.specs.Tables.{keep};
 ghost use Rattle.hold_records.specs.declared.{Owner.Owner, Held.Held};
@@ -181,17 +181,17 @@ fn renew_all(h: Held, cells: &[u8], end: Millis) -> Result<Held, Refusal>
 }
 
 // Marks the record at `at`, if it is `on` a cell.
-fn mark(marks: &mut [u8], at: usize, on: bool)
+fn mark(marks: &mut [bool], at: usize, on: bool)
     requires { at < length marks.old }
     ensures { marks.new ≡ marked marks.old at on }
 {
     if on {
-        marks[at] = 1;
+        marks[at] = true;
     }
 }
 
 // Marks the watchtower's records on the cells: for each cell the first of its slot, and the others, which are looked at only where a slot has more than one.
-fn mark_all(h: Held, cells: &[u8], hints: &[u8], marks: &mut [u8])
+fn mark_all(h: Held, cells: &[u8], hints: &[u8], marks: &mut [bool])
     requires { Hints hints.now h.records (min h.count 256) × Marks [] h.records (min h.count 256) marks.old }
     ensures { Marks (points cells.now) h.records (min h.count 256) marks.new }
 {
@@ -212,10 +212,11 @@ fn mark_all(h: Held, cells: &[u8], hints: &[u8], marks: &mut [u8])
 }
 
 // Whether the record at `at` has no mark.
-fn is_unmarked(marks: &[u8], at: usize) -> bool
-    ensures { result ≡ nat_eq (get_or marks.now at 0) 0 }
+fn is_unmarked(marks: &[bool], at: usize) -> bool
+    requires { at < length marks.now }
+    ensures { result ≡ not (get_or marks.now at false) }
 {
-    little_endian::byte(marks, at) == 0
+    !marks[at]
 }
 
 // The records without the watchtower's on `cells`.
@@ -224,7 +225,7 @@ fn without(h: Held, cells: &[u8], hints: &[u8]) -> Held
     ensures result_value { records_of result ≡ keep (is_unnamed (points cells.now)) (records_of h) }
     ensures count_bound { result.count ≤ 256 }
 {
-    let mut marks = [0u8; 256];
+    let mut marks = [false; 256];
     mark_all(h, cells, hints, &mut marks);
     let n = hold_records::used(h.count);
     let mut g = h;
