@@ -243,7 +243,7 @@ pub fn read_map(s: &[u8], rule: Rule) -> Result<Survey, Refusal>
     let mut v = start();
     let mut at: usize = 4;
     let mut left = MOST_OUT_POINTS as u32;
-    for i in 0..n {
+    for _ in 0..n {
         let x = &s[at..];
         let c = point_count(x);
         if left < c {

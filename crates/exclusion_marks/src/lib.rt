@@ -48,7 +48,7 @@ fn mark(s: &mut [u8], hash: Byte32, block: BlockNumber)
 {
     let n = molecule::word(s, 0) as usize;
     let mut at: usize = 4;
-    for i in 0..n {
+    for _ in 0..n {
         at = commit_one(s, at, hash, block);
     }
 }
@@ -75,7 +75,7 @@ fn put_excluded(s: &[u8], out: &mut [u8])
     let n = molecule::word(s, 0) as usize;
     let mut to: usize = 4;
     let mut at: usize = 4;
-    for i in 0..n {
+    for _ in 0..n {
         let x = molecule::part(s, at, s.len());
         let c = exclusion_entries::point_count(x);
         let size = exclusion_entries::entry_size(c);

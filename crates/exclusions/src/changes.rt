@@ -93,7 +93,7 @@ impl Pass {
             to: at,
             taken: false,
         };
-        for i in self.found.index..n {
+        for _ in self.found.index..n {
             c = sift_one(s, self.rule, c);
         }
     }

@@ -16,7 +16,7 @@ use out_points::Byte32;
 use transaction::fields;
 
 // The transaction's hash and its inputs, which are as long as their count says.
-#[derive(Clone, Copy, Debug)]
+#[derive(Clone, Copy, Debug, PartialEq, Eq)]
 pub(crate) struct NewEntry<'a> {
     pub(crate) hash: Byte32,
     pub(crate) inputs: &'a [u8],
@@ -54,7 +54,8 @@ impl<'a> NewEntry<'a> {
         write::put_u32(out, at, self.point_count())
     }
 
-    // Puts the out points that the inputs spend.
+    // Puts the out points that the inputs spend. `as_chunks` of the inputs would be no plainer: their places in `out` would be counted beside them all the same,
+    // and `write::put` copies a length that it asks for, where here it is known.
     fn put_points(self, out: &mut [u8], at: usize)
         requires { at + 36 * fix_count self.inputs.now ≤ length out.old }
         ensures { out.new ≡ splice out.old at (bytes_of (spent_by self.entry.inputs.now)) }
@@ -63,7 +64,7 @@ impl<'a> NewEntry<'a> {
         let mut to = at;
         let mut from: usize = 12;
         let n = self.point_count();
-        for k in 0..n {
+        for _ in 0..n {
             copy_point(out, to, self.inputs, from);
             to += 36;
             from += 44;

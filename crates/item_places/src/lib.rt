@@ -105,7 +105,7 @@ fn raw_place(tx: &[u8], j: u32) -> Place
 }
 
 // One of the lists of a transaction, and how many items it has.
-#[derive(Clone, Copy, Debug)]
+#[derive(Clone, Copy, Debug, PartialEq, Eq)]
 struct TxList<'a> {
     tx: &'a [u8],
     kind: ListKind,

@@ -159,10 +159,10 @@ fn vector(alloc: Global, kind: Kind, v: &[u8]) -> Result<Count, AllocError> {
     Ok(count)
 }
 
-// The vectors of a type. Those of no known type are read as of one that may be empty.
+// The vectors of a type.
 fn group(rt: &(impl Print + AllocGlobal), g: &[u8]) -> io::Result<Count> {
     let number = little_endian::byte(molecule::field(g, 3, 0), 0);
-    let kind = Kind::try_from(number).unwrap_or(Kind::BytesVecOpt);
+    let kind = Kind::from(number);
     let mut count = Count::default();
     for v in Items::of(molecule::field(g, 3, 2)) {
         count.add(vector(rt.alloc(), kind, v)?);

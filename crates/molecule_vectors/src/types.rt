@@ -1,4 +1,6 @@
 // The types of the vectors, by the numbers that tools/molecule_vectors.py gives them, and the library's reader for each.
+use molecule::{BytesVec, Entity};
+
 #[derive(Clone, Copy, Debug, PartialEq, Eq)]
 pub enum Kind {
     Uint32,
@@ -16,29 +18,24 @@ pub enum Kind {
     CellDeps,
 }
 
-// A number that no type has.
-#[derive(Clone, Copy, Debug, PartialEq, Eq)]
-pub struct UnknownKind(pub u8);
-
-impl TryFrom<u8> for Kind {
-    type Error = UnknownKind;
-
-    fn try_from(number: u8) -> Result<Kind, UnknownKind> {
+// The vectors of no known type are read as of one that may be empty.
+impl From<u8> for Kind {
+    fn from(number: u8) -> Kind {
         match number {
-            0 => Ok(Kind::Uint32),
-            1 => Ok(Kind::Bytes),
-            2 => Ok(Kind::Uint32Vec),
-            3 => Ok(Kind::BytesVec),
-            4 => Ok(Kind::MixedType),
-            5 => Ok(Kind::BytesVecOpt),
-            6 => Ok(Kind::Transaction),
-            7 => Ok(Kind::Script),
-            8 => Ok(Kind::CellOutput),
-            9 => Ok(Kind::Records),
-            10 => Ok(Kind::TokenCells),
-            11 => Ok(Kind::OutPoints),
-            12 => Ok(Kind::CellDeps),
-            _ => Err(UnknownKind(number)),
+            0 => Kind::Uint32,
+            1 => Kind::Bytes,
+            2 => Kind::Uint32Vec,
+            3 => Kind::BytesVec,
+            4 => Kind::MixedType,
+            5 => Kind::BytesVecOpt,
+            6 => Kind::Transaction,
+            7 => Kind::Script,
+            8 => Kind::CellOutput,
+            9 => Kind::Records,
+            10 => Kind::TokenCells,
+            11 => Kind::OutPoints,
+            12 => Kind::CellDeps,
+            _ => Kind::BytesVecOpt,
         }
     }
 }
@@ -52,7 +49,7 @@ impl Kind {
             Kind::Uint32Vec => molecule::is_fixvec(s, 4),
             Kind::BytesVec => molecule::is_bytes_vec(s),
             Kind::MixedType => is_mixed_type(s),
-            Kind::BytesVecOpt => s.is_empty() || molecule::is_bytes_vec(s),
+            Kind::BytesVecOpt => Option::<BytesVec>::is(s),
             Kind::Transaction => transaction::is_transaction(s),
             Kind::Script => transaction::is_script(s),
             Kind::CellOutput => transaction::is_output(s),

@@ -11,7 +11,7 @@ ghost use Rattle.reader.specs.Places.{table_at, table_start, fixvec_at, fixvec_s
 ghost use Rattle.reader.specs.Readers.{start_of, at_field};
 
 // The lent bytes, all of them, and a place in them.
-#[derive(Clone, Copy)]
+#[derive(Clone, Copy, Debug, PartialEq, Eq)]
 pub struct Reader<'a> {
     src: &'a [u8],
     at: usize,

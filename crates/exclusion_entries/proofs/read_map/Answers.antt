@@ -4,14 +4,14 @@ use Rattle.exclusion_entries.proofs.Ways.{ways}
 use Rattle.exclusion_entries.proofs.read_map.Goals.{then-touch, else-touch}
 use Rattle.exclusion_entries.proofs.read_map.Goals as goal
 
-pub loop-i-init : goal.loop-i-init
-loop-i-init c = search ways
+pub loop-init : goal.loop-init
+loop-init c = search ways
 
 pub returns-then-not-is_entry : goal.returns-then-not-is_entry
 returns-then-not-is_entry c = search ways
 
-pub loop-i-preserved : goal.loop-i-preserved
-loop-i-preserved c = elim c.if-touch.branch [
-  | then-touch w ↦ sweep_touched c.loop-i.invariant c.loop-i-test.true refl c.point_count-c.ensures c.if-left-c.false c.is_entry.ensures c.if-not-is_entry.false c.entry_size-at.ensures (w.v-is ∙ w.touched-v.ensures)
-  | else-touch w ↦ sweep_passed c.loop-i.invariant c.loop-i-test.true refl c.point_count-c.ensures c.if-left-c.false c.is_entry.ensures c.if-not-is_entry.false c.words_of-w.ensures c.may_touch-touch.ensures c.entry_size-at.ensures w.if-touch.false (w.v-is ∙ w.stayed-v.ensures)
+pub loop-preserved : goal.loop-preserved
+loop-preserved c = elim c.if-touch.branch [
+  | then-touch w ↦ sweep_touched c.loop.invariant c.loop-test.true refl c.point_count-c.ensures c.if-left-c.false c.is_entry.ensures c.if-not-is_entry.false c.entry_size-at.ensures (w.v-is ∙ w.touched-v.ensures)
+  | else-touch w ↦ sweep_passed c.loop.invariant c.loop-test.true refl c.point_count-c.ensures c.if-left-c.false c.is_entry.ensures c.if-not-is_entry.false c.words_of-w.ensures c.may_touch-touch.ensures c.entry_size-at.ensures w.if-touch.false (w.v-is ∙ w.stayed-v.ensures)
 ]

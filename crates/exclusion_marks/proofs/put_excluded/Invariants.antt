@@ -1,5 +1,5 @@
 use Rattle.exclusion_marks.proofs.ApplyLaws.{Listing}
 use Rattle.exclusion_marks.proofs.put_excluded.Given as goal
 
-abbrev pub invariant-loop-i : goal.invariant-loop-i
-invariant-loop-i l = Listing l.s l.n l.initial.out l.out l.to l.at l.i
+abbrev pub invariant-loop : goal.invariant-loop
+invariant-loop l = Listing l.s l.n l.initial.out l.out l.to l.at l.counter
