@@ -1,7 +1,7 @@
 -- Bytes at the start of a lent buffer, and the verdict line: one law for each way out.
 use Rattle.std.proofs.Common.{Result, Ok, Err}
 use mathlib.Core.Path.{◌≡◌, refl, sym, ap, ap₂, ◌∙◌}
-use Prim.Native.Nat.{ℕ, ◌-◌, ◌≤◌, ◌<◌}
+use Prim.Native.Nat.{ℕ, ◌≤◌, ◌<◌}
 use mathlib.Core.Bool.{Bool, true, false, and-false}
 use mathlib.Core.List.{List, []}
 use native.Mathlib.Nat.{zero-add}
@@ -14,7 +14,6 @@ use Rattle.error.specs.declared.Refusal.{Refusal}
 use Rattle.error.specs.Refusal.{number, values}
 use Rattle.molecule.specs.Partial.{pick}
 use Rattle.molecule.specs.Molecule.{readable}
-use Rattle.molecule.specs.Layout.{part}
 use Rattle.molecule.specs.Write.{splice, put_at, put_end}
 use Rattle.molecule.proofs.WriteLaws.{put_yes, end_yes, splice_zero}
 use Rattle.transaction.specs.Ckb.{Transaction}
@@ -23,6 +22,7 @@ use Rattle.transaction_lists.specs.Found as lists
 use Rattle.transaction_lists.specs.Found.{count_found}
 use Rattle.transaction_lists.proofs.ListLaws.{none-beyond}
 use Rattle.rules.specs.Outcome.{Outcome, fine, refused, check, check_with, ◌>>=◌, ◌>>◌}
+use Rattle.rules.specs.Told.{told_by}
 use Rattle.rules.proofs.Tests.{is_true, never, fine_inj, check-fine}
 use Rattle.transaction_writer.specs.Written as tx
 use Rattle.base_writer.specs.Answer.{in_room, leaves, written, told}
@@ -127,3 +127,9 @@ pub line-told : (line zeros out words : List ℕ) {made after : List ℕ} {n : �
     → (o, after) ≡ written (fine (take n made)) out → r ≡ in_words count_words o words → (r, after) ≡ writing count_words (written (fine line) out) words
 line-told line zeros out words {n = n} e f h k =
     wrote count_words _ words (h ∙ rw (e, splice_zero zeros line, take_at line (drop (length line) zeros) n (sym f))) k
+
+-- ---- the two forms of an answer that is a number
+
+pub written-told : (w : Result ℕ Refusal) → told_by (λ n. n) w ≡ told w
+written-told (Ok n) = refl
+written-told (Err e) = refl

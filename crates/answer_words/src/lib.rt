@@ -5,6 +5,7 @@
 pub mod buffers;
 
 ghost use Rattle.std.specs.Prelude.{◌≡◌};
+ghost use Rattle.units.specs.Units.{shannon_count, token_count};
 ghost use Rattle.words.specs.Words.{in_words};
 ghost use Rattle.funding_cell.specs.FundingCell as funding;
 ghost use Rattle.udt_cells.specs.Change.{answered};
@@ -16,85 +17,89 @@ ghost use Rattle.answer_words.specs.Answers.{count_words, cell_words, pick_words
 use arithmetic::amount;
 use error::Refusal;
 use funding_cell::{FundingCell, FundingRequest};
-use negotiation::Replayed;
+use negotiation::{Replayed, Summary};
 use transaction_writer::Written;
 use udt_cells::UdtInputsOutputs;
 use units::Shannons;
 use words::WORDS;
 
+fn written_words(n: usize) -> [u64; 1]
+    ensures { result ≡ count_words n }
+{
+    [n as u64]
+}
+
 // The answer of a call that writes: how many bytes it wrote.
 pub fn tell_written(written: Written, words: &mut [u64; WORDS]) -> u32
     ensures { (result, words.new) ≡ in_words count_words (writer.told written) words.old }
 {
-    match written {
-        Ok(n) => words::set(words, 0, &[n as u64]),
-        Err(why) => words::tell_refusal(why, words),
-    }
+    words::tell(written.map(written_words), words)
+}
+
+fn found_words(n: u32) -> [u64; 1]
+    ensures { result ≡ count_words n }
+{
+    [u64::from(n)]
 }
 
 // A number that a transaction was asked for.
 pub fn tell_found(found: Result<u32, Refusal>, words: &mut [u64; WORDS]) -> u32
     ensures { (result, words.new) ≡ in_words count_words (lists.told found) words.old }
 {
-    match found {
-        Ok(n) => words::set(words, 0, &[u64::from(n)]),
-        Err(why) => words::tell_refusal(why, words),
-    }
+    words::tell(found.map(found_words), words)
+}
+
+fn cell_words(cell: FundingCell) -> [u64; 3]
+    ensures { result ≡ cell_words (record { capacity = shannon_count cell.capacity; token = token_count cell.token }) }
+{
+    let FundingCell { capacity, token } = cell;
+    [
+        amount::low(capacity.0),
+        amount::low(token.0),
+        amount::high(token.0),
+    ]
 }
 
 // The funding cell: its capacity and its token amount.
 pub fn tell_cell(cell: Result<FundingCell, Refusal>, words: &mut [u64; WORDS]) -> u32
     ensures { (result, words.new) ≡ in_words cell_words (funding.told cell) words.old }
 {
-    match cell {
-        Ok(FundingCell { capacity, token }) => words::set(
-            words,
-            0,
-            &[
-                amount::low(capacity.0),
-                amount::low(token.0),
-                amount::high(token.0),
-            ],
-        ),
-        Err(why) => words::tell_refusal(why, words),
-    }
+    words::tell(cell.map(cell_words), words)
+}
+
+fn pick_words(pick: UdtInputsOutputs) -> [u64; 4]
+    ensures { result ≡ pick_words (record { taken = pick.taken; change = token_count pick.change; capacity = shannon_count pick.capacity }) }
+{
+    [
+        pick.taken as u64,
+        amount::low(pick.change.0),
+        amount::high(pick.change.0),
+        amount::low(pick.capacity.0),
+    ]
 }
 
 // The pick: how many cells, the change, and the capacity of its output.
 pub fn tell_pick(pick: Result<UdtInputsOutputs, Refusal>, words: &mut [u64; WORDS]) -> u32
     ensures { (result, words.new) ≡ in_words pick_words (answered pick) words.old }
 {
-    match pick {
-        Ok(built) => words::set(
-            words,
-            0,
-            &[
-                built.taken as u64,
-                amount::low(built.change.0),
-                amount::high(built.change.0),
-                amount::low(built.capacity.0),
-            ],
-        ),
-        Err(why) => words::tell_refusal(why, words),
-    }
+    words::tell(pick.map(pick_words), words)
+}
+
+fn replay_words(summary: Summary) -> [u64; 3]
+    ensures { result ≡ replay_words (record { updates = summary.updates; accepted = summary.accepted; at = summary.at }) }
+{
+    [
+        summary.updates as u64,
+        summary.accepted as u64,
+        summary.at as u64,
+    ]
 }
 
 // What a list of updates came to: how many they were, how many were accepted, and which transaction is then in force.
 pub fn tell_replayed(replayed: Replayed, words: &mut [u64; WORDS]) -> u32
     ensures { (result, words.new) ≡ in_words replay_words (replay.answered replayed) words.old }
 {
-    match replayed {
-        Ok(summary) => words::set(
-            words,
-            0,
-            &[
-                summary.updates as u64,
-                summary.accepted as u64,
-                summary.at as u64,
-            ],
-        ),
-        Err(why) => words::tell_refusal(why, words),
-    }
+    words::tell(replayed.map(replay_words), words)
 }
 
 // The figures of a request, which cross as words.

@@ -12,6 +12,13 @@ ghost use Rattle.comparison.specs.Together.{none_missing, funding_cell_first};
 
 use transaction::fields;
 
+// How many bytes an item of each list has.
+const CELL_DEP_BYTES: u32 = 37;
+
+const HEADER_DEP_BYTES: u32 = 32;
+
+const INPUT_BYTES: u32 = 44;
+
 fn same_version(ours: &[u8], peer: &[u8]) -> bool
     ensures { result ≡ eqb (tx_at ours.now).version (tx_at peer.now).version }
 {
@@ -29,7 +36,7 @@ fn keeps_cell_deps(ours: &[u8], peer: &[u8]) -> bool
     if molecule::fix_count(b) < molecule::fix_count(a) {
         return false;
     }
-    item_lookup::fix_has_all(a, b, 37)
+    item_lookup::fix_has_all(a, b, CELL_DEP_BYTES)
 }
 
 // Output 0, if present, has the expected lock and type, and no data where it is untyped.
@@ -49,11 +56,11 @@ fn is_funding_cell(lock: &[u8], udt: &[u8], peer: &[u8]) -> bool
     if !lists::same(udt, t) {
         return false;
     }
-    if udt.len() != 0 {
+    if !udt.is_empty() {
         return true;
     }
     let d = fields::output_data(peer, 0);
-    d.len() == 0
+    d.is_empty()
 }
 
 // Of a list of ours and the peer's: no fewer items, and those after 0 are as `extends` wants them.
@@ -80,16 +87,20 @@ pub fn keeps_ours(ours: &[u8], peer: &[u8], lock: &[u8], udt: &[u8]) -> bool
     if !same_version(ours, peer) {
         return false;
     }
-    if ours.len() == 0 {
+    if ours.is_empty() {
         return true;
     }
     if !keeps_cell_deps(ours, peer) {
         return false;
     }
-    if !lists::fix_extends(fields::header_deps(ours), fields::header_deps(peer), 32) {
+    if !lists::fix_extends(
+        fields::header_deps(ours),
+        fields::header_deps(peer),
+        HEADER_DEP_BYTES,
+    ) {
         return false;
     }
-    if !lists::fix_extends(fields::inputs(ours), fields::inputs(peer), 44) {
+    if !lists::fix_extends(fields::inputs(ours), fields::inputs(peer), INPUT_BYTES) {
         return false;
     }
     if !keeps_after_first(

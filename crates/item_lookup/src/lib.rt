@@ -69,7 +69,7 @@ enum Chain {
 
 // The items of `ours` before place m are looked for among the first n of `theirs`. All have `size` bytes. Both counts stand in the bytes too; as methods they
 // would be read again for each item that is looked at.
-#[derive(Clone, Copy)]
+#[derive(Clone, Copy, Debug, PartialEq, Eq)]
 struct Search<'a> {
     ours: &'a [u8],
     m: usize,

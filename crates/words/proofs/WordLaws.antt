@@ -1,9 +1,10 @@
 -- Laws of specs/Words.antt for a whole call.
-use Rattle.std.proofs.Common.{◌≡◌, ℕ, List, ◌∙◌}
+use Rattle.std.proofs.Common.{◌≡◌, ℕ, List, ◌∙◌, Result, Ok, Err}
+use Rattle.std.specs.Result.{MatchResult, IsOkAnd}
 use Rattle.error.specs.declared.Refusal.{Refusal}
 use Rattle.error.specs.Refusal.{number, values}
 use Rattle.rules.specs.Outcome.{Outcome}
-use Rattle.rules.specs.Told.{refusal}
+use Rattle.rules.specs.Told.{refusal, told_by}
 use Rattle.words.specs.Words.{set_words, number_of, values_of, in_words, writing}
 
 -- a refusal
@@ -19,3 +20,11 @@ pub wrote : {A : Type 0} (f : A → List ℕ) (call : Outcome A × List ℕ) (wo
     → r ≡ in_words f o words → (r, after) ≡ writing f call words
 unfolding writing
 wrote f call words e k = rw (← e, k)
+
+-- what an answer has to tell, made of it before it is told
+pub mapped_words : {T A : Type 0} (f : A → List ℕ) (g : T → A) (x : Result T Refusal) (y : Result (List ℕ) Refusal) (words : List ℕ) {r : ℕ × List ℕ}
+    → MatchResult x (λ t. IsOkAnd y (λ v. v ≡ f (g t))) (λ e. y ≡ Err e) → r ≡ in_words (λ l. l) (told_by (λ l. l) y) words → r ≡ in_words f (told_by g x) words
+unfolding set_words in_words number_of values_of
+mapped_words f g (Ok t) (Ok v) words m k = rw m at k
+mapped_words f g (Ok t) (Err e) words m k = absurd m
+mapped_words f g (Err e) y words m k = rw m at k

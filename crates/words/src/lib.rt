@@ -1,9 +1,9 @@
 // How an answer crosses to C: a number, and the words that it has to tell at the start of four that are lent. All other words keep their value.
 #![tactic(auto, using(crate::proofs::Ways::ways), unfolding(crate::specs::Words::set_words, crate::specs::Words::in_words, crate::specs::Words::number_of, crate::specs::Words::values_of, crate::specs::Words::surplus_words))]
 
-ghost use Rattle.std.specs.Prelude.{◌≡◌, ◌≤◌, [], ◌∷◌, length};
+ghost use Rattle.std.specs.Prelude.{◌≡◌, ◌≤◌, length};
 ghost use Rattle.error.specs.Refusal.{number, values};
-ghost use Rattle.rules.specs.Told.{told, told_by};
+ghost use Rattle.rules.specs.Told.{told, told_by, figures};
 ghost use Rattle.words.specs.Words.{set_words, in_words, surplus_words};
 
 use arithmetic::amount;
@@ -33,31 +33,32 @@ pub fn tell_refusal(why: Refusal, words: &mut [u64; WORDS]) -> u32
     set(words, u32::from(why.number()), &values[..count])
 }
 
-// An answer that is one number, or a refusal.
-pub fn tell_number(answer: Result<u64, Refusal>, words: &mut [u64; WORDS]) -> u32
-    ensures { (result, words.new) ≡ in_words (λ n. n ∷ []) (told_by (λ n. n) answer) words.old }
+// An answer of so many words, or a refusal.
+pub fn tell<const N: usize>(answer: Result<[u64; N], Refusal>, words: &mut [u64; WORDS]) -> u32
+    ensures { N ≤ 4 → (result, words.new) ≡ in_words (λ l. l) (told_by (λ l. l) answer.entry) words.old }
 {
     match answer {
-        Ok(n) => set(words, 0, &[n]),
+        Ok(values) => set(words, 0, &values),
         Err(why) => tell_refusal(why, words),
     }
 }
 
-// The answer of an update: an acceptance has the surplus of capacity and that of the token, the low half of each first.
+// The surplus of capacity and that of the token, the low half of each first.
+fn surplus_words(surplus: Surplus) -> [u64; WORDS]
+    ensures { result ≡ surplus_words (figures surplus) }
+{
+    let Surplus { capacity, token } = surplus;
+    [
+        amount::low(capacity.0),
+        amount::high(capacity.0),
+        amount::low(token.0),
+        amount::high(token.0),
+    ]
+}
+
+// The answer of an update: an acceptance has its surplus to tell.
 pub fn tell_update(update: Update, words: &mut [u64; WORDS]) -> u32
     ensures { (result, words.new) ≡ in_words surplus_words (told update) words.old }
 {
-    match update {
-        Ok(Surplus { capacity, token }) => set(
-            words,
-            0,
-            &[
-                amount::low(capacity.0),
-                amount::high(capacity.0),
-                amount::low(token.0),
-                amount::high(token.0),
-            ],
-        ),
-        Err(why) => tell_refusal(why, words),
-    }
+    tell(update.map(surplus_words), words)
 }

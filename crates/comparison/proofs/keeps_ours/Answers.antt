@@ -10,8 +10,8 @@ returns-then-not-is_funding_cell c = search (rules, differs_funding)
 pub returns-then-not-same_version : goal.returns-then-not-same_version
 returns-then-not-same_version c = search (rules, differs_version)
 
-pub returns-then-ours-eq0 : goal.returns-then-ours-eq0
-returns-then-ours-eq0 c = search (rules, opens)
+pub returns-then-is_empty : goal.returns-then-is_empty
+returns-then-is_empty c = search (rules, opens)
 
 pub returns-then-not-keeps_cell_deps : goal.returns-then-not-keeps_cell_deps
 returns-then-not-keeps_cell_deps c = search (rules, differs_deps)
