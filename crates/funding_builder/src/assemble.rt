@@ -1,5 +1,5 @@
 // The base transaction written from its figures: the funding cell, the pick and its change, and what the present transaction has already.
-ghost use Rattle.std.specs.Prelude.{◌≡◌, true, length};
+ghost use Rattle.std.specs.Prelude.{◌≡◌, ◌≤◌, true, length};
 ghost use Rattle.units.specs.Units.{shannon_count, token_count};
 ghost use Rattle.molecule.specs.Molecule.{readable, option};
 ghost use Rattle.transaction.specs.Ckb.{Script};
@@ -106,6 +106,23 @@ fn assemble_with(
     base.write(out)
 }
 
+// The same in room for the places of so many deps.
+fn assemble_in<const ROOM: usize>(
+    lent: &Lent,
+    cell: FundingCell,
+    picked: Picked,
+    out: &mut [u8],
+) -> Written
+    requires readable { Readable (lent_in lent.now) }
+    requires roomy { Roomy (lent_in lent.now) picked.taken ROOM ROOM }
+    requires room_bound { ROOM ≤ 3597 }
+    ensures { (told result, out.new) ≡ written (fine (packed (base_tx (lent_in lent.now) (cell_in cell) (pick_in picked)))) out.old }
+{
+    let mut places = [0usize; ROOM];
+    let mut sorted = [0usize; ROOM];
+    assemble_with(lent, cell, picked, &mut places, &mut sorted, out)
+}
+
 // The same, with room for the places of all deps where they are few, and else of as many as fit a transaction.
 pub(crate) fn assemble_base_tx(
     lent: &Lent,
@@ -117,11 +134,7 @@ pub(crate) fn assemble_base_tx(
     ensures { (told result, out.new) ≡ written (fine (packed (base_tx (lent_in lent.now) (cell_in cell) (pick_in picked)))) out.old }
 {
     if dep_lists(lent, picked.taken).dep_count() <= FEW_DEPS {
-        let mut places = [0usize; FEW_DEPS];
-        let mut sorted = [0usize; FEW_DEPS];
-        return assemble_with(lent, cell, picked, &mut places, &mut sorted, out);
+        return assemble_in::<FEW_DEPS>(lent, cell, picked, out);
     }
-    let mut places = [0usize; MOST_DEPS];
-    let mut sorted = [0usize; MOST_DEPS];
-    assemble_with(lent, cell, picked, &mut places, &mut sorted, out)
+    assemble_in::<MOST_DEPS>(lent, cell, picked, out)
 }
