@@ -13,6 +13,7 @@ ghost use Rattle.funding_builder.specs.Base.{lists, supplied, with_pick, with_ce
 ghost use Rattle.funding_builder.specs.Lent.{lent_in, cell_in, pick_in};
 ghost use Rattle.funding_builder.specs.Steps.{Readable};
 
+use assemble::Assembly;
 use error::Refusal;
 use funding_cell::{FundingCell, FundingRequest};
 use transaction::fields;
@@ -79,7 +80,12 @@ impl<'a> Lent<'a> {
         if !is_supplied(picked.taken, self.lock_dep) {
             return Err(Refusal::MissingCellDep);
         }
-        assemble::assemble_base_tx(self, cell, picked, out)
+        let assembly = Assembly {
+            lent: *self,
+            cell,
+            picked,
+        };
+        assembly.write(out)
     }
 
     // Picks token cells for the wanted amount, and writes the base transaction.
