@@ -45,7 +45,7 @@ fn is_supplied(taken: usize, deps: &[u8]) -> bool
 
 // What a call is lent: our present transaction (empty for none), the funding lock, the type (empty for none), our source lock, token cells, and the deps of
 // the token and of our lock, which are needed where cells are picked (empty: not supplied), and the extra ones.
-#[derive(Clone, Copy)]
+#[derive(Clone, Copy, Debug, PartialEq, Eq)]
 pub struct Lent<'a> {
     pub ours: &'a [u8],
     pub lock: &'a [u8],
