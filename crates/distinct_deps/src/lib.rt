@@ -30,7 +30,7 @@ fn is_lock(lock: &[u8], x: &[u8]) -> bool
 }
 
 // The four lists, three of them with an index: the lock's has one dep at most.
-#[derive(Clone, Copy)]
+#[derive(Clone, Copy, Debug, PartialEq, Eq)]
 struct IndexedLists<'a> {
     present: Indexed<'a>,
     udt: Indexed<'a>,
