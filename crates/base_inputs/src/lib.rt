@@ -17,7 +17,7 @@ use molecule::write;
 use transaction::fields;
 
 // The inputs: those of the list `present`, then those of the first `taken` of `cells`.
-#[derive(Clone, Copy)]
+#[derive(Clone, Copy, Debug, PartialEq, Eq)]
 pub struct Inputs<'a> {
     pub present: &'a [u8],
     pub cells: &'a [u8],

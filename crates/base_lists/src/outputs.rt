@@ -20,7 +20,7 @@ fn cell_len(lock: &[u8], udt: &[u8]) -> usize
 
 // The funding cell under `lock`, with the type `udt` and of this capacity; the later ones of the present transaction; and the change under the lock
 // `source`, unless its capacity is 0. That is no `Option`: no output has a capacity of 0, and so an `Option` would say none in two ways.
-#[derive(Clone, Copy)]
+#[derive(Clone, Copy, Debug, PartialEq, Eq)]
 pub struct Outputs<'a> {
     pub capacity: Shannons,
     pub lock: &'a [u8],

@@ -23,7 +23,7 @@ fn amount_item(t: Tokens) -> [u8; 20]
 
 // The funding cell's tokens, if it is typed, and else no data; the entries of the present transaction after its first, each empty where it is missing; and the
 // change's tokens, unless they are 0. A typed cell of 0 tokens has data, so `tokens` is an `Option`; a change of 0 is none by the rules, so `change` needs none.
-#[derive(Clone, Copy)]
+#[derive(Clone, Copy, Debug, PartialEq, Eq)]
 pub struct OutputsData<'a> {
     pub tokens: Option<Tokens>,
     pub present: Later<'a>,

@@ -31,7 +31,7 @@ pub struct Plan {
 
 // What a base transaction is made from: the fields of the present one, of which the version and all lists but the cell deps and the witnesses count; what
 // is lent beside it; the four lists of cell deps, and the places of those that are chosen; and the figures.
-#[derive(Clone, Copy)]
+#[derive(Clone, Copy, Debug, PartialEq, Eq)]
 pub struct Base<'a> {
     pub present: TxFields<'a>,
     pub lock: &'a [u8],

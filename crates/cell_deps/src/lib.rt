@@ -22,7 +22,7 @@ pub fn any_count(dep: &[u8]) -> usize
 }
 
 // The present deps, the token's, the lock's, which is one dep or nothing, and the extra ones.
-#[derive(Clone, Copy)]
+#[derive(Clone, Copy, Debug, PartialEq, Eq)]
 pub struct DepLists<'a> {
     pub present: &'a [u8],
     pub udt: &'a [u8],

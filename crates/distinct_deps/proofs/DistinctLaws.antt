@@ -196,23 +196,21 @@ dep-rest a b c d i en h ej e = rw ej (e ∙ before_past (fix_count a) (fix_item 
 -- ---- the loop
 
 -- the first `count` of p are places of the deps before i, each once; p has room for l, of which `room` may be used
-pub record Gathering (a b c d : List ℕ) (l room : ℕ) (p : List ℕ) (count n i : ℕ) (R : List (List ℕ)) : Type 0 where
+pub record Gathering (a b c d : List ℕ) (room : ℕ) (p : List ℕ) (count n i : ℕ) (R : List (List ℕ)) : Type 0 where
   pub within : i ≤ n
   pub all : n ≡ dep_count a b c d
   pub most : count ≤ room
-  pub fits : room ≤ l
-  pub whole : length p ≡ l
+  pub whole : length p ≡ room
   pub members : (y : List ℕ) → contains y (deps_at a b c d (take count p)) ≡ contains y (span (dep_at a b c d) 0 i)
   pub rest : R ≡ push_all (deps_at a b c d (take count p)) (span (dep_at a b c d) i (n - i))
 
 module _ (a b c d : List ℕ) where
-  pub gather_start : (p : List ℕ) {n room : ℕ} → n ≡ dep_count a b c d → room ≤ length p → Gathering a b c d (length p) room p 0 n 0 (cell_deps a b c d)
+  pub gather_start : (p : List ℕ) {n : ℕ} → n ≡ dep_count a b c d → Gathering a b c d (length p) p 0 n 0 (cell_deps a b c d)
   unfolding cell_deps deps_at contains span
-  gather_start p {n} {room} e h = record {
+  gather_start p {n} e = record {
     within = omega arith;
     all = e;
     most = omega arith;
-    fits = h;
     whole = refl;
     members = λ y. refl;
     rest = ap (push_all []) (sym (all_spans a b c d) ∙ ap (span (dep_at a b c d) 0) (sym e) ∙ span-whole (dep_at a b c d) n);
@@ -225,12 +223,12 @@ module _ (a b c d : List ℕ) where
       ap (contains y) (span-split (dep_at a b c d) 0 i 1 ∙ ap (λ (v : ℕ). span (dep_at a b c d) 0 i ++ (dep_at a b c d v ∷ [])) z)
       ∙ contains_last y (dep_at a b c d i) (span (dep_at a b c d) 0 i)
 
-  module _ {l room : ℕ} {p : List ℕ} {count n i : ℕ} {R : List (List ℕ)} (k : Gathering a b c d l room p count n i R) where
+  module _ {room : ℕ} {p : List ℕ} {count n i : ℕ} {R : List (List ℕ)} (k : Gathering a b c d room p count n i R) where
     abbrev deps : List (List ℕ)
     deps = deps_at a b c d (take count p)
 
     deps-long : length deps ≡ count
-    deps-long = let u = k.most in let v = k.whole in let w = k.fits in chosen-long a b c d p count (omega arith)
+    deps-long = let u = k.most in let v = k.whole in chosen-long a b c d p count (omega arith)
 
     pub gather_in : i < n → i < dep_count a b c d
     gather_in h = let e = k.all in omega arith
@@ -257,14 +255,13 @@ module _ (a b c d : List ℕ) where
       seen false e true t = refl
       seen false e false t = sym t ∙ er ∙ ap not (sym e)
 
-      pub gather_old : r ≡ false → Gathering a b c d l room p count n (i + 1) R
+      pub gather_old : r ≡ false → Gathering a b c d room p count n (i + 1) R
       gather_old t =
           let w : contains y (span (dep_at a b c d) 0 i) ≡ true = seen _ refl false t in
           record {
             within = omega arith;
             all = k.all;
             most = k.most;
-            fits = k.fits;
             whole = k.whole;
             members = λ z. k.members z ∙ again z (eq_bytes z y) refl w ∙ sym (one_on z i);
             rest = one_less ∙ rw (there deps y (sym (k.members y)) w);
@@ -283,11 +280,10 @@ module _ (a b c d : List ℕ) where
         fresh : contains y (span (dep_at a b c d) 0 i) ≡ false
         fresh = seen _ refl true t
 
-        pub gather_new : count < room → Gathering a b c d l room (set p count i) (count + 1) n (i + 1) R
+        pub gather_new : count < length p → Gathering a b c d room (set p count i) (count + 1) n (i + 1) R
         unfolding deps_at
         gather_new u =
             let w = k.whole in
-            let x = k.fits in
             let f : take (count + 1) (set p count i) ≡ take count p ++ (i ∷ []) = take_more_set p count i (omega arith) in
             let g : deps ++ (y ∷ []) ≡ map (dep_at a b c d) (take (count + 1) (set p count i)) = sym (map-append (dep_at a b c d) (take count p) (i ∷ [])) ∙ ap (map (dep_at a b c d)) (sym f) in
             let q : pushed deps y ≡ map (dep_at a b c d) (take (count + 1) (set p count i)) = new deps y (sym (k.members y)) fresh ∙ g in
@@ -295,18 +291,17 @@ module _ (a b c d : List ℕ) where
               within = omega arith;
               all = k.all;
               most = omega arith;
-              fits = k.fits;
               whole = simp length-set k.whole;
               members = λ z. ap (contains z) (sym g) ∙ contains_last z y deps ∙ ap (λ (v : Bool). cond v true (eq_bytes z y)) (k.members z) ∙ sym (one_on z i);
               rest = one_less ∙ ap (λ (ds : List (List ℕ)). push_all ds (span (dep_at a b c d) (i + 1) (n - (i + 1)))) q;
             }
 
         pub gather_room : count < room → count < length p
-        gather_room u = let w = k.whole in let x = k.fits in omega arith
+        gather_room u = let w = k.whole in omega arith
 
-        pub gather_full : room ≤ count → R ≡ cell_deps a b c d → room < length (cell_deps a b c d)
+        pub gather_full : length p ≤ count → R ≡ cell_deps a b c d → room < length (cell_deps a b c d)
         gather_full u e =
-            let v = k.most in
+            let v = k.whole in
             let q : cell_deps a b c d ≡ push_all (deps ++ (y ∷ [])) (span (dep_at a b c d) (i + 1) (n - (i + 1)))
             = sym e ∙ one_less ∙ rw (new deps y (sym (k.members y)) fresh) in
             let g = all_grow (deps ++ (y ∷ [])) (span (dep_at a b c d) (i + 1) (n - (i + 1))) in

@@ -21,7 +21,7 @@ fn keys(list: &[u8]) -> Keys<'_>
 }
 
 // A list of deps, with its index.
-#[derive(Clone, Copy)]
+#[derive(Clone, Copy, Debug, PartialEq, Eq)]
 pub(crate) struct Indexed<'a> {
     pub(crate) list: &'a [u8],
     index: &'a [u32],

@@ -30,7 +30,7 @@ fn is_lock(lock: &[u8], x: &[u8]) -> bool
 }
 
 // The four lists, three of them with an index: the lock's has one dep at most.
-#[derive(Clone, Copy)]
+#[derive(Clone, Copy, Debug, PartialEq, Eq)]
 struct IndexedLists<'a> {
     present: Indexed<'a>,
     udt: Indexed<'a>,
@@ -77,15 +77,14 @@ impl<'a> IndexedLists<'a> {
         self.extra.is_first(extra, x)
     }
 
-    // Puts the places of the new deps, in their order, and returns how many there are, or nothing where there are more than `room`.
-    fn gather(self, places: &mut [usize], room: usize) -> Option<usize>
-        requires { room ≤ length places.old }
-        ensures { ChoosesOf (lists_in self.entry) room places.new result }
+    // Puts the places of the new deps, in their order, and returns how many there are, or nothing where there are more than there is room for.
+    fn gather(self, places: &mut [usize]) -> Option<usize>
+        ensures { ChoosesOf (lists_in self.entry) (length places.old) places.new result }
     {
         let mut count = 0;
         for i in 0..self.lists().dep_count() {
             if self.is_new(i) {
-                if room <= count {
+                if places.len() <= count {
                     return None;
                 }
                 places[count] = i;
@@ -97,10 +96,9 @@ impl<'a> IndexedLists<'a> {
 }
 
 // Puts a place of each dep and returns how many there are, by the indexes of the three lists, which are made here.
-fn choose_indexed(lists: DepLists<'_>, places: &mut [usize], room: usize) -> Option<usize>
-    requires n_bound { count_of lists ≤ 3600 }
-    requires room_in_bounds { room ≤ length places.old }
-    ensures { ChoosesOf lists.entry room places.new result }
+fn choose_indexed(lists: DepLists<'_>, places: &mut [usize]) -> Option<usize>
+    requires { count_of lists ≤ 3600 }
+    ensures { ChoosesOf lists.entry (length places.old) places.new result }
 {
     let mut present = [0u32; ROOM];
     let mut udt = [0u32; ROOM];
@@ -111,7 +109,7 @@ fn choose_indexed(lists: DepLists<'_>, places: &mut [usize], room: usize) -> Opt
         lock: lists.lock,
         extra: Indexed::of(lists.extra, &mut extra),
     };
-    indexed.gather(places, room)
+    indexed.gather(places)
 }
 
 // Puts a place of each dep, in the order in which they first stand, at the start of `places`, and returns how many there are, or nothing where there are more
@@ -129,5 +127,5 @@ pub fn choose_places(
         return choose_in_turn(lists, places, sorted);
     }
     let room = places.len().min(sorted.len());
-    choose_indexed(lists, places, room)
+    choose_indexed(lists, &mut places[..room])
 }

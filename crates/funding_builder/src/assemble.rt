@@ -1,5 +1,5 @@
 // The base transaction written from its figures: the funding cell, the pick and its change, and what the present transaction has already.
-ghost use Rattle.std.specs.Prelude.{◌≡◌, true, length};
+ghost use Rattle.std.specs.Prelude.{◌≡◌, ◌≤◌, true, length};
 ghost use Rattle.units.specs.Units.{shannon_count, token_count};
 ghost use Rattle.molecule.specs.Molecule.{readable, option};
 ghost use Rattle.transaction.specs.Ckb.{Script};
@@ -48,80 +48,87 @@ fn change_capacity(change: Tokens, source: &[u8], udt: &[u8]) -> Shannons
     udt_cells::change_capacity(source, udt).unwrap_or(Shannons::ZERO)
 }
 
-// The lists of cell deps: the token's and the lock's count where tokens were picked.
-fn dep_lists<'a>(lent: &Lent<'a>, taken: usize) -> DepLists<'a>
-    ensures { AreDeps result (lent_in lent.now) taken }
-{
-    DepLists {
-        present: fields::cell_deps(lent.ours),
-        udt: if_picked(taken, lent.udt_deps),
-        lock: if_picked(taken, lent.lock_dep),
-        extra: lent.extra_deps,
-    }
+// What a base transaction is assembled from: what is lent, the funding cell, and the pick.
+#[derive(Clone, Copy)]
+pub(crate) struct Assembly<'a> {
+    pub(crate) lent: Lent<'a>,
+    pub(crate) cell: FundingCell,
+    pub(crate) picked: Picked,
 }
 
-// The figures that are written.
-fn make_plan(lent: &Lent, cell: FundingCell, picked: Picked) -> Plan
-    requires { (readable Script lent.now.source.now ≡ true) × (readable (option Script) lent.now.udt.now ≡ true) }
-    ensures { Planned result cell.capacity cell.token picked.taken picked.change lent.now.source.now lent.now.udt.now }
-{
-    Plan {
-        capacity: cell.capacity,
-        token: cell.token,
-        taken: picked.taken,
-        change: picked.change,
-        change_capacity: change_capacity(picked.change, lent.source, lent.udt),
+impl<'a> Assembly<'a> {
+    // The lists of cell deps: the token's and the lock's count where tokens were picked.
+    fn dep_lists(&self) -> DepLists<'a>
+        ensures { AreDeps result (lent_in self.now.lent) self.now.picked.taken }
+    {
+        let taken = self.picked.taken;
+        DepLists {
+            present: fields::cell_deps(self.lent.ours),
+            udt: if_picked(taken, self.lent.udt_deps),
+            lock: if_picked(taken, self.lent.lock_dep),
+            extra: self.lent.extra_deps,
+        }
     }
-}
 
-// Writes the base transaction of these figures to the start of out, with the places of its deps in what is lent for them. That our bytes are below 256 is told by
-// the way.
-fn assemble_with(
-    lent: &Lent,
-    cell: FundingCell,
-    picked: Picked,
-    places: &mut [usize],
-    sorted: &mut [usize],
-    out: &mut [u8],
-) -> Written
-    requires readable { Readable (lent_in lent.now) }
-    requires roomy { Roomy (lent_in lent.now) picked.taken (length places.old) (length sorted.old) }
-    ensures { (told result, out.new) ≡ written (fine (packed (base_tx (lent_in lent.now) (cell_in cell) (pick_in picked)))) out.old }
-{
-    transaction_writer::are_bytes(lent.ours);
-    let deps = dep_lists(lent, picked.taken);
-    let Some(count) = distinct_deps::choose_places(deps, places, sorted) else {
-        return Err(Refusal::BufferTooShort);
-    };
-    let base = Base {
-        present: TxFields::of(lent.ours),
-        lock: lent.lock,
-        udt: lent.udt,
-        source: lent.source,
-        cells: lent.cells,
-        deps,
-        chosen: &places[..count],
-        plan: make_plan(lent, cell, picked),
-    };
-    base.write(out)
-}
-
-// The same, with room for the places of all deps where they are few, and else of as many as fit a transaction.
-pub(crate) fn assemble_base_tx(
-    lent: &Lent,
-    cell: FundingCell,
-    picked: Picked,
-    out: &mut [u8],
-) -> Written
-    requires { Readable (lent_in lent.now) }
-    ensures { (told result, out.new) ≡ written (fine (packed (base_tx (lent_in lent.now) (cell_in cell) (pick_in picked)))) out.old }
-{
-    if dep_lists(lent, picked.taken).dep_count() <= FEW_DEPS {
-        let mut places = [0usize; FEW_DEPS];
-        let mut sorted = [0usize; FEW_DEPS];
-        return assemble_with(lent, cell, picked, &mut places, &mut sorted, out);
+    // The figures that are written.
+    fn make_plan(&self) -> Plan
+        requires { (readable Script self.now.lent.source.now ≡ true) × (readable (option Script) self.now.lent.udt.now ≡ true) }
+        ensures { Planned result self.now.cell.capacity self.now.cell.token self.now.picked.taken self.now.picked.change self.now.lent.source.now self.now.lent.udt.now }
+    {
+        let Picked { taken, change } = self.picked;
+        Plan {
+            capacity: self.cell.capacity,
+            token: self.cell.token,
+            taken,
+            change,
+            change_capacity: change_capacity(change, self.lent.source, self.lent.udt),
+        }
     }
-    let mut places = [0usize; MOST_DEPS];
-    let mut sorted = [0usize; MOST_DEPS];
-    assemble_with(lent, cell, picked, &mut places, &mut sorted, out)
+
+    // Writes the base transaction to the start of out, with the places of its deps in what is lent for them. That our bytes are below 256 is told by the way.
+    fn write_with(&self, places: &mut [usize], sorted: &mut [usize], out: &mut [u8]) -> Written
+        requires readable { Readable (lent_in self.now.lent) }
+        requires roomy { Roomy (lent_in self.now.lent) self.now.picked.taken (length places.old) (length sorted.old) }
+        ensures { (told result, out.new) ≡ written (fine (packed (base_tx (lent_in self.now.lent) (cell_in self.now.cell) (pick_in self.now.picked)))) out.old }
+    {
+        transaction_writer::are_bytes(self.lent.ours);
+        let deps = self.dep_lists();
+        let Some(count) = distinct_deps::choose_places(deps, places, sorted) else {
+            return Err(Refusal::BufferTooShort);
+        };
+        let base = Base {
+            present: TxFields::of(self.lent.ours),
+            lock: self.lent.lock,
+            udt: self.lent.udt,
+            source: self.lent.source,
+            cells: self.lent.cells,
+            deps,
+            chosen: &places[..count],
+            plan: self.make_plan(),
+        };
+        base.write(out)
+    }
+
+    // The same in room for the places of so many deps.
+    fn write_in<const ROOM: usize>(&self, out: &mut [u8]) -> Written
+        requires readable { Readable (lent_in self.now.lent) }
+        requires roomy { Roomy (lent_in self.now.lent) self.now.picked.taken ROOM ROOM }
+        requires room_bound { ROOM ≤ 3597 }
+        ensures { (told result, out.new) ≡ written (fine (packed (base_tx (lent_in self.now.lent) (cell_in self.now.cell) (pick_in self.now.picked)))) out.old }
+    {
+        let mut places = [0usize; ROOM];
+        let mut sorted = [0usize; ROOM];
+        self.write_with(&mut places, &mut sorted, out)
+    }
+
+    // The same, with room for the places of all deps where they are few, and else of as many as fit a transaction.
+    pub(crate) fn write(&self, out: &mut [u8]) -> Written
+        requires { Readable (lent_in self.now.lent) }
+        ensures { (told result, out.new) ≡ written (fine (packed (base_tx (lent_in self.now.lent) (cell_in self.now.cell) (pick_in self.now.picked)))) out.old }
+    {
+        if self.dep_lists().dep_count() <= FEW_DEPS {
+            return self.write_in::<FEW_DEPS>(out);
+        }
+        self.write_in::<MOST_DEPS>(out)
+    }
 }

@@ -13,6 +13,7 @@ ghost use Rattle.funding_builder.specs.Base.{lists, supplied, with_pick, with_ce
 ghost use Rattle.funding_builder.specs.Lent.{lent_in, cell_in, pick_in};
 ghost use Rattle.funding_builder.specs.Steps.{Readable};
 
+use assemble::Assembly;
 use error::Refusal;
 use funding_cell::{FundingCell, FundingRequest};
 use transaction::fields;
@@ -44,7 +45,7 @@ fn is_supplied(taken: usize, deps: &[u8]) -> bool
 
 // What a call is lent: our present transaction (empty for none), the funding lock, the type (empty for none), our source lock, token cells, and the deps of
 // the token and of our lock, which are needed where cells are picked (empty: not supplied), and the extra ones.
-#[derive(Clone, Copy)]
+#[derive(Clone, Copy, Debug, PartialEq, Eq)]
 pub struct Lent<'a> {
     pub ours: &'a [u8],
     pub lock: &'a [u8],
@@ -79,7 +80,12 @@ impl<'a> Lent<'a> {
         if !is_supplied(picked.taken, self.lock_dep) {
             return Err(Refusal::MissingCellDep);
         }
-        assemble::assemble_base_tx(self, cell, picked, out)
+        let assembly = Assembly {
+            lent: *self,
+            cell,
+            picked,
+        };
+        assembly.write(out)
     }
 
     // Picks token cells for the wanted amount, and writes the base transaction.

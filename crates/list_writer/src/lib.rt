@@ -98,7 +98,7 @@ fn item_or(s: &[u8], i: usize) -> &[u8]
 }
 
 // The items of a list after its first: `count` of them, each that is missing as empty bytes.
-#[derive(Clone, Copy)]
+#[derive(Clone, Copy, Debug, PartialEq, Eq)]
 pub struct Later<'a> {
     pub list: &'a [u8],
     pub count: usize,
@@ -165,7 +165,7 @@ fn put_place(out: &mut [u8], at: usize, n: usize, place: usize) -> usize
 }
 
 // A list by the lengths of its first item and its last, which is none where it has no bytes, with `items` between them.
-#[derive(Clone, Copy)]
+#[derive(Clone, Copy, Debug, PartialEq, Eq)]
 pub struct Lengths<'a> {
     pub first: usize,
     pub items: Later<'a>,
@@ -202,7 +202,7 @@ impl Lengths<'_> {
 }
 
 // A list by its first item and its last, each in stretches, with `items` between them.
-#[derive(Clone, Copy)]
+#[derive(Clone, Copy, Debug, PartialEq, Eq)]
 pub struct Parts<'a> {
     pub first: &'a [&'a [u8]],
     pub items: Later<'a>,

@@ -81,7 +81,7 @@ pub fn put_head(out: &mut [u8], version: u32, z: Sizes) -> usize
 }
 
 // The fields of a transaction: the version, and its lists.
-#[derive(Clone, Copy)]
+#[derive(Clone, Copy, Debug, PartialEq, Eq)]
 pub struct TxFields<'a> {
     pub version: u32,
     pub deps: &'a [u8],

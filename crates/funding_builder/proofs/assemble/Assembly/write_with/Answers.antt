@@ -1,5 +1,5 @@
 use Rattle.funding_builder.proofs.AssembleLaws.{assembled}
-use Rattle.funding_builder.proofs.assemble.assemble_with.Goals as goal
+use Rattle.funding_builder.proofs.assemble.Assembly.write_with.Goals as goal
 
 pub returns : goal.returns
 returns c =
