@@ -1,6 +1,6 @@
 // Reads a case file from standard input, at most 65,536 bytes, and prints the verdict line: 0 and the capacity surplus in hex, or a refusal's number and
 // its values. By the toolchain's `io`, which rests on two functions of C's, where `std::io` rests on four.
-#![tactic(auto)]
+#![tactic(auto, using(crate::proofs::Ways::ways))]
 
 const STDIN_FILENO: i32 = 0;
 
