@@ -8,7 +8,7 @@ use Rattle.arithmetic.specs.LittleEndian.{to_le}
 use Rattle.arithmetic.proofs.LittleEndianLaws.{length-to_le}
 use Rattle.molecule.specs.Items.{join, unwords, offsets, header}
 use Rattle.molecule.specs.Write.{splice, put_at, put_end, Put}
-use Rattle.molecule.proofs.ItemsLaws.{length-join, length-unwords}
+use Rattle.molecule.proofs.ItemsLaws.{length-join, unwords_length}
 use Rattle.molecule.proofs.Offsets.{span-length}
 use Rattle.molecule.proofs.WriteLaws.{did, then, as_bytes, none, length-kept, put_yes, end_yes}
 use Rattle.list_writer.specs.ListWriter.{item_or, later, if_any, if_positive}
@@ -52,7 +52,7 @@ module _ (first : ℕ) (s : List ℕ) (k last : ℕ) {size w : ℕ} (ew : w ≡ 
       → Put out at (head_of first s k last) o₃ n₃
   put_head_lem {at = at} h d f q r =
       let room = h.0 in
-      let p = as_bytes (two_words _ _) (did (unwords ((8 + 4 * k + w + first + size + last) ∷ (8 + 4 * k + w) ∷ [])) d f (omega (arith, length-unwords ((8 + 4 * k + w + first + size + last) ∷ (8 + 4 * k + w) ∷ [])))) in
+      let p = as_bytes (two_words _ _) (did (unwords ((8 + 4 * k + w + first + size + last) ∷ (8 + 4 * k + w) ∷ [])) d f (omega (arith, unwords_length ((8 + 4 * k + w + first + size + last) ∷ (8 + 4 * k + w) ∷ [])))) in
       as_bytes (head_runs (omega (arith, h.1))) (then (then p q) r)
 
 -- ---- a list is its header and its items

@@ -6,7 +6,7 @@ use borrow.Author.Tests.{leb-true}
 use Rattle.arithmetic.specs.LittleEndian.{to_le}
 use Rattle.molecule.specs.Items.{unwords}
 use Rattle.molecule.specs.Write.{put_at, put_end, Put}
-use Rattle.molecule.proofs.ItemsLaws.{length-unwords}
+use Rattle.molecule.proofs.ItemsLaws.{unwords_length}
 use Rattle.molecule.proofs.WriteLaws.{none, and_put, as_bytes, put_yes, end_yes}
 use Rattle.list_writer.specs.ListWriter.{joined}
 
@@ -76,7 +76,7 @@ words_of [] = refl
 words_of (n ∷ ns) = ap (λ (l : List ℕ). to_le 4 n ++ l) (words_of ns)
 
 bytes-length : (ns : List ℕ) → length (flat_map (to_le 4) ns) ≡ 4 * length ns
-bytes-length ns = ap length (words_of ns) ∙ length-unwords ns
+bytes-length ns = ap length (words_of ns) ∙ unwords_length ns
 
 pub words_start : (ns out : List ℕ) (at : ℕ) → at ≤ length out → length ns ≤ (length out - at) / 4 → Each (to_le 4) ns out at 0 out at
 words_start ns out at h k = each_none (to_le 4) ns out at (omega (arith, bytes-length ns))
@@ -92,4 +92,4 @@ module _ {ns out after : List ℕ} {at i next : ℕ} (g : Each (to_le 4) ns out 
   words_end = put_next words_did
 
 -- how long numbers are
-pub ruleset word_lengths = (length-unwords)
+pub ruleset word_lengths = (unwords_length)
