@@ -32,7 +32,7 @@ fn gives(rule: Rule, taken: bool, x: &[u8]) -> bool
     !taken && exclusion_entries::takes(rule, x)
 }
 
-// Moves the next entry if it stays.
+// Moves the next entry if it stays. Entries have sizes of their own and are written where they are read: what lends them one by one would hold the bytes.
 fn sift_one(s: &mut [u8], rule: Rule, c: Sift) -> Sift
     requires to_le_at { c.to ≤ c.at }
     requires s_in_bounds { c.at + size_of (drop c.at s.old) ≤ length s.old }

@@ -49,7 +49,7 @@ fn change_capacity(change: Tokens, source: &[u8], udt: &[u8]) -> Shannons
 }
 
 // What a base transaction is assembled from: what is lent, the funding cell, and the pick.
-#[derive(Clone, Copy)]
+#[derive(Clone, Copy, Debug, PartialEq, Eq)]
 pub(crate) struct Assembly<'a> {
     pub(crate) lent: Lent<'a>,
     pub(crate) cell: FundingCell,

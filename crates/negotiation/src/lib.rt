@@ -106,7 +106,7 @@ fn after(update: Update, ours: usize, peer: usize) -> usize
 // ---- the negotiation
 
 // The transaction at its start, the expected lock and type, and the list of updates.
-#[derive(Clone, Copy, Debug)]
+#[derive(Clone, Copy, Debug, PartialEq, Eq)]
 pub struct Negotiation<'a> {
     pub start: &'a [u8],
     pub lock: &'a [u8],

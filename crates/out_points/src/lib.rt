@@ -128,7 +128,7 @@ fn has_among(s: &[u8], n: usize, p: OutPoint) -> bool
     false
 }
 
-// Whether p is among the first n items of the lent list, or among all where it has fewer.
+// Whether p is among the first n items of the lent list, or among all where it has fewer: the list and n, as above.
 pub fn has_before(s: &[u8], n: usize, p: OutPoint) -> bool
     ensures { result ≡ has p (span (point_of s.now) 0 (min n (fix_count s.now))) }
 {
@@ -144,7 +144,7 @@ pub fn has_point(s: &[u8], p: OutPoint) -> bool
     has_among(s, n, p)
 }
 
-// Puts two words of a hash.
+// Puts two words of a hash. Buffer and place stand side by side, as in `molecule::write`, which says why.
 fn put_words(out: &mut [u8], at: usize, x: u64, y: u64) -> usize
     requires { at + 16 ≤ length out.old }
     ensures put { Put out.old at (to_le 8 x ++ to_le 8 y) out.new result }

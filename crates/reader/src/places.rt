@@ -16,7 +16,7 @@ fn stretch(s: &[u8], at: usize, k: usize) -> &[u8]
     molecule::part(s, at, at.saturating_add(k))
 }
 
-// The number of four bytes.
+// The number of four bytes: it reads them where they stand, and is no conversion.
 pub fn number(s: &[u8], at: usize) -> u32
     ensures { result ≡ u32_at s.now at }
 {

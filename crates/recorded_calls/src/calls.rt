@@ -43,7 +43,7 @@ impl From<u8> for Mark {
 
 // A call: its kind, its mark, the number of the recorded answer, two numbers whose meaning is the kind's, how long the lent buffers are, and what is lent,
 // what the buffers then begin with, and the table then, in two lists each.
-#[derive(Clone, Copy, Debug)]
+#[derive(Clone, Copy, Debug, PartialEq, Eq)]
 pub struct Call<'a> {
     pub kind: u8,
     pub mark: Mark,

@@ -8,7 +8,7 @@ use arithmetic::little_endian;
 use std::alloc::{AllocError, Global};
 
 // Two places of the file, and the bytes that stand between them instead.
-#[derive(Clone, Copy, Debug)]
+#[derive(Clone, Copy, Debug, PartialEq, Eq)]
 struct Change<'a> {
     from: usize,
     to: usize,

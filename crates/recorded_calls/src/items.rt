@@ -4,7 +4,7 @@ ghost use Rattle.std.specs.Iterator.{YieldsFirstRef, item_count};
 ghost use Rattle.molecule.specs.Layout.{items_of};
 ghost use Rattle.recorded_calls.specs.Items.{items_left};
 
-#[derive(Clone, Copy, Debug)]
+#[derive(Clone, Copy, Debug, PartialEq, Eq)]
 pub struct Items<'a> {
     list: &'a [u8],
     next: u32,

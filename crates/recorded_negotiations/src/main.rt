@@ -16,7 +16,7 @@ const LONGEST: usize = 140_000;
 
 // ---- what is recorded
 
-#[derive(Clone, Copy, Debug)]
+#[derive(Clone, Copy, Debug, PartialEq, Eq)]
 struct Negotiation<'a> {
     start: &'a [u8],
     lock: &'a [u8],
@@ -44,7 +44,7 @@ impl<'a> From<&'a [u8]> for Negotiation<'a> {
     }
 }
 
-#[derive(Clone, Copy, Debug)]
+#[derive(Clone, Copy, Debug, PartialEq, Eq)]
 struct Proposal<'a> {
     peer: &'a [u8],
     source: &'a [u8],

@@ -28,7 +28,7 @@ type Told<T> = Result<T, u8>;
 
 // A request, how long the lent buffer is, and what is lent; and what is recorded: of the base transaction how long it is and its bytes, of the funding cell
 // capacity and tokens, and of the pick how many cells are taken, the change, and the capacity and the bytes of its output.
-#[derive(Clone, Copy)]
+#[derive(Clone, Copy, Debug, PartialEq, Eq)]
 struct Request<'a> {
     figures: FundingRequest,
     room: usize,

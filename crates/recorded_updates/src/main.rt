@@ -17,7 +17,7 @@ const LONGEST: usize = 66_000;
 const NUMBERS: usize = 9;
 
 // A copy of a case file: its line, whether the Rust panics at it, and its changes.
-#[derive(Clone, Copy, Debug)]
+#[derive(Clone, Copy, Debug, PartialEq, Eq)]
 struct Copied<'a> {
     line: &'a [u8],
     panics: bool,

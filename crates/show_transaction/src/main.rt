@@ -8,7 +8,7 @@ use transaction::fields;
 
 const LONGEST: usize = 65_536;
 
-#[derive(Clone, Copy)]
+#[derive(Clone, Copy, Debug, PartialEq, Eq)]
 struct Hex<'a>(&'a [u8]);
 
 impl fmt::Display for Hex<'_> {
@@ -21,7 +21,7 @@ impl fmt::Display for Hex<'_> {
     }
 }
 
-#[derive(Clone, Copy)]
+#[derive(Clone, Copy, Debug, PartialEq, Eq)]
 struct OutPoint<'a>(&'a [u8]);
 
 impl fmt::Display for OutPoint<'_> {
@@ -31,7 +31,7 @@ impl fmt::Display for OutPoint<'_> {
     }
 }
 
-#[derive(Clone, Copy)]
+#[derive(Clone, Copy, Debug, PartialEq, Eq)]
 struct Script<'a>(&'a [u8]);
 
 impl fmt::Display for Script<'_> {

@@ -1,4 +1,5 @@
-// Each call on a lent table of holds, with its own contract and as a step of a list of calls on successive bytes. Parameters are those of the call, one by one.
+// Each call on a lent table of holds, with its own contract and as a step of a list of calls on successive bytes. Parameters are those of the
+// call, one by one, as in its C function: a struct would be made there for each single call.
 ghost use Rattle.std.specs.Prelude.{◌≡◌, IfOk};
 ghost use Rattle.out_points.specs.Tables.{told};
 ghost use Rattle.hold_records.specs.Holds.{hold_funding, release_for_watchtower, hold_for_watchtower, lock_held, take_cells};

@@ -1,5 +1,6 @@
 // Writes the line that the check program prints for an answer. Digits are put by hand: as text that the library
-// prints into a buffer of its own and that is put into the line then, with a law that its digits are those of the definition, this is no plainer.
+// prints into a buffer of its own and that is put into the line then, with a law that its digits are those of the definition, this is no plainer. The line and
+// the place in it stand side by side, as in `molecule::write`, which says why.
 #![tactic(auto, using(crate::proofs::Ways::ways))]
 
 ghost use Rattle.std.specs.Prelude.{◌≡◌, ◌+◌, ◌≤◌, [], ◌∷◌, length};
