@@ -4,6 +4,7 @@ use super::clock::{Clock, Row, Size};
 use crate::library;
 use oracle::case::Case;
 use oracle::standins::molecule::write_table;
+use std::cell::RefCell;
 use std::hint::black_box;
 
 const SIZES: [usize; 3] = [MOST / 4, MOST / 2, MOST];
@@ -36,9 +37,11 @@ const READ_LISTS: &[(&str, Call, &[(&str, Bytes)], Bytes)] = &[
     ("build_udt_inputs_outputs", pick, CELLS, |n| write_table(&vec![cell(5); n / 72])),
 ];
 
-/// The places of all witnesses, of which each has four bytes at least in the header.
+/// The places of all witnesses, of which each has four bytes at least in the header. The words for them are lent again and again: to zero them takes longer than
+/// a call that is refused.
 fn places_of_witnesses(tx: &[u8], _: &mut [u8]) -> u32 {
-    library::items(tx, 5, &mut vec![0; tx.len() / 2], &mut [0; 4])
+    thread_local!(static WORDS: RefCell<Vec<u64>> = RefCell::new(vec![0; MOST]));
+    WORDS.with_borrow_mut(|words| library::items(tx, 5, &mut words[..tx.len() / 2], &mut [0; 4]))
 }
 /// Behind the bytes of a transaction with an item in no list but its outputs, data and witnesses: writes it again from these lists.
 fn write_again(tx: &[u8], out: &mut [u8]) -> u32 {

@@ -11,16 +11,14 @@ use lib.ListN.{length, get_or, take}
 use Rattle.std.proofs.Common.{length-take-le, not}
 use Rattle.std.proofs.lemmas.List.{get_or-take}
 use Rattle.std.specs.Option.{option_eq}
-use Rattle.std.specs.Prelude.{nat_eq, Some, None, Result, Ok, Err, unwrap_or}
+use Rattle.std.specs.Prelude.{nat_eq, Some, None, unwrap_or}
 use Rattle.std.specs.declared.cmp.Ordering.{Ordering}
-use Rattle.std.specs.Ordering.{is_lt, ordering_index}
-use Rattle.std.specs.Result.{is_ok, MatchResult}
+use Rattle.std.specs.Ordering.{is_lt}
 use Rattle.std.specs.List.{position, position_or_len}
 use Rattle.std.specs.Borrow.{Bor}
 use Rattle.std.specs.Fn.{Mut, Called, ComputesKey}
-use Rattle.std.proofs.lemmas.Fn.{always_returns_same}
 use Rattle.std.proofs.lemmas.List.Sorted.{IsPartitionPoint-from_clause}
-use Rattle.std.specs.List.Sorted.{IsPartitionedBy, IsPartitionPoint, IsNonDecreasingBy, IsBinarySearchResult}
+use Rattle.std.specs.List.Sorted.{IsPartitionedBy, IsPartitionPoint}
 use Rattle.std.proofs.lemmas.Grind.{get_or_default_zero}
 use Rattle.molecule.specs.Layout.{span}
 use Rattle.molecule.proofs.Offsets.{span-length}
@@ -29,7 +27,7 @@ use Rattle.lists.proofs.LoopLaws.{at_place}
 use Rattle.lists.proofs.EqualLaws.{not_so, eq_refl, eq_true}
 use Rattle.item_index.specs.Order.{is_before, order_of}
 use Rattle.item_index.specs.Index.{Stands, Index, place_in}
-use Rattle.item_index.proofs.OrderLaws.{three, before_not, after_is, after_trans, before-later, before_earlier, before_differs, before_other, order_less, order-more, order_same}
+use Rattle.item_index.proofs.OrderLaws.{three, before_not, before-later, before_earlier, before_differs, before_other, order_less, order-more, order_same}
 use Rattle.item_index.proofs.ComesLaws.{item_late, not_first}
 use Rattle.item_index.proofs.MergeLaws.{rises_same, rises_on}
 
@@ -110,20 +108,6 @@ lt_is x y = by (is_before x y) (is_before y x)
     by false true = refl
     by false false = refl
 
--- of y, and z that does not come before it
-pub ranked : (y z x : List ℕ) → is_before z y ≡ false → ordering_index (order_of y x) ≤ ordering_index (order_of z x)
-unfolding order_of
-ranked y z x h = by (is_before y x) refl (is_before x y) refl
-  where
-    more : is_before z x ≡ false → (c : Bool) → 1 ≤ ordering_index (cond false Ordering.Less (cond c Ordering.Greater Ordering.Equal))
-    more e true = omega arith
-    more e false = omega arith
-
-    by : (b : Bool) → is_before y x ≡ b → (c : Bool) → is_before x y ≡ c → ordering_index (cond b Ordering.Less (cond c Ordering.Greater Ordering.Equal)) ≤ ordering_index (order_of z x)
-    by true e c w = omega arith
-    by false e true w = rw (← after_is z x (before_earlier x y z w h)) (omega arith)
-    by false e false w = let t : is_before z x ≡ false = after_trans x y z e h in rw t (more t (is_before x z))
-
 module _ (f : ℕ → List ℕ) (s x : List ℕ) (o : Index f (length s) s) where
   pub parted : IsPartitionedBy (λ p. is_lt (order_of (f p) x)) s
   parted i j d h l t =
@@ -132,40 +116,52 @@ module _ (f : ℕ → List ℕ) (s x : List ℕ) (o : Index f (length s) s) wher
       let u : is_before (f (get_or s j 0)) x ≡ true = rw (ej, lt_is) at t in
       rw (ei, lt_is) (before-later (f (get_or s i 0)) (f (get_or s j 0)) x (items-on o i j h l) u)
 
-  pub index_rises : IsNonDecreasingBy (λ p. ordering_index (order_of (f p) x)) s
-  index_rises i j d h l =
-      let ei : get_or s i d ≡ get_or s i 0 = get_or_default_zero s i d (omega arith) in
-      let ej : get_or s j d ≡ get_or s j 0 = get_or_default_zero s j d l in
-      rw (ei, ej) (ranked (f (get_or s i 0)) (f (get_or s j 0)) x (items-on o i j h l))
-
   -- none of them is x
   pub none_is : ((a : ℕ) → a < length s → eq_bytes x (f (get_or s a 0)) ≡ false) → false ≡ contains x (span f 0 (length s))
   none_is each =
       let n = length s in
       sym (place-there x f 0 n ∙ ap (λ (v : ℕ). ltb v n) (nowhere_there x f 0 n (λ i p q. by_place x o each i (omega arith))) ∙ le-ltb n n (omega arith))
 
-  found : (r : Result ℕ ℕ) → MatchResult r (λ i. i < length s) (λ i. i ≤ length s) → IsBinarySearchResult (λ p. order_of (f p) x) s r → is_ok r ≡ contains x (span f 0 (length s))
-  found (Ok i) h k =
-      let n = length s in
-      let p : ℕ = get_or s i 0 in
-      sym (at_place x f p 0 n (o.inside i h)
-      (ap (λ (v : ℕ). eq_bytes x (f v)) (zero-add p) ∙ ap (eq_bytes x) (order_same (f p) x (sym (k 0))) ∙ eq_refl x))
-  found (Err i) h k = none_is (λ a l. three a i (λ w. low a w) (λ w. high a (omega arith) l) (λ w. high a (omega arith) l))
-    where
-      point : IsPartitionPoint (λ p. order_of (f p) x ≡ Ordering.Less) (λ p. order_of (f p) x ≡ Ordering.Greater) s i
-      point = k index_rises
+-- ---- by halves, until it is met
 
-      low : (a : ℕ) → a < i → eq_bytes x (f (get_or s a 0)) ≡ false
-      low a w = low_differs x (f (get_or s a 0)) (order_less (f (get_or s a 0)) x (sym (point.0 a 0 (omega arith) w)))
+-- those before low come before x, and x before those from high on
+pub record Halving (f : ℕ → List ℕ) (s x : List ℕ) (low high : ℕ) : Type 0 where
+  pub inside : high ≤ length s
+  pub below : Index f (length s) s → (a : ℕ) → a < low → is_before (f (get_or s a 0)) x ≡ true
+  pub above : Index f (length s) s → (a : ℕ) → high ≤ a → a < length s → is_before x (f (get_or s a 0)) ≡ true
 
-      high : (a : ℕ) → i ≤ a → a < length s → eq_bytes x (f (get_or s a 0)) ≡ false
-      high a w l = before_differs x (f (get_or s a 0)) (order-more (f (get_or s a 0)) x (sym (point.1 a 0 w l)))
+pub halves_start : (f : ℕ → List ℕ) (s x : List ℕ) → Halving f s x 0 (length s)
+halves_start f s x = record { inside = omega arith; below = λ o a l. absurd (omega arith); above = λ o a l m. absurd (omega arith) }
 
-  -- r is what `binary_search_by` answers by a closure whose calls say which of an item and x comes first
-  pub search_is : {F : Type 0} {g : Mut F (Bor ℕ × Unit {0}) Ordering} {c : F} (r : Result ℕ ℕ) → ((q : ℕ → Ordering) → ComputesKey g q c → IsBinarySearchResult q s r)
-      → ((a : Bor ℕ × Unit {0}) (t : Ordering) (c' : F) → Called g c a t c' → (t ≡ order_of (f a.0.now) x) × (c' ≡ c))
-      → MatchResult r (λ i. i < length s) (λ i. i ≤ length s) → {b : Bool} → b ≡ is_ok r → b ≡ contains x (span f 0 (length s))
-  search_is {F} {g} {c} r clause calls h e = e ∙ found r h (clause (λ p. order_of (f p) x) (always_returns_same g (λ a t. t ≡ order_of (f a.0.now) x) c calls))
+module _ {f : ℕ → List ℕ} {s x : List ℕ} {low high : ℕ} (w : Halving f s x low high) where
+  module _ (mid : ℕ) (l : mid < high) where
+    pub halves_less : Ordering.Less ≡ order_of (f (get_or s mid 0)) x → Halving f s x (mid + 1) high
+    halves_less e = record {
+      inside = w.inside;
+      below = λ o a m. before-later (f (get_or s a 0)) (f (get_or s mid 0)) x (items-on o a mid (omega arith) (let i = w.inside in omega arith)) (order_less (f (get_or s mid 0)) x e);
+      above = w.above;
+    }
+
+    pub halves_more : Ordering.Greater ≡ order_of (f (get_or s mid 0)) x → Halving f s x low mid
+    halves_more e = record {
+      inside = let i = w.inside in omega arith;
+      below = w.below;
+      above = λ o a m n. before_earlier x (f (get_or s mid 0)) (f (get_or s a 0)) (order-more (f (get_or s mid 0)) x e) (items-on o mid a m n);
+    }
+
+    pub halves_met : Ordering.Equal ≡ order_of (f (get_or s mid 0)) x → Index f (length s) s → true ≡ contains x (span f 0 (length s))
+    halves_met e o =
+        let i = w.inside in
+        let n = length s in
+        let p : ℕ = get_or s mid 0 in
+        sym (at_place x f p 0 n (o.inside mid (omega arith))
+        (ap (λ (v : ℕ). eq_bytes x (f v)) (zero-add p) ∙ ap (eq_bytes x) (order_same (f p) x e) ∙ eq_refl x))
+
+  pub halves_end : high ≤ low → Index f (length s) s → false ≡ contains x (span f 0 (length s))
+  halves_end h o = none_is f s x o (λ a l. three a low
+      (λ m. low_differs x (f (get_or s a 0)) (w.below o a m))
+      (λ m. before_differs x (f (get_or s a 0)) (w.above o a (omega arith) l))
+      (λ m. before_differs x (f (get_or s a 0)) (w.above o a (omega arith) l)))
 
 -- ---- the first place
 
