@@ -5,10 +5,9 @@ use Rattle.units.specs.Units.{in_tokens, token_count}
 use Rattle.error.specs.declared.Refusal.{Refusal}
 use Rattle.molecule.specs.Layout.{span, item_count}
 use Rattle.lists.proofs.SpanLaws.{span-on, span-end}
-use Rattle.rules.specs.Outcome.{Outcome, fine, ◌>>=◌}
+use Rattle.error.specs.Outcome.{Outcome, fine, ◌>>=◌, told_by}
 use Rattle.rules.specs.Cells.{Cell}
 use Rattle.rules.specs.Judge.{counted, tally}
-use Rattle.rules.specs.Told.{told_by}
 use Rattle.accounts.specs.Added.{cell_in, cells_from}
 
 -- R is the answer, the cells from i on decide

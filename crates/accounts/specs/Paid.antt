@@ -1,8 +1,8 @@
 -- The token account by what the records brought in (docs/RULES.md, the table's row "typed: by record, then by output, ..").
 use Rattle.std.specs.Prelude.{ℕ, cond, List}
-use Rattle.rules.specs.Outcome.{Outcome, fine, ◌>>=◌}
+use Rattle.error.specs.Outcome.{Outcome, fine, ◌>>=◌}
 use Rattle.rules.specs.Cells.{Cell}
-use Rattle.rules.specs.Surplus.{is_empty}
+use Rattle.lists.specs.Lists.{is_empty}
 use Rattle.rules.specs.Judge.{counted, tally, settled}
 
 -- a sum, if there is one so far, with the tokens of one more cell

@@ -4,7 +4,7 @@ ghost use Rattle.units.specs.Units.{shannon_count};
 ghost use Rattle.rules.specs.Cells.{record_cell};
 ghost use Rattle.rules.specs.Surplus.{total, capacity_of};
 ghost use Rattle.rules.specs.Judge.{covered};
-ghost use Rattle.rules.specs.Told.{told_by};
+ghost use Rattle.error.specs.Outcome.{told_by};
 ghost use Rattle.accounts.specs.Added.{added_cells};
 
 use crate::Added;

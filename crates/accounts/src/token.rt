@@ -5,7 +5,7 @@ ghost use Rattle.units.specs.Units.{token_count};
 ghost use Rattle.rules.specs.Cells.{record_cell};
 ghost use Rattle.rules.specs.Surplus.{is_of};
 ghost use Rattle.rules.specs.Judge.{counted, tally, settled};
-ghost use Rattle.rules.specs.Told.{told_by};
+ghost use Rattle.error.specs.Outcome.{told_by};
 ghost use Rattle.accounts.specs.Added.{cell_in, added_cells};
 ghost use Rattle.accounts.specs.Paid.{and_cell, tokens_left};
 

@@ -21,9 +21,8 @@ use Rattle.transaction_lists.specs.Lists.{list_in, item_in}
 use Rattle.transaction_lists.specs.Found as lists
 use Rattle.transaction_lists.specs.Found.{count_found}
 use Rattle.transaction_lists.proofs.ListLaws.{none-beyond}
-use Rattle.rules.specs.Outcome.{Outcome, fine, refused, check, check_with, ◌>>=◌, ◌>>◌}
-use Rattle.rules.specs.Told.{told_by}
-use Rattle.rules.proofs.Tests.{is_true, never, fine_inj, check-fine}
+use Rattle.error.specs.Outcome.{Outcome, fine, refused, check, check_with, ◌>>=◌, ◌>>◌, told_by}
+use Rattle.error.proofs.Passed.{is_true, never, fine_inj, check-fine}
 use Rattle.transaction_writer.specs.Written as tx
 use Rattle.base_writer.specs.Answer.{in_room, leaves, written, told}
 use Rattle.words.specs.Words.{in_words, writing}

@@ -10,10 +10,10 @@ use Rattle.arithmetic.specs.LittleEndian.{AllBytes}
 use Rattle.molecule.specs.Molecule.{readable, option}
 use Rattle.molecule.specs.Layout.{items_of}
 use Rattle.transaction.specs.Ckb.{Script}
-use Rattle.rules.specs.Outcome.{Outcome, fine, refused, check, check_with, given, ◌>>◌}
-use Rattle.rules.specs.Cells.{read_ours}
-use Rattle.rules.specs.Judge.{Figures}
-use Rattle.rules.proofs.Tests.{never, fine_inj, bind_fine, check-fine, then-fine}
+use Rattle.error.specs.Outcome.{Outcome, fine, refused, check, check_with, given, ◌>>◌}
+use Rattle.transaction.specs.Tx.{read_ours}
+use Rattle.units.specs.Units.{Figures}
+use Rattle.error.proofs.Passed.{never, fine_inj, bound-fine, check-fine, then-fine}
 use Rattle.words.specs.Words.{low}
 use Rattle.funding_cell.specs.declared.{FundingRequest.FundingRequest}
 use Rattle.funding_cell.specs.FundingCell.{build_funding_cell}
@@ -31,7 +31,7 @@ whole n h = omega arith
 pub cell-capacity : (ours udt : List ℕ) (r : FundingRequest) (f : Figures) → build_funding_cell ours udt r ≡ fine f → low f.capacity ≡ f.capacity
 unfolding build_funding_cell
 cell-capacity ours udt r f e =
-    let (tx, o, e₁) = bind_fine (given 1 (read_ours ours)) _ f e in
+    let (tx, o, e₁) = bound-fine (given 1 (read_ours ours)) _ f e in
     let (t, e₂) = check-fine 3 (readable (option Script) udt) _ f e₁ in
     whole f.capacity (capacity-low _ _ r f e₂)
 

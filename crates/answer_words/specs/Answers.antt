@@ -1,7 +1,6 @@
 -- The values of each answer, as words for C, and the figures that come as words.
 use Rattle.std.specs.Prelude.{ℕ, ◌+◌, ◌*◌, ◌^◌, List, [], ◌∷◌}
-use Rattle.units.specs.Units.{in_shannons}
-use Rattle.rules.specs.Judge.{Figures}
+use Rattle.units.specs.Units.{in_shannons, Figures}
 use Rattle.words.specs.Words.{low, high}
 use Rattle.funding_cell.specs.declared.FundingRequest.{FundingRequest}
 use Rattle.udt_cells.specs.Change.{Built}

@@ -3,7 +3,7 @@ use Rattle.std.specs.Prelude.{ℕ, Bool, List, length, ltb}
 use Rattle.molecule.specs.Molecule.{readable}
 use Rattle.transaction.specs.Ckb.{Transaction}
 use Rattle.transaction_lists.specs.Lists.{list_in, item_in}
-use Rattle.rules.specs.Outcome.{Outcome, fine, check, ◌>>◌}
+use Rattle.error.specs.Outcome.{Outcome, fine, check, ◌>>◌}
 
 -- bytes, refused with n unless the test passes
 unfoldable pub bytes_if : ℕ → Bool → List ℕ → Outcome (List ℕ)

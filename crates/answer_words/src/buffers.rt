@@ -1,6 +1,6 @@
 // Bytes put at the start of a lent buffer.
 ghost use Rattle.std.specs.Prelude.{◌≡◌};
-ghost use Rattle.rules.specs.Outcome.{fine};
+ghost use Rattle.error.specs.Outcome.{fine};
 ghost use Rattle.base_writer.specs.Answer.{told, written};
 ghost use Rattle.answer_words.specs.Buffers.{item_found};
 

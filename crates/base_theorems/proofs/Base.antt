@@ -27,12 +27,13 @@ use Rattle.transaction.specs.Tx.{Tx, tx_at, raw_field}
 use Rattle.transaction_writer.specs.Written.{fits}
 use Rattle.transaction_writer.proofs.PutLaws.{tx_length}
 use Rattle.rules.specs.Cells.{Cell, pair, cells}
-use Rattle.rules.specs.Outcome.{Outcome, fine, refused, check, check_with, ◌>>◌}
-use Rattle.rules.specs.Surplus.{is_empty}
-use Rattle.rules.specs.Judge.{Figures, scripts}
+use Rattle.error.specs.Outcome.{Outcome, fine, refused, check, check_with, ◌>>◌}
+use Rattle.lists.specs.Lists.{is_empty}
+use Rattle.units.specs.Units.{Figures}
+use Rattle.rules.specs.Judge.{scripts}
 use Rattle.rules.specs.Step.{Prefix}
 use Rattle.rules.proofs.Telescope.{prefix_refl, prefix_trans, prefix_length}
-use Rattle.rules.proofs.Tests.{is_true, never, fine_inj, bind_fine, check-fine, check_last, then-fine}
+use Rattle.error.proofs.Passed.{is_true, never, fine_inj, bound-fine, check-fine, check_last, then-fine}
 use Rattle.funding_cell.specs.declared.FundingRequest.{FundingRequest}
 use Rattle.funding_cell.specs.FundingCell.{funding_cell}
 use Rattle.funding_cell.proofs.FundingCellLaws.{capacity-low}
@@ -78,8 +79,8 @@ made l request bytes e =
     let (o, e₁) = check-fine 1 (readable (option Transaction) l.ours) _ bytes e in
     let (s, e₂) = then-fine (scripts l.lock l.udt l.source) _ bytes e₁ in
     let (i, e₃) = then-fine (lists l.cells l.udt_deps l.lock_dep l.extra_deps) _ bytes e₂ in
-    let (cell, c, e₄) = bind_fine (funding_cell (not (is_empty (tx_at l.ours).outputs)) (not (is_empty l.udt)) request) _ bytes e₃ in
-    let (pick, p, e₅) = bind_fine (pick_typed l.udt request.local_amount (items_of l.cells)) _ bytes e₄ in
+    let (cell, c, e₄) = bound-fine (funding_cell (not (is_empty (tx_at l.ours).outputs)) (not (is_empty l.udt)) request) _ bytes e₃ in
+    let (pick, p, e₅) = bound-fine (pick_typed l.udt request.local_amount (items_of l.cells)) _ bytes e₄ in
     let (_, e₆) = check-fine 11 (supplied pick.taken l.udt_deps) _ bytes e₅ in
     let (_, e₇) = check-fine 11 (supplied pick.taken l.lock_dep) _ bytes e₆ in
     let s₁ = check-fine 3 (readable Script l.lock) _ tt s in
@@ -427,7 +428,7 @@ left tx out after n e = by (in_room out tx) refl e
     by (fine bytes) f g =
         let many : n ≡ length bytes = fine_inj (ap (λ (p : Outcome ℕ × List ℕ). p.0) g) in
         let holds : after ≡ bytes ++ drop (length bytes) out = ap (λ (p : Outcome ℕ × List ℕ). p.1) g in
-        let (made, i, h) = bind_fine tx (λ (x : List ℕ). check 13 (fits (length x) (length out)) >> fine x) bytes (unfold in_room in f) in
+        let (made, i, h) = bound-fine tx (λ (x : List ℕ). check 13 (fits (length x) (length out)) >> fine x) bytes (unfold in_room in f) in
         let (room, q) = check-fine 13 (fits (length made) (length out)) (fine made) bytes h in
         let same : made ≡ bytes = fine_inj q in
         record {

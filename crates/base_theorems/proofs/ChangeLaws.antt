@@ -11,8 +11,8 @@ use Rattle.arithmetic.proofs.LittleEndianLaws.{length-to_le}
 use Rattle.molecule.specs.Partial.{All}
 use Rattle.molecule.specs.Layout.{span, item_of, content}
 use Rattle.rules.specs.Cells.{pair}
-use Rattle.rules.specs.Outcome.{fine}
-use Rattle.rules.specs.Surplus.{is_empty}
+use Rattle.error.specs.Outcome.{fine}
+use Rattle.lists.specs.Lists.{is_empty}
 use Rattle.cell_output.specs.CellOutput.{cell_output}
 use Rattle.cell_output.proofs.CellOutputLaws.{output-length}
 use Rattle.udt_cells.specs.Pick.{Pick, pick_typed}

@@ -10,13 +10,13 @@ use Rattle.arithmetic.specs.LittleEndian.{to_le, AllBytes}
 use Rattle.molecule.specs.Items.{join}
 use Rattle.molecule.specs.Layout.{items_of, content}
 use Rattle.molecule.specs.Molecule.{Value, encode, readable, Good}
-use Rattle.lists.specs.Lists.{contains}
+use Rattle.lists.specs.Lists.{contains, is_empty}
 use Rattle.transaction.specs.Ckb.{Transaction}
 use Rattle.transaction.specs.Tx.{Tx, tx_at, capacity_of, lock_of, type_of}
 use Rattle.rules.specs.Cells.{Cell, cells}
-use Rattle.rules.specs.Outcome.{fine}
-use Rattle.rules.specs.Surplus.{is_empty}
-use Rattle.rules.specs.Judge.{Figures, comparison}
+use Rattle.error.specs.Outcome.{fine}
+use Rattle.units.specs.Units.{Figures}
+use Rattle.rules.specs.Judge.{comparison}
 use Rattle.rules.specs.Step.{Prefix}
 use Rattle.funding_cell.specs.declared.FundingRequest.{FundingRequest}
 use Rattle.funding_cell.specs.FundingCell.{funding_cell}

@@ -8,16 +8,16 @@ use borrow.Author.Tests.{lt-ltb, le-leb, eq-eqb}
 use lib.ListN.{length, drop}
 use Rattle.molecule.specs.Partial.{All}
 use Rattle.molecule.specs.Layout.{span, item_count, content, entry_of}
-use Rattle.lists.specs.Lists.{eq_bytes, agree, contains, contains_all}
+use Rattle.lists.specs.Lists.{eq_bytes, agree, contains, contains_all, is_empty}
 use Rattle.lists.proofs.EqualLaws.{eq_refl, eq_true}
 use Rattle.transaction.specs.Tx.{Tx, lock_of, type_of}
 use Rattle.rules.specs.Cells.{Cell, cells}
-use Rattle.rules.specs.Outcome.{check}
-use Rattle.rules.specs.Surplus.{is_of, is_empty}
+use Rattle.error.specs.Outcome.{check}
+use Rattle.rules.specs.Surplus.{is_of}
 use Rattle.rules.specs.Judge.{at_first, has_lock, no_data_untyped, comparison}
 use Rattle.rules.specs.Step.{Prefix, start, more}
 use Rattle.rules.proofs.Telescope.{prefix_refl, prefix_trans, prefix_length}
-use Rattle.rules.proofs.Checks.{pass, last_is}
+use Rattle.error.proofs.Checks.{pass, last_is}
 use Rattle.list_writer.specs.ListWriter.{item_or}
 use Rattle.cell_deps.specs.CellDeps.{pushed, push_all}
 use Rattle.base_theorems.proofs.Claims.{Distinct}

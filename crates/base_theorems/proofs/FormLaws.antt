@@ -27,9 +27,9 @@ use Rattle.transaction.proofs.FieldLaws.{bytes_raw, no_raw}
 use Rattle.transaction.proofs.ListLaws.{hash-size, input-size, point-size}
 use Rattle.transaction_writer.specs.Written.{in_form}
 use Rattle.transaction_writer.proofs.RewriteLaws.{lists_in_form}
-use Rattle.rules.specs.Outcome.{fine}
-use Rattle.rules.specs.Surplus.{is_empty}
-use Rattle.rules.proofs.Tests.{never, fine_inj, bind_fine}
+use Rattle.error.specs.Outcome.{fine}
+use Rattle.lists.specs.Lists.{is_empty}
+use Rattle.error.proofs.Passed.{never, fine_inj, bound-fine}
 use Rattle.udt_cells.specs.Pick.{Pick, plus_cell, enough_or, pick_from, pick_typed}
 use Rattle.list_writer.specs.ListWriter.{bytes_item, item_or, later, if_any, if_positive}
 use Rattle.list_writer.proofs.AgainLaws.{items-long}
@@ -209,7 +209,7 @@ taken-within wanted taken total (cell ∷ cells) p e = by (leb wanted total) ref
     by : (b : Bool) → leb wanted total ≡ b → ((sum : ℕ) → pick_from wanted (taken + 1) sum cells ≡ fine p → p.taken ≤ taken + 1 + length cells) → p.taken ≤ taken + suc (length cells)
     by true f later = let q : record { taken = taken; change = total - wanted } ≡ p = fine_inj (rw f at e) in let t : taken ≡ p.taken = ap (λ (x : Pick). x.taken) q in omega arith
     by false f later =
-        let (sum, s, g) = bind_fine (plus_cell total cell) (λ sum. pick_from wanted (taken + 1) sum cells) p (rw f at e) in
+        let (sum, s, g) = bound-fine (plus_cell total cell) (λ sum. pick_from wanted (taken + 1) sum cells) p (rw f at e) in
         omega (arith, later sum g)
 
 pub typed-within : (udt : List ℕ) (wanted : ℕ) (cells : List (List ℕ)) (p : Pick) → pick_typed udt wanted cells ≡ fine p → p.taken ≤ length cells

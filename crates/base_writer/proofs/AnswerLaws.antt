@@ -13,7 +13,7 @@ use Rattle.error.specs.declared.Refusal.{Refusal}
 use Rattle.error.specs.Refusal.{number, values}
 use Rattle.molecule.specs.Write.{Put}
 use Rattle.molecule.proofs.WriteLaws.{splice_zero}
-use Rattle.rules.specs.Outcome.{fine, check, check_with, ◌>>=◌, ◌>>◌}
+use Rattle.error.specs.Outcome.{fine, check, check_with, ◌>>=◌, ◌>>◌}
 use Rattle.transaction_writer.specs.declared.Sizes.{Sizes}
 use Rattle.transaction_writer.specs.TxFields.{total}
 use Rattle.transaction_writer.specs.Written.{fits}

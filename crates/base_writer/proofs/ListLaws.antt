@@ -8,13 +8,13 @@ use lib.Dec.{eqb}
 use lib.ListN.{length}
 use Rattle.std.specs.Prelude.{Option, Some, None, is_some}
 use Rattle.std.specs.Bool.{then_some}
-use Rattle.rules.proofs.CellLaws.{empty-is}
+use Rattle.lists.proofs.EqualLaws.{empty-is}
 use Rattle.arithmetic.specs.LittleEndian.{to_le}
 use Rattle.units.specs.declared.Tokens.{Tokens}
 use Rattle.units.specs.Units.{shannon_count, token_count}
 use Rattle.molecule.specs.Items.{join}
 use Rattle.molecule.specs.Layout.{item_count}
-use Rattle.rules.specs.Surplus.{is_empty}
+use Rattle.lists.specs.Lists.{is_empty}
 use Rattle.base_inputs.specs.declared.Inputs.{Inputs}
 use Rattle.base_inputs.specs.BaseInputs.{inputs_bytes}
 use Rattle.base_lists.specs.declared.{outputs.Outputs.Outputs, outputs_data.OutputsData.OutputsData, witnesses.Witnesses.Witnesses}

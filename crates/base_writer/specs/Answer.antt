@@ -1,8 +1,7 @@
 -- What a call that writes a transaction answers, and what it leaves in the lent buffer (docs/RULES.md, "A peer's update arrives", row "writing", and above the
 -- table "Lent bytes beyond those written keep their value"; "The three demands", 1: after a refusal every lent output byte is as before).
 use Rattle.std.specs.Prelude.{ℕ, List, ◌++◌, length, drop, Result, Ok, Err}
-use Rattle.rules.specs.Outcome.{Outcome, fine, refused, check, ◌>>=◌, ◌>>◌}
-use Rattle.rules.specs.Told.{refusal}
+use Rattle.error.specs.Outcome.{Outcome, fine, refused, check, ◌>>=◌, ◌>>◌, refusal}
 use Rattle.error.specs.declared.Refusal.{Refusal}
 use Rattle.transaction_writer.specs.Written.{fits}
 

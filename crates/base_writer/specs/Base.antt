@@ -1,7 +1,7 @@
 -- What the code is lent for a base transaction: its lists, and what they are made from.
 use Rattle.std.specs.Prelude.{◌-◌, cond, Some, None}
 use Rattle.molecule.specs.Layout.{item_count, fix_count}
-use Rattle.rules.specs.Surplus.{is_empty}
+use Rattle.lists.specs.Lists.{is_empty}
 use Rattle.base_inputs.specs.declared.Inputs.{Inputs}
 use Rattle.base_lists.specs.declared.{outputs.Outputs.Outputs, outputs_data.OutputsData.OutputsData, witnesses.Witnesses.Witnesses}
 use Rattle.base_writer.specs.declared.Base.{Base}

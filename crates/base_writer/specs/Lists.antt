@@ -4,7 +4,7 @@ use Rattle.arithmetic.specs.LittleEndian.{to_le}
 use Rattle.units.specs.Units.{shannon_count, token_count}
 use Rattle.molecule.specs.Items.{join}
 use Rattle.molecule.specs.Layout.{item_count, fix_count}
-use Rattle.rules.specs.Surplus.{is_empty}
+use Rattle.lists.specs.Lists.{is_empty}
 use Rattle.transaction_writer.specs.Written.{tx_bytes, tx_head}
 use Rattle.base_inputs.specs.BaseInputs.{input_list}
 use Rattle.base_lists.specs.BaseLists.{output_list, data_list, witness_list}

@@ -4,7 +4,7 @@
 ghost use Rattle.std.specs.Prelude.{◌≡◌, ◌-◌};
 ghost use Rattle.molecule.specs.Layout.{item_count};
 ghost use Rattle.molecule.specs.Write.{Put};
-ghost use Rattle.rules.specs.Outcome.{fine};
+ghost use Rattle.error.specs.Outcome.{fine};
 ghost use Rattle.base_writer.specs.Answer.{written, told};
 ghost use Rattle.base_writer.specs.Lists.{or_empty, bytes_of, Capped, Fitting, BackFits, front, back};
 ghost use Rattle.base_writer.specs.Base.{lists_in, inputs_in, outputs_in, data_in, witnesses_in};

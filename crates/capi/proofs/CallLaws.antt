@@ -2,7 +2,7 @@
 use mathlib.Core.Path.{◌≡◌, ◌∙◌}
 use Prim.Native.Nat.{ℕ, ◌+◌, ◌*◌, ◌^◌}
 use mathlib.Core.List.{List}
-use Rattle.rules.specs.Outcome.{Outcome}
+use Rattle.error.specs.Outcome.{Outcome}
 use Rattle.words.specs.Words.{in_words, writing}
 use Rattle.words.proofs.WordLaws.{wrote}
 use Rattle.funding_cell.specs.declared.FundingRequest.{FundingRequest}

@@ -9,7 +9,7 @@ ghost use Rattle.std.specs.Prelude.{◌≡◌, ◌+◌, ◌*◌, ◌^◌, length
 ghost use Rattle.molecule.specs.Molecule.{readable};
 ghost use Rattle.transaction.specs.Ckb.{OutPoints, Script, Transaction, Records};
 ghost use Rattle.rules.specs.Judge.{judge};
-ghost use Rattle.rules.specs.Outcome.{fine};
+ghost use Rattle.error.specs.Outcome.{fine};
 ghost use Rattle.transaction_writer.specs.Written.{in_form, tx_bytes};
 ghost use Rattle.case_file.specs.CaseFile.{case_line};
 ghost use Rattle.funding_cell.specs.FundingCell.{build_funding_cell};

@@ -22,8 +22,9 @@ use Rattle.molecule.specs.Write.{splice, Put}
 use Rattle.molecule.proofs.ItemsLaws.{length-join}
 use Rattle.molecule.proofs.WriteLaws.{splice_zero}
 use Rattle.rules.specs.Cells.{Cell}
-use Rattle.rules.specs.Outcome.{Outcome}
-use Rattle.rules.specs.Judge.{Figures, judge}
+use Rattle.error.specs.Outcome.{Outcome}
+use Rattle.units.specs.Units.{Figures}
+use Rattle.rules.specs.Judge.{judge}
 use Rattle.rules.specs.Told.{told}
 use Rattle.verdict_line.specs.VerdictLine.{line_of}
 use Rattle.case_file.specs.declared.items.Places.{Places}

@@ -8,9 +8,8 @@ use Rattle.molecule.specs.Partial.{only, pick, there}
 use Rattle.molecule.specs.Items.{join, unwords, offsets, split}
 use Rattle.molecule.specs.Molecule.{decode, readable}
 use Rattle.molecule.specs.Layout.{part}
-use Rattle.transaction.specs.Tx.{read_tx}
-use Rattle.rules.specs.Cells.{read_ours}
-use Rattle.rules.specs.Outcome.{given}
+use Rattle.transaction.specs.Tx.{read_tx, read_ours}
+use Rattle.error.specs.Outcome.{given}
 use Rattle.rules.specs.Outcome as verdict
 use Rattle.rules.specs.Judge.{judge, judge_against}
 use Rattle.verdict_line.specs.VerdictLine.{digit, digits, decimal, spaced, refused_with, line_of}

@@ -7,8 +7,9 @@ use Rattle.molecule.specs.Partial.{only, pick}
 use Rattle.molecule.specs.Items.{join}
 use Rattle.molecule.specs.Layout.{part}
 use Rattle.rules.specs.Cells.{Cell}
-use Rattle.rules.specs.Outcome.{Outcome, refused}
-use Rattle.rules.specs.Judge.{Figures, judge}
+use Rattle.error.specs.Outcome.{Outcome, refused}
+use Rattle.units.specs.Units.{Figures}
+use Rattle.rules.specs.Judge.{judge}
 use Rattle.verdict_line.specs.VerdictLine.{line_of}
 
 -- what is read at a place, and the place after it

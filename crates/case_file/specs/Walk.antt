@@ -6,8 +6,9 @@ use Rattle.arithmetic.specs.LittleEndian.{to_le, u64_at}
 use Rattle.molecule.specs.Partial.{pick}
 use Rattle.molecule.specs.Items.{join}
 use Rattle.rules.specs.Cells.{Cell}
-use Rattle.rules.specs.Outcome.{Outcome}
-use Rattle.rules.specs.Judge.{Figures, judge}
+use Rattle.error.specs.Outcome.{Outcome}
+use Rattle.units.specs.Units.{Figures}
+use Rattle.rules.specs.Judge.{judge}
 use Rattle.case_file.specs.declared.items.Kind.{Kind}
 use Rattle.case_file.specs.declared.items.Kind.TheVariants.{Ours, Peer, Lock, Udt, Source, Rate, Output, Data, NotLive}
 use Rattle.case_file.specs.declared.items.Places.{Places}

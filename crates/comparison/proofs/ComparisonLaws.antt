@@ -15,13 +15,14 @@ use Rattle.lists.specs.Lists.{eq_bytes, agree, contains_all, extends}
 use Rattle.lists.proofs.AgreeLaws.{extends-is, extends-rest}
 use Rattle.transaction.specs.Tx.{tx_at, raw_field, lock_of, type_of}
 use Rattle.molecule.specs.Layout.{item_of, entry_of}
-use Rattle.rules.specs.Outcome.{check}
+use Rattle.error.specs.Outcome.{check}
 use Rattle.rules.specs.Cells.{cells}
 use Rattle.rules.specs.Surplus.{is_of}
 use Rattle.rules.specs.Judge.{at_first, has_lock, no_data_untyped, comparison}
 use Rattle.comparison.specs.Together.{none_missing, kept_after_first, funding_cell_first}
-use Rattle.rules.proofs.Checks.{skip, fail, pass, last_is, last_two, fail_two, fail_apart, pass_two}
-use Rattle.rules.proofs.CellLaws.{cell_at, empty-is, cells-none, cells-some}
+use Rattle.error.proofs.Checks.{skip, fail, pass, last_is, last_two, fail_two, fail_apart, pass_two}
+use Rattle.lists.proofs.EqualLaws.{empty-is}
+use Rattle.rules.proofs.CellLaws.{cell_at, cells-none, cells-some}
 
 -- ---- a list of ours against the peer's
 

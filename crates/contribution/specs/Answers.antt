@@ -1,14 +1,13 @@
 -- What this crate's answers about output 0 stand for, in the rules' numbers (docs/RULES.md, the table's row "contribution").
 use Rattle.std.specs.Prelude.{ℕ, [], Option, Some, None, Result}
 use Rattle.units.specs.declared.Tokens.{Tokens}
-use Rattle.units.specs.Units.{shannon_count, token_count}
+use Rattle.units.specs.Units.{shannon_count, token_count, Figures}
 use Rattle.error.specs.declared.Refusal.{Refusal}
 use Rattle.transaction.specs.Tx.{Tx}
-use Rattle.rules.specs.Outcome.{Outcome, fine, refused, check, ◌>>◌}
+use Rattle.error.specs.Outcome.{Outcome, fine, refused, check, ◌>>◌, told_by}
 use Rattle.rules.specs.Cells.{cells}
 use Rattle.rules.specs.Surplus.{first, amount_of, has_amount}
-use Rattle.rules.specs.Judge.{Figures, at_first}
-use Rattle.rules.specs.Told.{told_by}
+use Rattle.rules.specs.Judge.{at_first}
 use Rattle.contribution.specs.declared.Growth.{Growth}
 
 -- an amount, or none that can be read

@@ -2,10 +2,11 @@
 -- many shannons, and so many tokens if these have a sum.
 use Rattle.std.specs.Prelude.{ℕ, ◌+◌, Bool, List}
 use Rattle.transaction.specs.Tx.{Tx}
-use Rattle.rules.specs.Outcome.{Outcome, fine, ◌>>=◌}
+use Rattle.error.specs.Outcome.{Outcome, fine, ◌>>=◌}
 use Rattle.rules.specs.Cells.{Cell}
 use Rattle.rules.specs.Surplus.{total, added, capacity_of}
-use Rattle.rules.specs.Judge.{Figures, funding_output_delta, unfunded, covered}
+use Rattle.units.specs.Units.{Figures}
+use Rattle.rules.specs.Judge.{funding_output_delta, unfunded, covered}
 use Rattle.accounts.specs.Paid.{tokens_left}
 
 -- both accounts, with output 0 grown by so many shannons and tokens and with these outputs added

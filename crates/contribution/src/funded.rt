@@ -3,7 +3,8 @@ ghost use Rattle.std.specs.Prelude.{◌≡◌, ◌&&◌, not};
 ghost use Rattle.units.specs.Units.{shannon_count};
 ghost use Rattle.transaction.specs.Tx.{tx_at, raw_field};
 ghost use Rattle.rules.specs.Cells.{cells};
-ghost use Rattle.rules.specs.Surplus.{first, capacity_of, is_empty};
+ghost use Rattle.lists.specs.Lists.{is_empty};
+ghost use Rattle.rules.specs.Surplus.{first, capacity_of};
 ghost use Rattle.rules.specs.Judge.{unfunded};
 ghost use Rattle.contribution.specs.Answers.{amount, first_amount};
 

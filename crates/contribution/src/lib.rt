@@ -8,7 +8,8 @@ ghost use Rattle.units.specs.Units.{shannon_count, token_count};
 ghost use Rattle.transaction.specs.Tx.{tx_at};
 ghost use Rattle.rules.specs.Surplus.{added};
 ghost use Rattle.rules.specs.Judge.{token_delta, funding_output_delta, unfunded};
-ghost use Rattle.rules.specs.Told.{told, told_by};
+ghost use Rattle.error.specs.Outcome.{told_by};
+ghost use Rattle.rules.specs.Told.{told};
 ghost use Rattle.contribution.specs.Answers.{delta};
 ghost use Rattle.contribution.specs.Contributed.{accounts_over, contributed};
 

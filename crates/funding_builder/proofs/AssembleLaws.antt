@@ -15,7 +15,7 @@ use Rattle.molecule.specs.Layout.{item_count, item_of, fix_count, fix_item}
 use Rattle.molecule.proofs.Offsets.{span-length}
 use Rattle.transaction.specs.Ckb.{CellDep, CellDeps}
 use Rattle.transaction.specs.Tx.{tx_at, raw_field}
-use Rattle.rules.specs.Outcome.{Outcome, fine, check, check_with, ◌>>=◌, ◌>>◌}
+use Rattle.error.specs.Outcome.{Outcome, fine, check, check_with, ◌>>=◌, ◌>>◌}
 use Rattle.transaction_writer.specs.declared.TxFields.{TxFields}
 use Rattle.transaction_writer.specs.TxFields.{AreTxFields}
 use Rattle.transaction_writer.specs.Written.{fits}

@@ -10,11 +10,11 @@ use Rattle.molecule.specs.Molecule.{readable, option}
 use Rattle.molecule.proofs.Offsets.{span-length}
 use Rattle.transaction.specs.Ckb.{Script, TokenCells, CellDep, CellDeps, Transaction}
 use Rattle.transaction.specs.Tx.{tx_at, raw_field}
-use Rattle.rules.specs.Outcome.{fine, check, check_with}
-use Rattle.rules.specs.Surplus.{is_empty}
+use Rattle.error.specs.Outcome.{fine, check, check_with}
+use Rattle.lists.specs.Lists.{is_empty}
 use Rattle.rules.specs.Judge.{scripts}
-use Rattle.rules.proofs.CellLaws.{empty-is}
-use Rattle.rules.proofs.Tests.{is_true, check-fine, check_last}
+use Rattle.lists.proofs.EqualLaws.{empty-is}
+use Rattle.error.proofs.Passed.{is_true, check-fine, check_last}
 use Rattle.funding_builder.specs.Base.{lent_of, lists}
 use Rattle.funding_builder.specs.Steps.{Readable}
 

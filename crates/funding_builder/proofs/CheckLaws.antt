@@ -14,7 +14,7 @@ use Rattle.molecule.proofs.LayoutLaws.{part_none}
 use Rattle.molecule.proofs.ReadableLaws.{readable_fixed}
 use Rattle.transaction.specs.Ckb.{CellDep}
 use Rattle.transaction.proofs.ListLaws.{option-some}
-use Rattle.rules.proofs.CellLaws.{empty-is}
+use Rattle.lists.proofs.EqualLaws.{empty-is}
 use Rattle.list_writer.specs.ListWriter.{if_positive}
 use Rattle.udt_cells.specs.Change.{capacity_for}
 use Rattle.funding_builder.specs.Base.{change_capacity, supplied}

@@ -1,7 +1,7 @@
 -- What closes the needs of this crate's functions: `search ways`.
 use borrow.Author.Rules.{rules}
-use Rattle.rules.proofs.CellLaws.{empty-is}
-use Rattle.rules.proofs.Outcomes.{outcomes}
+use Rattle.lists.proofs.EqualLaws.{empty-is}
+use Rattle.error.proofs.Outcomes.{outcomes}
 use Rattle.transaction.proofs.ListLaws.{option-none, option-some}
 use Rattle.funding_builder.proofs.CheckLaws.{optional_dep, supplied-none, supplied-some, picked_none, picked-some}
 use Rattle.funding_builder.proofs.AssembleLaws.{over-deps, assembled, room-few, room_most}

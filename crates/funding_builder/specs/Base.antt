@@ -7,9 +7,10 @@ use Rattle.molecule.specs.Layout.{items_of}
 use Rattle.molecule.specs.Molecule.{readable, option}
 use Rattle.transaction.specs.Ckb.{TokenCells, CellDep, CellDeps, Transaction}
 use Rattle.transaction.specs.Tx.{tx_at, raw_field}
-use Rattle.rules.specs.Outcome.{Outcome, fine, check, ◌>>=◌, ◌>>◌}
-use Rattle.rules.specs.Surplus.{is_empty}
-use Rattle.rules.specs.Judge.{Figures, scripts}
+use Rattle.error.specs.Outcome.{Outcome, fine, check, ◌>>=◌, ◌>>◌}
+use Rattle.lists.specs.Lists.{is_empty}
+use Rattle.units.specs.Units.{Figures}
+use Rattle.rules.specs.Judge.{scripts}
 use Rattle.transaction_writer.specs.Written.{tx_bytes}
 use Rattle.funding_cell.specs.declared.FundingRequest.{FundingRequest}
 use Rattle.funding_cell.specs.FundingCell.{funding_cell}

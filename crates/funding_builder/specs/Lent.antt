@@ -1,5 +1,5 @@
 -- What the code is lent and has found, as the definitions have it.
-use Rattle.rules.specs.Judge.{Figures}
+use Rattle.units.specs.Units.{Figures}
 use Rattle.funding_cell.specs.declared.FundingCell.{FundingCell}
 use Rattle.udt_cells.specs.declared.Picked.{Picked}
 use Rattle.udt_cells.specs.Pick.{Pick}

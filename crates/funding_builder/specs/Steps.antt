@@ -1,11 +1,10 @@
 -- What the functions inside promise one another; no public contract cites it.
 use Rattle.std.specs.Prelude.{◌≡◌, ℕ, ◌≤◌, ◌<◌, true, List, length}
-use Rattle.units.specs.Units.{shannon_count, token_count}
+use Rattle.units.specs.Units.{shannon_count, token_count, Figures}
 use Rattle.units.specs.declared.{Shannons.Shannons, Tokens.Tokens}
 use Rattle.molecule.specs.Molecule.{readable, option}
 use Rattle.transaction.specs.Ckb.{Script, CellDep, CellDeps, Transaction}
 use Rattle.transaction.specs.Tx.{raw_field}
-use Rattle.rules.specs.Judge.{Figures}
 use Rattle.list_writer.specs.ListWriter.{if_positive}
 use Rattle.cell_deps.specs.CellDeps.{cell_deps}
 use Rattle.cell_deps.specs.declared.DepLists.{DepLists}

@@ -3,7 +3,7 @@ ghost use Rattle.std.specs.Prelude.{◌≡◌, ◌≤◌, true, length};
 ghost use Rattle.units.specs.Units.{shannon_count, token_count};
 ghost use Rattle.molecule.specs.Molecule.{readable, option};
 ghost use Rattle.transaction.specs.Ckb.{Script};
-ghost use Rattle.rules.specs.Outcome.{fine};
+ghost use Rattle.error.specs.Outcome.{fine};
 ghost use Rattle.list_writer.specs.ListWriter.{if_positive};
 ghost use Rattle.base_writer.specs.Answer.{written, told};
 ghost use Rattle.funding_builder.specs.Base.{change_capacity, packed, base_tx};

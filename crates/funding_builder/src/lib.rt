@@ -1,5 +1,5 @@
 // The base transaction of our own side: the funding cell, the tokens that we bring, and what the present transaction has already.
-#![tactic(auto, using(crate::proofs::Ways::ways), unfolding(crate::specs::Base::lists, crate::specs::Base::with_pick, crate::specs::Base::with_cell, crate::specs::Base::with_request, crate::specs::Base::build_base, base_writer::specs::Answer::in_room, base_writer::specs::Answer::leaves, rules::specs::Outcome::check, rules::specs::Outcome::check_with, error::specs::Refusal::number, error::specs::Refusal::values))]
+#![tactic(auto, using(crate::proofs::Ways::ways), unfolding(crate::specs::Base::lists, crate::specs::Base::with_pick, crate::specs::Base::with_cell, crate::specs::Base::with_request, crate::specs::Base::build_base, base_writer::specs::Answer::in_room, base_writer::specs::Answer::leaves, error::specs::Outcome::check, error::specs::Outcome::check_with, error::specs::Refusal::number, error::specs::Refusal::values))]
 
 mod assemble;
 
@@ -7,7 +7,7 @@ ghost use Rattle.std.specs.Prelude.{◌≡◌, true, ◌<◌};
 ghost use Rattle.units.specs.Units.{token_count};
 ghost use Rattle.molecule.specs.Molecule.{readable, option};
 ghost use Rattle.transaction.specs.Ckb.{CellDep, CellDeps};
-ghost use Rattle.rules.specs.Outcome.{check};
+ghost use Rattle.error.specs.Outcome.{check};
 ghost use Rattle.base_writer.specs.Answer.{written, told};
 ghost use Rattle.funding_builder.specs.Base.{lists, supplied, with_pick, with_cell, with_request, build_base};
 ghost use Rattle.funding_builder.specs.Lent.{lent_in, cell_in, pick_in};
@@ -118,7 +118,7 @@ pub fn build_base(lent: &Lent, request: FundingRequest, out: &mut [u8]) -> Writt
     if !transaction::is_optional_transaction(lent.ours) {
         return Err(Refusal::OurTransactionUnreadable);
     }
-    if !funding_tx::are_scripts(lent.lock, lent.udt, lent.source) {
+    if !transaction::are_scripts(lent.lock, lent.udt, lent.source) {
         return Err(Refusal::LentBytesUnreadable);
     }
     if !lent.are_lists() {

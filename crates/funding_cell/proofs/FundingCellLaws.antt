@@ -1,9 +1,9 @@
 -- Laws of specs/FundingCell.antt.
 use Rattle.std.proofs.Common.{◌≡◌, ℕ, ◌^◌, ◌<◌, Bool, true, false, refl, ap₂, ◌∙◌, subst, add-zero, ltb}
 use lib.Dec.{ltb→lt}
-use Rattle.rules.specs.Outcome.{fine}
-use Rattle.rules.specs.Judge.{Figures}
-use Rattle.rules.proofs.Tests.{check-fine, fine_inj}
+use Rattle.error.specs.Outcome.{fine}
+use Rattle.units.specs.Units.{Figures}
+use Rattle.error.proofs.Passed.{check-fine, fine_inj}
 use Rattle.funding_cell.specs.declared.{FundingRequest.FundingRequest}
 use Rattle.funding_cell.specs.FundingCell.{counted, cell_of, cell_of_sums, funding_cell}
 

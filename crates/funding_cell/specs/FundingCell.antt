@@ -6,14 +6,12 @@ use Rattle.std.specs.Option.{option_map}
 use Rattle.arithmetic.specs.Amount.{sum}
 use Rattle.units.specs.declared.Shannons.{Shannons}
 use Rattle.error.specs.declared.Refusal.{Refusal}
-use Rattle.units.specs.Units.{in_shannons, shannon_count, token_count}
+use Rattle.units.specs.Units.{in_shannons, shannon_count, token_count, Figures}
 use Rattle.molecule.specs.Molecule.{readable, option}
 use Rattle.transaction.specs.Ckb.{Script}
-use Rattle.rules.specs.Outcome.{Outcome, fine, check, given, ◌>>=◌, ◌>>◌}
-use Rattle.rules.specs.Cells.{read_ours}
-use Rattle.rules.specs.Surplus.{is_empty}
-use Rattle.rules.specs.Judge.{Figures}
-use Rattle.rules.specs.Told.{told_by}
+use Rattle.error.specs.Outcome.{Outcome, fine, check, given, ◌>>=◌, ◌>>◌, told_by}
+use Rattle.transaction.specs.Tx.{read_ours}
+use Rattle.lists.specs.Lists.{is_empty}
 use Rattle.funding_cell.specs.declared.{FundingRequest.FundingRequest, FundingCell.FundingCell}
 
 -- the figures of an answer in numbers

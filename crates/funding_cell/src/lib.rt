@@ -1,5 +1,5 @@
 // The funding cell that both sides pay into: its capacity and its token amount.
-#![tactic(auto, using(crate::proofs::Ways::ways), unfolding(crate::specs::FundingCell::counted, crate::specs::FundingCell::reserves, crate::specs::FundingCell::cell_of, crate::specs::FundingCell::cell_of_sums, crate::specs::FundingCell::funding_cell, crate::specs::FundingCell::build_funding_cell, rules::specs::Outcome::check, rules::specs::Outcome::check_with, rules::specs::Outcome::given, error::specs::Refusal::number, error::specs::Refusal::values, arithmetic::specs::Amount::sum))]
+#![tactic(auto, using(crate::proofs::Ways::ways), unfolding(crate::specs::FundingCell::counted, crate::specs::FundingCell::reserves, crate::specs::FundingCell::cell_of, crate::specs::FundingCell::cell_of_sums, crate::specs::FundingCell::funding_cell, crate::specs::FundingCell::build_funding_cell, error::specs::Outcome::check, error::specs::Outcome::check_with, error::specs::Outcome::given, error::specs::Refusal::number, error::specs::Refusal::values, arithmetic::specs::Amount::sum))]
 
 ghost use Rattle.std.specs.Prelude.{◌≡◌, true, false};
 ghost use Rattle.units.specs.Units.{shannon_count, token_count};

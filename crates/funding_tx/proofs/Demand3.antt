@@ -10,10 +10,11 @@ use mathlib.Core.Path.{◌≡◌, refl, ap, ◌∙◌}
 use Prim.Native.Nat.{ℕ}
 use mathlib.Core.List.{List, [], ◌∷◌, map}
 use mathlib.Core.Option.{none}
-use Rattle.rules.specs.Outcome.{Outcome, refused, given, ◌>>=◌}
-use Rattle.rules.specs.Cells.{read_ours}
+use Rattle.error.specs.Outcome.{Outcome, refused, given, ◌>>=◌}
+use Rattle.transaction.specs.Tx.{read_ours}
 use Rattle.rules.specs.Surplus.{capacities, expected}
-use Rattle.rules.specs.Judge.{Call, Figures, judge, tx_of}
+use Rattle.units.specs.Units.{Figures}
+use Rattle.rules.specs.Judge.{Call, judge, tx_of}
 use Rattle.rules.specs.Told.{Update, told, in_force_of}
 use Rattle.rules.specs.Run.{update_for_peer, handed_back, next, verdicts, in_force, forces}
 use Rattle.rules.proofs.Accept.{accepted}

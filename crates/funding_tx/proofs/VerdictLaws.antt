@@ -10,18 +10,18 @@ use Rattle.molecule.specs.Molecule.{option, readable}
 use Rattle.transaction.specs.Ckb.{Script, Transaction}
 use Rattle.transaction.specs.Tx.{Tx, tx_at}
 use Rattle.units.specs.declared.{Shannons.Shannons}
-use Rattle.units.specs.Units.{shannon_count}
+use Rattle.units.specs.Units.{shannon_count, Figures}
 use Rattle.error.specs.declared.Refusal.{Refusal}
 use Rattle.error.specs.Refusal.{number, values}
-use Rattle.rules.specs.Outcome.{Outcome, fine, refused, check, check_with, given, ◌>>◌, ◌>>=◌}
+use Rattle.error.specs.Outcome.{Outcome, fine, refused, check, check_with, given, ◌>>◌, ◌>>=◌, refusal}
 use Rattle.rules.specs.Cells.{Cell, read_records}
 use Rattle.rules.specs.Surplus.{total, capacity_of}
-use Rattle.rules.specs.Judge.{Call, Figures, scripts, limits, comparison, spent, tally, account, token_account, accounts, contribution, judge, judge_against}
-use Rattle.rules.specs.Told.{Update, refusal, told, in_force_of}
+use Rattle.rules.specs.Judge.{Call, scripts, limits, comparison, spent, tally, account, token_account, accounts, contribution, judge, judge_against}
+use Rattle.rules.specs.Told.{Update, told, in_force_of}
 use Rattle.rules.specs.Run.{handed_back, next, update_for_peer}
-use Rattle.rules.proofs.Checks.{skip, fail, pass, last_is}
-use Rattle.rules.proofs.CellLaws.{read_yes, read_no, ours_yes, ours_no}
-use Rattle.rules.proofs.Tests.{never, fine_inj, bind_fine}
+use Rattle.error.proofs.Checks.{skip, fail, pass, last_is}
+use Rattle.transaction.proofs.ReadLaws.{read_yes, read_no, ours_yes, ours_no}
+use Rattle.error.proofs.Passed.{never, fine_inj, bound-fine}
 use Rattle.accounts.specs.Paid.{tokens_left}
 use Rattle.contribution.specs.Contributed.{accounts_over, contributed}
 use Rattle.lists.proofs.EqualLaws.{whole}
@@ -50,7 +50,7 @@ module _ (source type : List ℕ) (ours peer : Tx) (lent : Option (List (Option 
 
   pub is-spent : (b : Brought) → brings source type ours peer lent ≡ fine b → (cs : List Cell) × (spent source ours peer lent ≡ fine cs) × (brought type cs ≡ b)
   unfolding brings
-  is-spent b e = let (cs, q, f) = bind_fine (spent source ours peer lent) (λ (cs : List Cell). fine (brought type cs)) b e in (cs, q, fine_inj f)
+  is-spent b e = let (cs, q, f) = bound-fine (spent source ours peer lent) (λ (cs : List Cell). fine (brought type cs)) b e in (cs, q, fine_inj f)
 
 -- ---- the whole: what was known of our bytes, and the rest
 

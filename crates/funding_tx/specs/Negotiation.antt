@@ -3,11 +3,12 @@
 use Rattle.std.specs.Prelude.{◌≡◌, ℕ, List, [], ◌++◌, map, Err}
 use Rattle.std.proofs.Math.Option.{none, some}
 use Rattle.error.specs.declared.Refusal.{Refusal}
-use Rattle.rules.specs.Outcome.{Outcome, refused}
-use Rattle.rules.specs.Cells.{read_ours}
+use Rattle.error.specs.Outcome.{Outcome, refused}
+use Rattle.transaction.specs.Tx.{read_ours}
 use Rattle.molecule.specs.Partial.{All}
 use Rattle.rules.specs.Surplus.{capacities, expected}
-use Rattle.rules.specs.Judge.{Call, Figures, judge, tx_of}
+use Rattle.units.specs.Units.{Figures}
+use Rattle.rules.specs.Judge.{Call, judge, tx_of}
 use Rattle.rules.specs.Told.{Update, told, in_force_of}
 use Rattle.rules.specs.Run.{Exact, update_for_peer, verdicts, in_force, forces, kept, kept_records, inputs_of, records_of, Returned, Ran}
 

@@ -2,24 +2,13 @@
 #![tactic(auto, using(crate::proofs::Ways::ways))]
 
 ghost use Rattle.std.specs.Prelude.{◌≡◌};
-ghost use Rattle.rules.specs.Outcome.{check};
 ghost use Rattle.transaction.specs.Tx.{tx_at};
-ghost use Rattle.rules.specs.Judge.{scripts, judge, judge_against};
+ghost use Rattle.rules.specs.Judge.{judge, judge_against};
 ghost use Rattle.rules.specs.Told.{told, in_force_of};
 ghost use Rattle.rules.specs.Run.{handed_back, next, update_for_peer};
 
 use error::Refusal;
 use rules::Update;
-
-// Whether the expected funding lock and type (empty for none) and our source lock are scripts; the refusal is 3. As an `Answer` the one test would be no shorter,
-// and a struct of the three, which the C interface lends apart, would be made for this call alone.
-pub fn are_scripts(lock: &[u8], udt: &[u8], source: &[u8]) -> bool
-    ensures { check 3 result ≡ scripts lock.now udt.now source.now }
-{
-    transaction::is_script(lock)
-        && transaction::is_optional_script(udt)
-        && transaction::is_script(source)
-}
 
 // Judges the peer's transaction against ours (empty for none) by every check but the first, that our own bytes are readable: for a caller who knows that of
 // them already. Its time does not grow with the length of ours. Bytes of ours that can't be read count as what is found in them by their offsets.
@@ -44,7 +33,7 @@ pub fn judge_against(
     if !transaction::is_transaction(peer) {
         return Err(Refusal::PeerTransactionUnreadable);
     }
-    if !are_scripts(lock, udt, source) {
+    if !transaction::are_scripts(lock, udt, source) {
         return Err(Refusal::LentBytesUnreadable);
     }
     if !limits::validate_peer_funding_tx_complexity(ours, peer) {

@@ -4,7 +4,7 @@ use mathlib.Core.List.{List, [], ◌∷◌, ◌++◌, flatten}
 use lib.{Dec.leb, ListN.length, ListN.drop}
 use Rattle.molecule.specs.Layout.{span, part, part_start, field_of, field_start, fix_item, fix_start, item_of, item_start, entry_of, entry_start}
 use Rattle.transaction.specs.Tx.{raw_field, raw_start}
-use Rattle.rules.specs.Outcome.{Outcome, fine, refused, check, ◌>>=◌, ◌>>◌}
+use Rattle.error.specs.Outcome.{Outcome, fine, refused, check, ◌>>=◌, ◌>>◌}
 use Rattle.transaction_lists.specs.Lists.{item_in, place_in}
 use Rattle.transaction_lists.specs.Found.{count_found}
 use Rattle.item_places.specs.declared.Place.{Place}

@@ -16,8 +16,8 @@ use Rattle.molecule.proofs.ItemsLaws.{length-join}
 use Rattle.molecule.proofs.MoleculeLaws.{decode-encode}
 use Rattle.molecule.proofs.Valid.{fixed, has_bytes, valid}
 use Rattle.transaction.specs.Ckb.{Byte32, Bytes, Script}
-use Rattle.rules.specs.Outcome.{Outcome, fine, refused, check, check_with, ◌>>=◌, ◌>>◌}
-use Rattle.rules.specs.Judge.{Figures}
+use Rattle.error.specs.Outcome.{Outcome, fine, refused, check, check_with, ◌>>=◌, ◌>>◌}
+use Rattle.units.specs.Units.{Figures}
 use Rattle.cell_output.specs.CellOutput.{cell_output}
 use Rattle.cell_output.proofs.CellOutputLaws.{output-length}
 use Rattle.list_writer.specs.ListWriter.{fix_list}

@@ -6,7 +6,7 @@ use Rattle.arithmetic.specs.LittleEndian.{to_le}
 use Rattle.units.specs.Units.{in_shannons}
 use Rattle.molecule.specs.Molecule.{Value, encode}
 use Rattle.transaction.specs.Ckb.{Script, CellDep, CellDeps, CellInput, TokenCell, TokenCells}
-use Rattle.rules.specs.Outcome.{Outcome, fine, refused}
+use Rattle.error.specs.Outcome.{Outcome, fine, refused}
 use Rattle.funding_cell.specs.declared.{FundingRequest.FundingRequest}
 use Rattle.base_writer.specs.Answer.{written}
 use Rattle.funding_builder.specs.Base.{Lent, build_base}

@@ -6,7 +6,7 @@ use Rattle.error.specs.declared.{Refusal.Refusal}
 use Rattle.error.specs.Refusal.{number}
 use Rattle.molecule.specs.Molecule.{Value, encode, readable}
 use Rattle.transaction.specs.Ckb.{TokenCell, TokenCells, Transaction}
-use Rattle.rules.specs.Outcome.{Outcome, fine, refused}
+use Rattle.error.specs.Outcome.{Outcome, fine, refused}
 use Rattle.funding_cell.specs.declared.{FundingRequest.FundingRequest}
 use Rattle.funding_cell.specs.FundingCell.{build_funding_cell}
 use Rattle.udt_cells.specs.Change.{Built, udt_inputs_outputs}

@@ -3,7 +3,7 @@ use Rattle.std.specs.Prelude.{ℕ, ◌-◌, ◌^◌, List, [], ◌∷◌, ◌++�
 use Rattle.molecule.specs.Layout.{items_of}
 use Rattle.molecule.specs.Molecule.{encode}
 use Rattle.transaction.specs.Ckb.{Script, TokenCells}
-use Rattle.rules.specs.Outcome.{Outcome, fine, refused}
+use Rattle.error.specs.Outcome.{Outcome, fine, refused}
 use Rattle.cell_output.specs.CellOutput.{cell_output}
 use Rattle.udt_cells.specs.Pick.{Pick, pick_from}
 use Rattle.udt_cells.specs.Change.{Built, built, capacity_for, udt_inputs_outputs}

@@ -6,11 +6,11 @@ use Rattle.molecule.specs.Partial.{only, pick, there, both, each}
 use Rattle.molecule.specs.Items.{join, unwords, offsets, words, cuts, items, split}
 use Rattle.molecule.specs.Molecule.{encode, size, chunks, pieces, one_byte, decode, readable}
 use Rattle.molecule.specs.Layout.{part, word, start, span, field_of, item_count, item_of, fix_count, fix_item, content, entry_of}
-use Rattle.lists.specs.Lists.{eq_bytes, agree, contains, contains_all}
-use Rattle.transaction.specs.Tx.{raw_field, witnesses_of, read_tx, capacity_of, lock_of, type_of, first_of, data_of}
-use Rattle.rules.specs.Cells.{read_ours, record_at, read_records}
-use Rattle.rules.specs.Outcome.{check, check_with, given, ◌>>=◌, ◌>>◌}
-use Rattle.rules.specs.Surplus.{is_empty, total, first, has_amount, amount_of, is_of, surplus}
+use Rattle.lists.specs.Lists.{eq_bytes, agree, contains, contains_all, is_empty}
+use Rattle.transaction.specs.Tx.{raw_field, witnesses_of, read_tx, capacity_of, lock_of, type_of, first_of, data_of, read_ours}
+use Rattle.rules.specs.Cells.{record_at, read_records}
+use Rattle.error.specs.Outcome.{check, check_with, given, ◌>>=◌, ◌>>◌}
+use Rattle.rules.specs.Surplus.{total, first, has_amount, amount_of, is_of, surplus}
 use Rattle.rules.specs.Surplus as figure
 use Rattle.rules.specs.Judge.{judge, judge_against, tx_of, scripts, limits, at_first, has_lock, no_data_untyped, comparison, live, live_cells, spent, token_delta, funding_output_delta, covered, counted, tally, settled, account, token_account, accounts, contribution}
 use Rattle.units.specs.Fee.{required_fee}

@@ -6,8 +6,9 @@ use Rattle.units.specs.declared.{Millis.Millis}
 use Rattle.molecule.specs.Molecule.{option, Value, encode}
 use Rattle.molecule.specs.Layout.{span}
 use Rattle.transaction.specs.Ckb.{Byte32, Script, CellDep, CellInput, CellOutput, Transaction, Record, Records}
-use Rattle.rules.specs.Outcome.{Outcome, fine, refused}
-use Rattle.rules.specs.Judge.{Call, Figures, judge}
+use Rattle.error.specs.Outcome.{Outcome, fine, refused}
+use Rattle.units.specs.Units.{Figures}
+use Rattle.rules.specs.Judge.{Call, judge}
 use Rattle.out_points.specs.declared.{OutPoint.OutPoint}
 use Rattle.hold_records.specs.declared.{Hold.Hold, Held.Held}
 

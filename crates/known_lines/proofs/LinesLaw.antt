@@ -11,11 +11,13 @@ use lib.Dec.{leb, ltb, eqb}
 use Rattle.molecule.specs.Partial.{only}
 use Rattle.molecule.specs.Molecule.{option, readable}
 use Rattle.transaction.specs.Ckb.{Transaction, Records}
-use Rattle.transaction.specs.Tx.{Tx, tx_at, read_tx}
-use Rattle.rules.specs.Cells.{Cell, cells, read_ours, read_records}
-use Rattle.rules.specs.Outcome.{Outcome, fine, refused, check, check_with, given, ◌>>=◌, ◌>>◌}
-use Rattle.rules.specs.Surplus.{total, first, added, capacity_of, amount_of, token_of, is_of, has_amount, is_empty}
-use Rattle.rules.specs.Judge.{Call, Figures, judge, judge_against, scripts, limits, comparison, live, live_cells, spent, growth, unfunded, has_lock, token_delta, funding_output_delta, covered, counted, tally, settled, account, token_account, accounts, contribution}
+use Rattle.transaction.specs.Tx.{Tx, tx_at, read_tx, read_ours}
+use Rattle.rules.specs.Cells.{Cell, cells, read_records}
+use Rattle.error.specs.Outcome.{Outcome, fine, refused, check, check_with, given, ◌>>=◌, ◌>>◌}
+use Rattle.lists.specs.Lists.{is_empty}
+use Rattle.rules.specs.Surplus.{total, first, added, capacity_of, amount_of, token_of, is_of, has_amount}
+use Rattle.units.specs.Units.{Figures}
+use Rattle.rules.specs.Judge.{Call, judge, judge_against, scripts, limits, comparison, live, live_cells, spent, growth, unfunded, has_lock, token_delta, funding_output_delta, covered, counted, tally, settled, account, token_account, accounts, contribution}
 use Rattle.known_lines.specs.Lines.{Line, line, ruled, script_lines, limit_lines, comparison_lines, record_lines, token_delta_lines, delta_lines, covered_lines, cell_lines, tally_lines, settled_lines, token_lines, contribution_lines, spent_lines, all_lines, lines, surpluses, records_at}
 
 -- ---- lines one after another

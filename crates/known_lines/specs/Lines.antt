@@ -3,16 +3,17 @@
 use Rattle.std.specs.Prelude.{ℕ, suc, ◌+◌, ◌-◌, ◌^◌, min, Bool, true, false, cond, not, ◌||◌, List, [], ◌∷◌, ◌++◌, length, drop, leb, ltb, eqb}
 use Prim.Native.String.{String}
 use Rattle.std.proofs.Math.Option.{Option, none, some}
-use Rattle.lists.specs.Lists.{agree, contains_all}
+use Rattle.lists.specs.Lists.{agree, contains_all, is_empty}
 use Rattle.molecule.specs.Molecule.{option, readable}
 use Rattle.molecule.specs.Layout.{span, item_count}
 use Rattle.transaction.specs.Ckb.{Script, Transaction, Records}
 use Rattle.transaction.specs.Tx.{Tx, tx_at}
 use Rattle.units.specs.Fee.{fee_shannons}
 use Rattle.rules.specs.Cells.{Cell, cells, record_at}
-use Rattle.rules.specs.Outcome.{Outcome, check_with, ◌>>◌}
-use Rattle.rules.specs.Surplus.{total, first, added, capacity_of, amount_of, token_of, is_of, has_amount, is_empty}
-use Rattle.rules.specs.Judge.{Call, Figures, at_first, has_lock, no_data_untyped, growth, unfunded, live_cells}
+use Rattle.error.specs.Outcome.{Outcome, check_with, ◌>>◌}
+use Rattle.rules.specs.Surplus.{total, first, added, capacity_of, amount_of, token_of, is_of, has_amount}
+use Rattle.units.specs.Units.{Figures}
+use Rattle.rules.specs.Judge.{Call, at_first, has_lock, no_data_untyped, growth, unfunded, live_cells}
 
 -- what is refused, the number and its values, and whether all is well
 pub record Line : Type 0 where

@@ -4,7 +4,7 @@
 use Rattle.std.specs.Prelude.{ℕ, ◌-◌, List, [], ◌∷◌, ◌++◌, length, take, replicate}
 use Rattle.arithmetic.specs.LittleEndian.{to_le}
 use Rattle.case_file.specs.CaseFile.{case_line}
-use Rattle.rules.specs.Outcome.{fine}
+use Rattle.error.specs.Outcome.{fine}
 use Rattle.base_writer.specs.Answer.{written}
 use Rattle.words.specs.Words.{writing}
 use Rattle.answer_words.specs.Answers.{count_words}

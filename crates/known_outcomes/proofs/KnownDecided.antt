@@ -2,7 +2,7 @@
 use mathlib.Core.Path.{◌≡◌, refl}
 use Prim.Native.Nat.{ℕ}
 use mathlib.Core.List.{List, []}
-use Rattle.rules.specs.Cells.{read_ours}
+use Rattle.transaction.specs.Tx.{read_ours}
 use Rattle.rules.specs.Judge.{Call, judge}
 use Rattle.known_outcomes.specs.Outcomes.{empty_tx}
 use Rattle.known_outcomes.specs.Decided.{decided}

@@ -2,7 +2,7 @@
 use mathlib.Core.Path.{◌≡◌, refl}
 use mathlib.Core.List.{[], ◌∷◌, ◌++◌}
 use lib.ListN.{replicate}
-use Rattle.rules.specs.Outcome.{fine, refused}
+use Rattle.error.specs.Outcome.{fine, refused}
 use Rattle.rules.specs.Judge.{judge}
 use Rattle.negotiation.specs.Updates.{bytes_of, rate_of, calls_of, transaction_at}
 use Rattle.words.specs.Words.{number_of, values_of, surplus_words, set_words, in_words}

@@ -6,11 +6,11 @@ use Prim.Native.Nat.{ℕ}
 use native.Mathlib.Omega.{arith}
 use mathlib.Core.List.{List, [], ◌∷◌}
 use lib.IntN.{ℤ, pos}
-use Rattle.rules.specs.Outcome.{fine, refused}
+use Rattle.error.specs.Outcome.{fine, refused}
 use Rattle.rules.specs.Surplus.{Measure, capacities, expected, surplus}
-use Rattle.rules.specs.Judge.{Call, Figures, tx_of}
+use Rattle.rules.specs.Judge.{Call, tx_of}
 use Rattle.rules.specs.Run.{Entry, Exact, verdicts, in_force, kept, kept_records, steps, carried, sum, update_for_peer, Returned, Ran, stop, call}
-use Rattle.units.specs.Units.{in_shannons, in_tokens}
+use Rattle.units.specs.Units.{in_shannons, in_tokens, Figures}
 use Rattle.error.specs.declared.Refusal.{Refusal}
 use Rattle.error.specs.Refusal.{number, values}
 use Rattle.funding_tx.specs.Negotiation.{Called}

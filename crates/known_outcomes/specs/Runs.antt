@@ -3,7 +3,8 @@ use Rattle.std.specs.Prelude.{ℕ, List, [], ◌∷◌}
 use Rattle.molecule.specs.Molecule.{Value, encode}
 use Rattle.transaction.specs.Ckb.{CellInput, CellOutput}
 use Rattle.rules.specs.Cells.{read_records}
-use Rattle.rules.specs.Judge.{Call, Figures, judge}
+use Rattle.units.specs.Units.{Figures}
+use Rattle.rules.specs.Judge.{Call, judge}
 use Rattle.rules.specs.Run.{Entry, Spent, all_cells}
 use Rattle.known_cases.specs.Cases.{inputs, plain, token, amount, spending, cell, token_type, offer}
 

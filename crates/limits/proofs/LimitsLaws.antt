@@ -7,9 +7,9 @@ use borrow.Author.Tests.{lt-leb, le-leb}
 use lib.ListN.{length}
 use lib.Dec.{leb}
 use Rattle.transaction.specs.Tx.{tx_at}
-use Rattle.rules.specs.Outcome.{check}
+use Rattle.error.specs.Outcome.{check}
 use Rattle.rules.specs.Judge.{limits}
-use Rattle.rules.proofs.Checks.{skip, fail, pass, last_is}
+use Rattle.error.proofs.Checks.{skip, fail, pass, last_is}
 
 -- n is the figure that a line of the limits bounds by k
 over : {k n m : ℕ} → n ≡ m → k < n → leb m k ≡ false

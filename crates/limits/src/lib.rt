@@ -3,7 +3,7 @@
 
 ghost use Rattle.std.specs.Prelude.{◌≡◌, ◌+◌, ◌-◌, ℕ, List, length};
 ghost use Rattle.transaction.specs.Tx.{tx_at};
-ghost use Rattle.rules.specs.Outcome.{check};
+ghost use Rattle.error.specs.Outcome.{check};
 ghost use Rattle.rules.specs.Judge.{limits};
 
 use transaction::fields;

@@ -28,3 +28,7 @@ contains x (y ∷ ys) = cond (eq_bytes x y) true (contains x ys)
 unfoldable pub contains_all : List (List ℕ) → List (List ℕ) → Bool
 contains_all [] ys = true
 contains_all (x ∷ xs) ys = contains x ys && contains_all xs ys
+
+unfoldable pub is_empty : {A : Type 0} → List A → Bool
+is_empty [] = true
+is_empty (x ∷ xs) = false

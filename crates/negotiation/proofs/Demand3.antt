@@ -13,13 +13,14 @@ use Rattle.molecule.specs.Molecule.{readable}
 use Rattle.molecule.specs.Layout.{item_count}
 use Rattle.molecule.proofs.Offsets.{span-length}
 use Rattle.arithmetic.proofs.AmountLaws.{halves_are}
-use Rattle.rules.specs.Outcome.{Outcome, fine, refused}
-use Rattle.rules.specs.Cells.{read_ours}
+use Rattle.error.specs.Outcome.{Outcome, fine, refused}
+use Rattle.transaction.specs.Tx.{read_ours}
 use Rattle.molecule.specs.Partial.{All}
 use Rattle.rules.specs.Surplus.{Measure, capacities, expected}
-use Rattle.rules.specs.Judge.{Call, Figures, tx_of}
+use Rattle.units.specs.Units.{Figures}
+use Rattle.rules.specs.Judge.{Call, tx_of}
 use Rattle.rules.specs.Run.{Entry, Exact, update_for_peer, carried, sum, verdicts, in_force, next, forces}
-use Rattle.rules.proofs.Tests.{never, fine_inj, check-fine}
+use Rattle.error.proofs.Passed.{never, fine_inj, check-fine}
 use Rattle.rules.proofs.Accept as accept
 use Rattle.rules.proofs.Law.{exact, kept-inputs, kept-records, stay-readable}
 use Rattle.funding_tx.proofs.Demand3.{all_one}

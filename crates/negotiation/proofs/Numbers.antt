@@ -5,14 +5,15 @@ use mathlib.Core.Bool.{Bool, true, false, cond}
 use mathlib.Core.List.{List, [], ◌∷◌}
 use mathlib.Core.Option.{Option, none, some}
 use native.Mathlib.Omega.{arith}
-use Rattle.transaction.specs.Tx.{Tx, read_tx}
-use Rattle.rules.specs.Outcome.{Outcome, fine, refused, check, check_with, given, ◌>>=◌, ◌>>◌}
-use Rattle.rules.specs.Cells.{Cell, read_ours, read_records}
-use Rattle.rules.specs.Surplus.{is_of, is_empty, added}
+use Rattle.transaction.specs.Tx.{Tx, read_tx, read_ours}
+use Rattle.error.specs.Outcome.{Outcome, fine, refused, check, check_with, given, ◌>>=◌, ◌>>◌}
+use Rattle.rules.specs.Cells.{Cell, read_records}
+use Rattle.lists.specs.Lists.{is_empty}
+use Rattle.rules.specs.Surplus.{is_of, added}
 use Rattle.rules.specs.Judge.{Call, limits, comparison, live, live_cells, spent, token_delta, funding_output_delta, covered, counted, tally, settled, account, token_account, accounts, contribution, scripts, judge_against, judge}
 use Rattle.rules.specs.Run.{next, verdicts, update_for_peer}
 use Rattle.molecule.specs.Partial.{All}
-use Rattle.rules.proofs.Tests.{never}
+use Rattle.error.proofs.Passed.{never}
 
 pub record Numbered {A : Type 0} (o : Outcome A) : Type 0 where
   pub positive : (n : ℕ) (l : List ℕ) → o ≡ refused n l → 0 < n

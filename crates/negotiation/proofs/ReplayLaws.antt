@@ -12,10 +12,10 @@ use Rattle.molecule.specs.Molecule.{readable}
 use Rattle.molecule.specs.Layout.{item_count}
 use Rattle.error.specs.declared.Refusal.{Refusal}
 use Rattle.error.specs.Refusal.{number, values}
-use Rattle.rules.specs.Judge.{Figures}
-use Rattle.rules.specs.Outcome.{Outcome, fine, refused, check, check_with, ◌>>◌}
+use Rattle.units.specs.Units.{Figures}
+use Rattle.error.specs.Outcome.{Outcome, fine, refused, check, check_with, ◌>>◌}
 use Rattle.rules.specs.Run.{verdicts, update_for_peer}
-use Rattle.rules.proofs.Tests.{never}
+use Rattle.error.proofs.Passed.{never}
 use Rattle.negotiation.specs.Updates.{Updates, calls_of}
 use Rattle.negotiation.specs.Replay.{replay_of, leaves, answered}
 

@@ -15,8 +15,9 @@ use Rattle.molecule.proofs.WriteLaws.{none, then, splice_zero, splice-length}
 use Rattle.lists.proofs.SpanLaws.{span-on, span-end, span-whole}
 use Rattle.transaction.specs.Ckb.{Transaction}
 use Rattle.transaction.specs.Tx.{tx_at}
-use Rattle.rules.specs.Outcome.{Outcome, fine, refused}
-use Rattle.rules.specs.Judge.{Call, Figures, judge, judge_against}
+use Rattle.error.specs.Outcome.{Outcome, fine, refused}
+use Rattle.units.specs.Units.{Figures}
+use Rattle.rules.specs.Judge.{Call, judge, judge_against}
 use Rattle.rules.specs.Told.{Update, told, in_force_of}
 use Rattle.rules.specs.Run.{Entry, handed_back, next, verdicts, in_force, update_for_peer}
 use Rattle.rules.proofs.Accept.{readable-next}

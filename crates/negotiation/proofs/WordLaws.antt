@@ -5,8 +5,8 @@ use mathlib.Core.List.{List, [], ◌∷◌, ◌++◌}
 use native.Mathlib.Omega.{arith}
 use lib.ListN.{length, drop, get_or}
 use Rattle.molecule.specs.Write.{splice}
-use Rattle.rules.specs.Outcome.{Outcome}
-use Rattle.rules.specs.Judge.{Figures}
+use Rattle.error.specs.Outcome.{Outcome}
+use Rattle.units.specs.Units.{Figures}
 use Rattle.rules.specs.Told.{Update, told}
 use Rattle.words.specs.Words.{four_of, set_words, number_of, values_of, in_words, surplus_words}
 use Rattle.negotiation.specs.Words.{words, all_words}

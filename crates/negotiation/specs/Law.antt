@@ -4,10 +4,11 @@ use Rattle.std.specs.Prelude.{◌≡◌, ℕ, zero, suc, ◌+◌, ◌*◌, ◌^�
 use Rattle.std.proofs.Math.Option.{none, some}
 use Rattle.molecule.specs.Molecule as molecule
 use Rattle.molecule.specs.Layout.{item_count}
-use Rattle.rules.specs.Outcome.{Outcome, fine, refused}
-use Rattle.rules.specs.Cells.{read_ours}
+use Rattle.error.specs.Outcome.{Outcome, fine, refused}
+use Rattle.transaction.specs.Tx.{read_ours}
 use Rattle.rules.specs.Surplus.{capacities, expected}
-use Rattle.rules.specs.Judge.{Figures, tx_of}
+use Rattle.units.specs.Units.{Figures}
+use Rattle.rules.specs.Judge.{tx_of}
 use Rattle.rules.specs.Run.{Exact, update_for_peer, verdicts, in_force, kept, kept_records, inputs_of, records_of}
 use Rattle.negotiation.specs.Updates.{Updates, calls_of, transaction_at}
 use Rattle.words.specs.Words.{four_of}

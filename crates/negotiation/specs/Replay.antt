@@ -3,9 +3,8 @@
 use Rattle.std.specs.Prelude.{ℕ, ◌+◌, ◌*◌, List, [], ◌∷◌, ◌++◌, length, drop, leb, Result}
 use Rattle.molecule.specs.Molecule.{readable}
 use Rattle.molecule.specs.Layout.{item_count}
-use Rattle.rules.specs.Outcome.{Outcome, fine, refused, check, ◌>>◌}
-use Rattle.rules.specs.Judge.{Figures}
-use Rattle.rules.specs.Told.{told_by}
+use Rattle.error.specs.Outcome.{Outcome, fine, refused, check, ◌>>◌, told_by}
+use Rattle.units.specs.Units.{Figures}
 use Rattle.rules.specs.Run.{handed_back, carried, sum, verdicts, update_for_peer}
 use Rattle.error.specs.declared.Refusal.{Refusal}
 use Rattle.negotiation.specs.declared.Summary as replay

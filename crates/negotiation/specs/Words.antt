@@ -1,7 +1,7 @@
 -- The answers to updates in words of 64 bits, five for each (ours: docs/DECISIONS.md, "Lists of updates").
 use Rattle.std.specs.Prelude.{ℕ, List, [], ◌∷◌, ◌++◌}
-use Rattle.rules.specs.Outcome.{Outcome}
-use Rattle.rules.specs.Judge.{Figures}
+use Rattle.error.specs.Outcome.{Outcome}
+use Rattle.units.specs.Units.{Figures}
 use Rattle.words.specs.Words.{four_of, number_of, values_of, surplus_words}
 
 -- the number, 0 for an acceptance, and four words for the surpluses or for the values of the refusal

@@ -7,7 +7,7 @@ ghost use Rattle.molecule.specs.Layout.{inside, item_count};
 ghost use Rattle.molecule.specs.Write.{splice};
 ghost use Rattle.transaction.specs.Ckb.{Transaction};
 ghost use Rattle.rules.specs.Judge.{judge};
-ghost use Rattle.rules.specs.Outcome.{fine};
+ghost use Rattle.error.specs.Outcome.{fine};
 ghost use Rattle.rules.specs.Told.{told, in_force_of};
 ghost use Rattle.rules.specs.Run.{verdicts, update_for_peer};
 ghost use Rattle.negotiation.specs.Updates.{Updates, bytes_of, bytes_start, rate_of, call_at, calls_of, transaction_at, place_at};

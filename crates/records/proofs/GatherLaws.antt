@@ -22,14 +22,13 @@ use Rattle.lists.proofs.SpanLaws.{span-on, span-end, span-whole}
 use Rattle.transaction.specs.Ckb.{Record, Records}
 use Rattle.transaction.proofs.ListLaws.{option-some}
 use Rattle.rules.specs.Cells.{Cell, record_cell, record_at, read_records}
-use Rattle.rules.specs.Outcome.{Outcome, fine, refused, given, check_with, ◌>>◌, ◌>>=◌}
+use Rattle.error.specs.Outcome.{Outcome, fine, refused, given, check_with, ◌>>◌, ◌>>=◌, refusal, told_by}
 use Rattle.rules.specs.Surplus.{total, capacity_of}
 use Rattle.rules.specs.Judge.{has_lock, live, live_cells, tally}
 use Rattle.rules.proofs.CellLaws.{records_yes, records_no}
-use Rattle.rules.proofs.Tests.{never, check_with-fine}
+use Rattle.error.proofs.Passed.{never, check_with-fine}
 use Rattle.error.specs.declared.Refusal.{Refusal}
 use Rattle.error.specs.Refusal.{number, values}
-use Rattle.rules.specs.Told.{refusal, told_by}
 use Rattle.accounts.specs.Paid.{and_cell}
 use Rattle.accounts.proofs.CapacityLaws.{Sums, sums-more, sums-end}
 use Rattle.records.specs.Resolved.{brought_by, gathered, or_unreadable}

@@ -1,5 +1,5 @@
 -- Laws of what the records bring in, one for each way out of the functions but the walk.
-use Rattle.rules.specs.Told.{refusal, told_by}
+use Rattle.error.specs.Outcome.{refusal, told_by, Outcome, fine, refused, given, check, check_with, ◌>>◌, ◌>>=◌}
 use Rattle.std.proofs.Common.{Result}
 use mathlib.Core.Path.{◌≡◌, refl, sym, ap, ap₂, ◌∙◌}
 use Prim.Native.Nat.{ℕ, ◌+◌, ◌-◌, ◌<◌}
@@ -18,7 +18,6 @@ use Rattle.lists.specs.Lists.{eq_bytes}
 use Rattle.transaction.specs.Ckb.{Records}
 use Rattle.transaction.specs.Tx.{tx_at, raw_field, lock_of, first_of}
 use Rattle.rules.specs.Cells.{record_cell, record_at, read_records}
-use Rattle.rules.specs.Outcome.{Outcome, fine, refused, given, check, check_with, ◌>>◌, ◌>>=◌}
 use Rattle.rules.specs.Judge.{has_lock, live, live_cells, spent}
 use Rattle.rules.proofs.CellLaws.{records_yes, records_no}
 use Rattle.error.specs.declared.Refusal.{Refusal}

@@ -4,11 +4,10 @@ use Rattle.std.proofs.Math.Option.{Option}
 use Rattle.units.specs.Units.{shannon_count, token_count}
 use Rattle.error.specs.declared.Refusal.{Refusal}
 use Rattle.transaction.specs.Tx.{Tx}
-use Rattle.rules.specs.Outcome.{Outcome, fine, given, ◌>>=◌, ◌>>◌}
+use Rattle.error.specs.Outcome.{Outcome, fine, given, ◌>>=◌, ◌>>◌, refusal, told_by}
 use Rattle.rules.specs.Cells.{Cell}
 use Rattle.rules.specs.Surplus.{total, capacity_of}
 use Rattle.rules.specs.Judge.{live, live_cells, spent, tally}
-use Rattle.rules.specs.Told.{refusal, told_by}
 use Rattle.accounts.specs.declared.Brought as accounts
 
 -- the sum of capacities, and that of tokens, if there is one

@@ -7,7 +7,7 @@ ghost use Rattle.transaction.specs.Ckb.{Record};
 ghost use Rattle.transaction.specs.Tx.{tx_at};
 ghost use Rattle.rules.specs.Cells.{read_records, record_cell};
 ghost use Rattle.rules.specs.Judge.{has_lock};
-ghost use Rattle.rules.specs.Told.{refusal, told_by};
+ghost use Rattle.error.specs.Outcome.{refusal, told_by};
 ghost use Rattle.records.specs.Resolved.{brought_by, or_unreadable, gathered, brings};
 
 use accounts::{Brought, capacity, token};

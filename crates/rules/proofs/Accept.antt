@@ -7,19 +7,22 @@ use mathlib.Core.List.{List, [], ◌∷◌}
 use mathlib.Core.Option.{Option, none, some, none-ne-some}
 use lib.ListN.{length, drop}
 use lib.Dec.{T, leb, ltb, eqb, eqb→eq, leb→le}
-use Rattle.rules.specs.Outcome.{Outcome, fine, refused, check, ◌>>◌}
-use Rattle.transaction.specs.Tx.{Tx, tx_at, read_tx}
-use Rattle.rules.specs.Cells.{Cell, read_ours, read_records, cells}
+use Rattle.error.specs.Outcome.{Outcome, fine, refused, check, ◌>>◌}
+use Rattle.transaction.specs.Tx.{Tx, tx_at, read_tx, read_ours}
+use Rattle.rules.specs.Cells.{Cell, read_records, cells}
 use Rattle.molecule.specs.Partial.{only, All}
 use Rattle.molecule.specs.Molecule.{option, readable}
 use Rattle.molecule.proofs.ReadableLaws.{readable-option}
 use Rattle.transaction.specs.Ckb.{Transaction}
-use Rattle.rules.specs.Surplus.{total, first, added, Measure, capacities, capacity_of, amount_of, token_of, is_of, has_amount, expected, is_empty}
-use Rattle.rules.specs.Judge.{Call, Figures, tx_of, judge, judge_against, spent, comparison, live, live_cells, counted, tally, settled, account, growth, token_delta, funding_output_delta, covered, token_account, accounts, contribution}
+use Rattle.lists.specs.Lists.{is_empty}
+use Rattle.rules.specs.Surplus.{total, first, added, Measure, capacities, capacity_of, amount_of, token_of, is_of, has_amount, expected}
+use Rattle.units.specs.Units.{Figures}
+use Rattle.rules.specs.Judge.{Call, tx_of, judge, judge_against, spent, comparison, live, live_cells, counted, tally, settled, account, growth, token_delta, funding_output_delta, covered, token_account, accounts, contribution}
 use Rattle.rules.specs.Run.{all_cells, handed_back, next, update_for_peer}
 use Rattle.rules.proofs.Telescope.{prefix_length}
 use Rattle.rules.specs.Step.{Settled, with_data, Extends, Step}
-use Rattle.rules.proofs.Tests.{agree_prefix, drop_more, fine_inj, bind_fine, check-fine, check_with-fine, check_last, then-fine, given-fine, never}
+use Rattle.error.proofs.Passed.{fine_inj, bound-fine, check-fine, check_with-fine, check_last, then-fine, given-fine, never}
+use Rattle.rules.proofs.Tests.{agree_prefix, drop_more}
 
 -- ---- comparison
 
@@ -78,7 +81,7 @@ tally-total : (type : List ℕ) (sum : ℕ) (cs : List Cell) (t : ℕ) → tally
 unfolding tally total
 tally-total type sum [] t e = let h : sum ≡ t = fine_inj e in (omega arith, tt)
 tally-total type sum (c ∷ cs) t e =
-    let (next, n, e₁) = bind_fine _ _ _ e in
+    let (next, n, e₁) = bound-fine _ _ _ e in
     let (h, read) = counted_is type sum c next n in
     let (p, q) = tally-total type next cs t e₁ in
     (omega (arith, p, h), (read, q))
@@ -107,8 +110,8 @@ accounted : (type : List ℕ) (growth : ℕ) (records outs : List Cell) (paid : 
     → Accounted type growth records outs paid
 unfolding account settled
 accounted type growth records outs paid e =
-    let (gained, g, e₁) = bind_fine _ _ _ e in
-    let (spent, s, e₂) = bind_fine _ _ _ e₁ in
+    let (gained, g, e₁) = bound-fine _ _ _ e in
+    let (spent, s, e₂) = bound-fine _ _ _ e₁ in
     let (small, e₃) = check-fine _ _ _ _ e₂ in
     let (enough, e₄) = check-fine _ _ _ _ e₃ in
     let (p, _) = tally-total type 0 records gained g in
@@ -191,7 +194,7 @@ grown type ours peer delta e =
     let (there, e₁) = check-fine _ _ _ _ e in
     let (dataThere, e₂) = check-fine _ _ _ _ e₁ in
     let (capacityGrows, e₃) = check-fine _ _ _ _ e₂ in
-    let (token, t, e₄) = bind_fine _ _ _ e₃ in
+    let (token, t, e₄) = bound-fine _ _ _ e₃ in
     let (amountGrows, is) = expected-grown type ours peer token t in
     record {
       capacity = leb→le _ _ capacityGrows;
@@ -217,9 +220,9 @@ contributed : (type : List ℕ) (ours peer : Tx) (records : List Cell) (rate byt
     → Balanced capacities ours peer records s.capacity × Balanced (expected type) ours peer records s.token
 unfolding contribution accounts
 contributed type ours peer records rate bytes s e =
-    let (delta, d, e₁) = bind_fine _ _ _ e in
-    let (capacity, c, e₂) = bind_fine _ _ _ e₁ in
-    let (token, t, e₃) = bind_fine _ _ _ e₂ in
+    let (delta, d, e₁) = bound-fine _ _ _ e in
+    let (capacity, c, e₂) = bound-fine _ _ _ e₁ in
+    let (token, t, e₃) = bound-fine _ _ _ e₂ in
     let paid : capacity ≡ s.capacity = ap (λ (r : Figures). r.capacity) (fine_inj e₃) in
     let tokenPaid : token ≡ s.token = ap (λ (r : Figures). r.token) (fine_inj e₃) in
     let g : Grown type ours peer delta = grown type ours peer delta d in
@@ -256,7 +259,7 @@ examined : (ours peer : Tx) (lent : Option (List (Option Cell))) (source : List 
     → spent source ours peer lent ≡ fine cs → Examined ours peer lent cs
 unfolding spent
 examined ours peer lent source cs more e =
-    let (rs, r, e₁) = bind_fine _ _ _ e in
+    let (rs, r, e₁) = bound-fine _ _ _ e in
     let (count, e₂) = check-fine _ _ _ _ e₁ in
     let (alive, e₃) = then-fine _ _ _ e₂ in
     let are : live_cells rs ≡ cs = fine_inj e₃ in
@@ -287,12 +290,12 @@ pub accepted : (lock type oursBytes : List ℕ) (call : Call) (s : Figures) → 
     → Accepted type oursBytes call s
 unfolding judge judge_against
 accepted lock type oursBytes call s e =
-    let (ours, o, e₁) = bind_fine _ _ _ e in
-    let (peer, p, e₂) = bind_fine _ _ _ e₁ in
+    let (ours, o, e₁) = bound-fine _ _ _ e in
+    let (peer, p, e₂) = bound-fine _ _ _ e₁ in
     let (scripts, e₃) = then-fine _ _ _ e₂ in
     let (within, e₄) = then-fine _ _ _ e₃ in
     let (compares, e₅) = then-fine _ _ _ e₄ in
-    let (cs, x, e₆) = bind_fine _ _ _ e₅ in
+    let (cs, x, e₆) = bound-fine _ _ _ e₅ in
     let (capacityPaid, tokenPaid) = contributed type ours peer cs call.rate _ s e₆ in
     let readO : read_ours oursBytes ≡ some ours = given-fine 1 _ _ o in
     let readP : read_ours call.peer ≡ some peer = peer_read call.peer peer (given-fine 2 _ _ p) in

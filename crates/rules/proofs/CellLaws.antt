@@ -14,18 +14,14 @@ use Rattle.molecule.specs.Molecule.{option, readable}
 use Rattle.molecule.proofs.LayoutLaws.{entry_past}
 use Rattle.lists.proofs.SpanLaws.{span-on, span-whole, span-drop}
 use Rattle.transaction.specs.Ckb.{Transaction, Records}
-use Rattle.transaction.specs.Tx.{tx_at, raw_field, read_tx}
-use Rattle.rules.specs.Cells.{Cell, pair, cells, read_ours, record_at, read_records}
-use Rattle.rules.specs.Surplus.{is_empty, added}
+use Rattle.transaction.specs.Tx.{tx_at, raw_field, read_tx, read_ours}
+use Rattle.rules.specs.Cells.{Cell, pair, cells, record_at, read_records}
+use Rattle.lists.specs.Lists.{is_empty}
+use Rattle.rules.specs.Surplus.{added}
 
 -- output i of a transaction with its data
 unfoldable pub cell_at : List ℕ → ℕ → Cell
 cell_at s i = record { output = item_of (raw_field s 4) i; cell_data = entry_of (raw_field s 5) i }
-
-pub empty-is : {A : Type 0} (l : List A) → is_empty l ≡ eqb (length l) 0
-unfolding is_empty
-empty-is [] = refl
-empty-is (x ∷ xs) = sym (ne_eqb (length (x ∷ xs)) 0 (λ e. omega arith))
 
 pair-span : (f g : ℕ → List ℕ) (i k l : ℕ) → ((j : ℕ) → i + l ≤ j → g j ≡ [])
     → pair (span f i k) (span g i l) ≡ span (λ j. record { output = f j; cell_data = g j }) i k
@@ -60,22 +56,6 @@ added_is o p {k} e =
     ∙ (let z : 0 + k ≡ k = omega arith in ap (λ (j : ℕ). span (cell_at p) j (item_count (raw_field p 4) - k)) z)
 
 -- ---- what is read
-
-pub read_yes : (s : List ℕ) → readable Transaction s ≡ true → read_tx s ≡ some (tx_at s)
-unfolding read_tx only
-read_yes s h = rw h
-
-pub read_no : (s : List ℕ) → readable Transaction s ≡ false → read_tx s ≡ none
-unfolding read_tx only
-read_no s h = rw h
-
-pub ours_yes : (s : List ℕ) → readable (option Transaction) s ≡ true → read_ours s ≡ some (tx_at s)
-unfolding read_ours only
-ours_yes s h = rw h
-
-pub ours_no : (s : List ℕ) → readable (option Transaction) s ≡ false → read_ours s ≡ none
-unfolding read_ours only
-ours_no s h = rw h
 
 pub records_yes : (s : List ℕ) → readable Records s ≡ true → read_records s ≡ some (span (record_at s) 0 (item_count s))
 unfolding read_records only

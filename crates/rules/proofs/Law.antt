@@ -5,9 +5,9 @@ use Prim.Native.Nat.{ℕ}
 use mathlib.Core.List.{List, [], ◌∷◌, ◌++◌, map}
 use mathlib.Core.Option.{some}
 use lib.IntN.{pos}
-use Rattle.rules.specs.Outcome.{Outcome, fine, refused}
-use Rattle.transaction.specs.Tx.{Tx}
-use Rattle.rules.specs.Cells.{Cell, read_ours, cells}
+use Rattle.error.specs.Outcome.{Outcome, fine, refused}
+use Rattle.transaction.specs.Tx.{Tx, read_ours}
+use Rattle.rules.specs.Cells.{Cell, cells}
 use Rattle.molecule.specs.Partial.{All}
 use Rattle.rules.specs.Surplus.{total, first, added, Measure, surplus}
 use Rattle.rules.specs.Judge.{tx_of}

@@ -1,8 +1,6 @@
 pub mod Accept
 pub mod CellLaws
-pub mod Checks
 pub mod Law
-pub mod Outcomes
 pub mod Telescope
 pub mod Tests
 pub mod Whole

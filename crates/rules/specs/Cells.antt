@@ -20,10 +20,6 @@ pair (o ∷ os) ds = record { output = o; cell_data = get_or ds 0 [] } ∷ pair 
 abbrev pub cells : Tx → List Cell
 cells t = pair t.outputs t.outputs_data
 
--- our transaction, which may be none
-unfoldable pub read_ours : List ℕ → Option Tx
-read_ours s = only (readable (option Transaction) s) (some (tx_at s))
-
 -- the cell of a record's bytes
 abbrev pub record_cell : List ℕ → Cell
 record_cell r = record { output = first_of r; cell_data = data_of r }

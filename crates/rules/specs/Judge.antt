@@ -1,14 +1,14 @@
 -- update_for_peer: the checks of docs/RULES.md, "A peer's update arrives", a line for each, in table order and within a row as written.
 use Rattle.std.specs.Prelude.{ℕ, suc, ◌+◌, ◌-◌, ◌^◌, min, Bool, true, cond, not, ◌&&◌, ◌||◌, List, [], ◌∷◌, length, drop, leb, ltb, eqb}
 use Rattle.std.proofs.Math.Option.{Option, none, some, get_or}
-use Rattle.lists.specs.Lists.{eq_bytes, agree, contains_all}
+use Rattle.lists.specs.Lists.{eq_bytes, agree, contains_all, is_empty}
 use Rattle.molecule.specs.Molecule.{option, readable}
 use Rattle.transaction.specs.Ckb.{Script}
-use Rattle.units.specs.Fee.{fee_shannons}
-use Rattle.transaction.specs.Tx.{Tx, tx_at, lock_of, read_tx}
-use Rattle.rules.specs.Cells.{Cell, cells, read_ours, read_records}
-use Rattle.rules.specs.Outcome.{Outcome, fine, refused, check, check_with, given, ◌>>=◌, ◌>>◌}
-use Rattle.rules.specs.Surplus.{total, first, added, capacity_of, amount_of, is_of, has_amount, is_empty}
+use Rattle.units.specs.{Fee.fee_shannons, Units.Figures}
+use Rattle.transaction.specs.Tx.{Tx, tx_at, lock_of, read_tx, read_ours}
+use Rattle.rules.specs.Cells.{Cell, cells, read_records}
+use Rattle.error.specs.Outcome.{Outcome, fine, refused, check, check_with, given, ◌>>=◌, ◌>>◌}
+use Rattle.rules.specs.Surplus.{total, first, added, capacity_of, amount_of, is_of, has_amount}
 
 -- what a call brings
 pub record Call : Type 0 where
@@ -16,11 +16,6 @@ pub record Call : Type 0 where
   pub records : List ℕ
   pub source : List ℕ
   pub rate : ℕ
-
--- a figure in shannons and one in tokens: what an acceptance carries, and the growth of output 0
-pub record Figures : Type 0 where
-  pub capacity : ℕ
-  pub token : ℕ
 
 -- the transaction of our bytes; where they can't be read, that of version 0 and empty lists
 unfoldable pub tx_of : List ℕ → Tx

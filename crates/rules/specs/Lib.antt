@@ -1,6 +1,5 @@
 pub mod Cells
 pub mod Judge
-pub mod Outcome
 pub mod Run
 pub mod Step
 pub mod Surplus

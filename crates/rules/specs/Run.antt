@@ -1,11 +1,12 @@
 -- A list of calls (docs/RULES.md, "The three demands", 3, and "What the peer put in"): each is judged against the transaction in force that the one before left.
 use Rattle.std.specs.Prelude.{ℕ, ◌+◌, ◌≡◌, List, [], ◌∷◌, ◌++◌, map, length, drop, ℤ, pos}
 use Rattle.std.proofs.Math.Option.{Option, none, some}
-use Rattle.rules.specs.Outcome.{Outcome, fine, refused}
+use Rattle.error.specs.Outcome.{Outcome, fine, refused}
 use Rattle.rules.specs.Cells.{Cell, read_records}
 use Rattle.molecule.specs.Partial.{All}
 use Rattle.rules.specs.Surplus.{Measure, surplus}
-use Rattle.rules.specs.Judge.{Call, Figures, judge, tx_of, live_cells}
+use Rattle.units.specs.Units.{Figures}
+use Rattle.rules.specs.Judge.{Call, judge, tx_of, live_cells}
 
 -- An entry judges calls C against our bytes, and its acceptances carry S.
 pub record Entry (C S : Type 0) : Type 0 where

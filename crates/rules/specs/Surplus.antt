@@ -1,14 +1,10 @@
 -- Figures of cells, added outputs, and the surplus in whole numbers (docs/RULES.md, "What the peer put in").
 use Rattle.std.specs.Prelude.{ℕ, ◌+◌, max, Bool, true, false, cond, List, [], ◌∷◌, length, take, drop, leb, ℤ, pos, ◌-ℤ◌}
 use Rattle.arithmetic.specs.LittleEndian.{le}
-use Rattle.lists.specs.Lists.{eq_bytes}
+use Rattle.lists.specs.Lists.{eq_bytes, is_empty}
 use Rattle.transaction.specs.Tx.{Tx, type_of}
 use Rattle.transaction.specs.Tx as tx
 use Rattle.rules.specs.Cells.{Cell, cells}
-
-unfoldable pub is_empty : {A : Type 0} → List A → Bool
-is_empty [] = true
-is_empty (x ∷ xs) = false
 
 -- the sum of a figure over cells
 unfoldable pub total : (Cell → ℕ) → List Cell → ℕ

@@ -1,19 +1,10 @@
 -- The paper's number and values for each answer (docs/RULES.md, "The form each place takes").
 use Rattle.std.specs.Prelude.{Result, Ok, Err}
-use Rattle.units.specs.Units.{shannon_count, token_count}
+use Rattle.units.specs.Units.{shannon_count, token_count, Figures}
 use Rattle.error.specs.declared.Refusal.{Refusal}
 use Rattle.error.specs.Refusal.{number, values}
 use Rattle.rules.specs.declared.Surplus.{Surplus}
-use Rattle.rules.specs.Outcome.{Outcome, fine, refused}
-use Rattle.rules.specs.Judge.{Figures}
-
-abbrev pub refusal : {A : Type 0} → Refusal → Outcome A
-refusal e = refused (number e) (values e)
-
--- what a call answers, with its value in numbers
-abbrev pub told_by : {T A : Type 0} → (T → A) → Result T Refusal → Outcome A
-told_by f (Ok x) = fine (f x)
-told_by f (Err e) = refusal e
+use Rattle.error.specs.Outcome.{Outcome, told_by}
 
 -- what `update_for_peer` answers
 abbrev pub Update : Type 0

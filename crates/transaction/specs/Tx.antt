@@ -1,12 +1,12 @@
 -- What the bytes of a transaction and of its parts say (RFC 0019). Everything here is total; of bytes that are no transaction it says what the
 -- readers answer.
-use Rattle.std.specs.Prelude.{ℕ, ◌+◌, List}
+use Rattle.std.specs.Prelude.{ℕ, ◌+◌, Bool, ◌&&◌, List}
 use Rattle.std.proofs.Math.Option.{Option, some}
 use Rattle.arithmetic.specs.LittleEndian.{u32_at, u64_at}
 use Rattle.molecule.specs.Partial.{only}
-use Rattle.molecule.specs.Molecule.{readable}
+use Rattle.molecule.specs.Molecule.{option, readable}
 use Rattle.molecule.specs.Layout.{part, field_of, field_start, items_of, fix_items, content, entries_of}
-use Rattle.transaction.specs.Ckb.{Transaction}
+use Rattle.transaction.specs.Ckb.{Script, Transaction}
 
 -- outputs, deps and inputs are their bytes; a data entry and a witness is what it holds
 pub record Tx : Type 0 where
@@ -42,6 +42,14 @@ tx_at s = record {
 
 unfoldable pub read_tx : List ℕ → Option Tx
 read_tx s = only (readable Transaction s) (some (tx_at s))
+
+-- our transaction, which may be none
+unfoldable pub read_ours : List ℕ → Option Tx
+read_ours s = only (readable (option Transaction) s) (some (tx_at s))
+
+-- the expected funding lock, the expected type, which may be none, and our source lock
+abbrev pub are_scripts : List ℕ → List ℕ → List ℕ → Bool
+are_scripts lock type source = readable Script lock && readable (option Script) type && readable Script source
 
 -- ---- the args of a script
 

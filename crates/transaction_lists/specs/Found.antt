@@ -6,8 +6,7 @@ use lib.{Dec.ltb, ListN.length}
 use Rattle.molecule.specs.Molecule.{readable}
 use Rattle.transaction.specs.Ckb.{Transaction}
 use Rattle.transaction.specs.Tx.{tx_at}
-use Rattle.rules.specs.Outcome.{Outcome, fine, check, ◌>>◌}
-use Rattle.rules.specs.Told.{told_by}
+use Rattle.error.specs.Outcome.{Outcome, fine, check, ◌>>◌, told_by}
 use Rattle.transaction_lists.specs.Lists.{list_in}
 
 unfoldable pub version_found : List ℕ → Outcome ℕ

@@ -20,8 +20,8 @@ use Rattle.molecule.proofs.ReadableLaws.{dynamic, below}
 use Rattle.molecule.proofs.WriteLaws.{put_yes, splice_zero}
 use Rattle.transaction.specs.Ckb.{Script, TokenCells}
 use Rattle.transaction.specs.Tx.{args_of}
-use Rattle.rules.specs.Outcome.{fine, check, check_with, ◌>>◌}
-use Rattle.rules.proofs.Tests.{is_true, check-fine, check_last}
+use Rattle.error.specs.Outcome.{fine, check, check_with, ◌>>◌}
+use Rattle.error.proofs.Passed.{is_true, check-fine, check_last}
 use Rattle.cell_output.specs.CellOutput.{cell_output}
 use Rattle.udt_cells.specs.Change.{capacity_for, lent}
 use Rattle.cell_output.proofs.CellOutputLaws.{output-length}

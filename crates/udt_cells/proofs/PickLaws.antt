@@ -10,8 +10,7 @@ use Rattle.units.specs.Units.{in_tokens, token_count}
 use Rattle.units.proofs.CountLaws.{tokens-left, tokens-enough, tokens_lacking}
 use Rattle.molecule.specs.Layout.{span, item_count, item_of, items_of}
 use Rattle.lists.proofs.SpanLaws.{span-on, span-end, span-whole}
-use Rattle.rules.specs.Outcome.{Outcome, fine, ◌>>=◌}
-use Rattle.rules.specs.Told.{told_by, refusal}
+use Rattle.error.specs.Outcome.{Outcome, fine, ◌>>=◌, told_by, refusal}
 use Rattle.udt_cells.specs.Pick.{Pick, plus_cell, enough_or, pick_from}
 
 -- where the total is enough, no cell is looked at

@@ -9,8 +9,8 @@ use lib.ListN.{take}
 use lib.Dec.{leb}
 use Rattle.arithmetic.specs.LittleEndian.{le}
 use Rattle.transaction.specs.Tx.{data_of}
-use Rattle.rules.specs.Outcome.{Outcome, fine, ◌>>=◌}
-use Rattle.rules.proofs.Tests.{never, fine_inj, bind_fine, check-fine}
+use Rattle.error.specs.Outcome.{Outcome, fine, ◌>>=◌}
+use Rattle.error.proofs.Passed.{never, fine_inj, bound-fine, check-fine}
 use Rattle.udt_cells.specs.Pick.{Pick, plus_cell, enough_or, pick_from}
 use Rattle.udt_cells.proofs.PickLaws.{enough}
 
@@ -65,7 +65,7 @@ took wanted taken total (cell ∷ cells) p e = by (leb wanted total) refl (λ su
         → Took wanted taken total (cell ∷ cells) p
     by true f later = stop wanted taken total (cell ∷ cells) p (leb-true wanted total f) (rw f at e)
     by false f later =
-        let (sum, s, g) = bind_fine (plus_cell total cell) (λ sum. pick_from wanted (taken + 1) sum cells) p (rw f at e) in
+        let (sum, s, g) = bound-fine (plus_cell total cell) (λ sum. pick_from wanted (taken + 1) sum cells) p (rw f at e) in
         let t = later sum g in
         let n : sum ≡ total + le (take 16 (data_of cell)) = plus_fine total cell sum s in
         record {

@@ -1,7 +1,7 @@
 -- What closes the goals of this crate's functions.
 use Rattle.std.proofs.Common.{rules}
-use Rattle.rules.proofs.CellLaws.{empty-is}
-use Rattle.rules.proofs.Outcomes.{outcomes}
+use Rattle.lists.proofs.EqualLaws.{empty-is}
+use Rattle.error.proofs.Outcomes.{outcomes}
 use Rattle.udt_cells.proofs.PickLaws.{pick-none, pick-enough, pick_short, pick-stop, pick_more}
 use Rattle.udt_cells.proofs.ChangeLaws.{capacity-is, capacity-below, lent_script, lent-option}
 

@@ -7,8 +7,7 @@ use Rattle.molecule.specs.Molecule.{readable, option}
 use Rattle.molecule.specs.Layout.{items_of}
 use Rattle.transaction.specs.Ckb.{Script, TokenCells}
 use Rattle.transaction.specs.Tx.{args_of}
-use Rattle.rules.specs.Outcome.{Outcome, fine, refused, check, ◌>>◌}
-use Rattle.rules.specs.Told.{told_by}
+use Rattle.error.specs.Outcome.{Outcome, fine, refused, check, ◌>>◌, told_by}
 use Rattle.error.specs.declared.Refusal.{Refusal}
 use Rattle.udt_cells.specs.declared.UdtInputsOutputs.{UdtInputsOutputs}
 use Rattle.cell_output.specs.CellOutput.{cell_output}

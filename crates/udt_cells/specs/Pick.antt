@@ -4,9 +4,8 @@ use Rattle.std.specs.Prelude.{ℕ, ◌+◌, ◌-◌, ◌^◌, cond, List, [], �
 use Rattle.arithmetic.specs.LittleEndian.{le}
 use Rattle.units.specs.Units.{token_count}
 use Rattle.transaction.specs.Tx.{data_of}
-use Rattle.rules.specs.Outcome.{Outcome, fine, refused, check, ◌>>=◌, ◌>>◌}
-use Rattle.rules.specs.Surplus.{is_empty}
-use Rattle.rules.specs.Told.{told_by}
+use Rattle.error.specs.Outcome.{Outcome, fine, refused, check, ◌>>=◌, ◌>>◌, told_by}
+use Rattle.lists.specs.Lists.{is_empty}
 use Rattle.error.specs.declared.Refusal.{Refusal}
 use Rattle.udt_cells.specs.declared.Picked.{Picked}
 

@@ -1,5 +1,5 @@
 // The token cells that our side pays with: the pick among those that are lent, and the change that is left of them.
-#![tactic(auto, using(crate::proofs::Ways::ways), unfolding(crate::specs::Pick::pick_typed, crate::specs::Change::lent, crate::specs::Change::udt_inputs_outputs, crate::specs::Change::unless_refused, rules::specs::Outcome::check, rules::specs::Outcome::check_with, error::specs::Refusal::number, error::specs::Refusal::values))]
+#![tactic(auto, using(crate::proofs::Ways::ways), unfolding(crate::specs::Pick::pick_typed, crate::specs::Change::lent, crate::specs::Change::udt_inputs_outputs, crate::specs::Change::unless_refused, error::specs::Outcome::check, error::specs::Outcome::check_with, error::specs::Refusal::number, error::specs::Refusal::values))]
 
 ghost use Rattle.std.specs.Prelude.{◌≡◌, true, ◌^◌, ◌<◌, min, length};
 ghost use Rattle.units.specs.Units.{token_count};
@@ -8,8 +8,7 @@ ghost use Rattle.molecule.specs.Molecule.{readable, option};
 ghost use Rattle.molecule.specs.Layout.{item_of, items_of};
 ghost use Rattle.transaction.specs.Ckb.{Script};
 ghost use Rattle.transaction.specs.Tx.{args_of};
-ghost use Rattle.rules.specs.Outcome.{check};
-ghost use Rattle.rules.specs.Told.{told_by};
+ghost use Rattle.error.specs.Outcome.{check, told_by};
 ghost use Rattle.udt_cells.specs.Pick.{told, plus_cell, pick_from, pick_typed};
 ghost use Rattle.udt_cells.specs.Change.{answered, capacity_for, with_change, lent, udt_inputs_outputs};
 
@@ -37,7 +36,7 @@ pub struct UdtInputsOutputs {
 // ---- the pick
 
 // A total with the amount of cell i.
-#[tactic(auto, using(rules::proofs::Outcomes::outcomes), unfolding(crate::specs::Pick::plus_cell, arithmetic::specs::Amount::sum, arithmetic::specs::Amount::amount_at, rules::specs::Outcome::check, rules::specs::Outcome::check_with, error::specs::Refusal::number, error::specs::Refusal::values))]
+#[tactic(auto, using(error::proofs::Outcomes::outcomes), unfolding(crate::specs::Pick::plus_cell, arithmetic::specs::Amount::sum, arithmetic::specs::Amount::amount_at, error::specs::Outcome::check, error::specs::Outcome::check_with, error::specs::Refusal::number, error::specs::Refusal::values))]
 fn plus_cell(cells: &[u8], i: usize, total: Tokens) -> Result<Tokens, Refusal>
     ensures { told_by token_count result ≡ plus_cell (token_count total) (item_of cells.now i) }
 {

@@ -15,6 +15,11 @@ shannon_count s = s.0
 abbrev pub token_count : Tokens → ℕ
 token_count t = t.0
 
+-- a figure in shannons and one in tokens
+pub record Figures : Type 0 where
+  pub capacity : ℕ
+  pub token : ℕ
+
 -- a sum of shannons, capped
 unfoldable pub capped_sum : Shannons → Shannons → Shannons
 capped_sum a b = in_shannons (min (a.0 + b.0) (2 ^ 128 - 1))

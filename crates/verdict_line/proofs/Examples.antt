@@ -3,7 +3,7 @@ use mathlib.Core.Path.{◌≡◌, refl}
 use mathlib.Core.List.{[], ◌∷◌}
 use Prim.Native.Nat.{◌-◌, ◌^◌}
 use Rattle.molecule.specs.Partial.{pick}
-use Rattle.rules.specs.Outcome.{fine, refused}
+use Rattle.error.specs.Outcome.{fine, refused}
 use Rattle.verdict_line.specs.VerdictLine.{digit, hex, digits, decimal, spaced, accepted, refused_with, line_of}
 
 -- 0, 10, and the greatest number of 64 bits

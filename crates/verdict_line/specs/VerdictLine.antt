@@ -2,8 +2,8 @@
 -- refusal's number and its decimals; then a newline. All of it is ASCII.
 use Rattle.std.specs.Prelude.{ℕ, zero, suc, ◌+◌, ◌/◌, ◌%◌, cond, List, [], ◌∷◌, ◌++◌, ltb}
 use Rattle.molecule.specs.Partial.{pick}
-use Rattle.rules.specs.Outcome.{Outcome, fine, refused}
-use Rattle.rules.specs.Judge.{Figures}
+use Rattle.error.specs.Outcome.{Outcome, fine, refused}
+use Rattle.units.specs.Units.{Figures}
 
 -- a digit below 16: 48 is 0, and 97 is a
 unfoldable pub digit : ℕ → ℕ

@@ -3,8 +3,7 @@ use Rattle.std.proofs.Common.{◌≡◌, ℕ, List, ◌∙◌, Result, Ok, Err}
 use Rattle.std.specs.Result.{MatchResult, IsOkAnd}
 use Rattle.error.specs.declared.Refusal.{Refusal}
 use Rattle.error.specs.Refusal.{number, values}
-use Rattle.rules.specs.Outcome.{Outcome}
-use Rattle.rules.specs.Told.{refusal, told_by}
+use Rattle.error.specs.Outcome.{Outcome, refusal, told_by}
 use Rattle.words.specs.Words.{set_words, number_of, values_of, in_words, writing}
 
 -- a refusal

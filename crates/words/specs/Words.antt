@@ -2,8 +2,8 @@
 -- docs/RULES.md, "The three demands", 1: "and then the transaction in force, every table and every lent output byte are as before". The words that hold the
 -- values of a refusal are set, and no other.
 use Rattle.std.specs.Prelude.{ℕ, ◌/◌, ◌%◌, ◌^◌, List, [], ◌∷◌, ◌++◌, length, drop, get_or}
-use Rattle.rules.specs.Outcome.{Outcome, fine, refused}
-use Rattle.rules.specs.Judge.{Figures}
+use Rattle.error.specs.Outcome.{Outcome, fine, refused}
+use Rattle.units.specs.Units.{Figures}
 
 -- the answer n, and these values as the first words, of which those beyond keep their value
 unfoldable pub set_words : ℕ → List ℕ → List ℕ → ℕ × List ℕ

@@ -3,7 +3,8 @@
 
 ghost use Rattle.std.specs.Prelude.{◌≡◌, ◌≤◌, length};
 ghost use Rattle.error.specs.Refusal.{number, values};
-ghost use Rattle.rules.specs.Told.{told, told_by, figures};
+ghost use Rattle.error.specs.Outcome.{told_by};
+ghost use Rattle.rules.specs.Told.{told, figures};
 ghost use Rattle.words.specs.Words.{set_words, in_words, surplus_words};
 
 use arithmetic::amount;

@@ -1,7 +1,7 @@
 use Rattle.std.proofs.Common.{arith}
 use Rattle.std.proofs.lemmas.Grind.{common_steps}
 use Rattle.lists.proofs.EqualLaws.{whole}
-use Rattle.rules.specs.Outcome.{◌>>=◌}
+use Rattle.error.specs.Outcome.{◌>>=◌}
 use Rattle.contribution.specs.Contributed.{contributed}
 use Rattle.contribution.proofs.verify_peer_funding_contribution.Goals as goal
 

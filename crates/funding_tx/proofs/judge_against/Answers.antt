@@ -2,9 +2,9 @@ use Rattle.std.proofs.Common.{arith}
 use Rattle.std.proofs.lemmas.Grind.{common_steps}
 use Rattle.error.specs.Refusal.{number, values}
 use Rattle.lists.proofs.EqualLaws.{whole}
-use Rattle.rules.specs.Outcome.{check, check_with, given, ◌>>◌, ◌>>=◌}
+use Rattle.error.specs.Outcome.{check, check_with, given, ◌>>◌, ◌>>=◌}
 use Rattle.rules.specs.Judge.{judge_against}
-use Rattle.rules.proofs.CellLaws.{read_yes, read_no}
+use Rattle.transaction.proofs.ReadLaws.{read_yes, read_no}
 use Rattle.funding_tx.proofs.VerdictLaws.{not_spent, is-spent, over}
 use Rattle.funding_tx.proofs.judge_against.Goals as goal
 

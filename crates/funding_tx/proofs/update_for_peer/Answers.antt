@@ -1,9 +1,9 @@
 use Rattle.std.proofs.Common.{arith}
 use Rattle.std.proofs.lemmas.Grind.{common_steps}
 use Rattle.error.specs.Refusal.{number, values}
-use Rattle.rules.specs.Outcome.{given, ◌>>=◌}
+use Rattle.error.specs.Outcome.{given, ◌>>=◌}
 use Rattle.rules.specs.Judge.{judge}
-use Rattle.rules.proofs.CellLaws.{ours_yes, ours_no}
+use Rattle.transaction.proofs.ReadLaws.{ours_yes, ours_no}
 use Rattle.funding_tx.proofs.update_for_peer.Goals as goal
 
 pub returns-then-not-is_optional_transaction : goal.returns-then-not-is_optional_transaction

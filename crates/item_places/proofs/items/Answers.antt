@@ -3,7 +3,7 @@ use Rattle.std.proofs.lemmas.Grind.{common_steps}
 use Rattle.error.specs.Refusal.{number, values}
 use Rattle.molecule.proofs.Offsets.{span-length}
 use Rattle.molecule.proofs.WriteLaws.{splice_zero}
-use Rattle.rules.specs.Outcome.{check, check_with, ◌>>=◌, ◌>>◌}
+use Rattle.error.specs.Outcome.{check, check_with, ◌>>=◌, ◌>>◌}
 use Rattle.transaction_lists.specs.Found.{count_found}
 use Rattle.item_places.specs.Places.{places_found, listed}
 use Rattle.item_places.proofs.items.Goals as goal

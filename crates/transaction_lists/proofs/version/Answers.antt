@@ -1,7 +1,7 @@
 use Rattle.std.proofs.Common.{arith}
 use Rattle.std.proofs.lemmas.Grind.{common_steps}
 use Rattle.error.specs.Refusal.{number, values}
-use Rattle.rules.specs.Outcome.{check, check_with, ◌>>◌}
+use Rattle.error.specs.Outcome.{check, check_with, ◌>>◌}
 use Rattle.reader.proofs.TransactionLaws.{reads_version}
 use Rattle.transaction_lists.specs.Found.{version_found}
 use Rattle.transaction_lists.proofs.version.Goals as goal

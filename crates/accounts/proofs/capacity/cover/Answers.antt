@@ -3,7 +3,7 @@ use Rattle.std.proofs.lemmas.Grind.{common_steps}
 use Rattle.error.specs.Refusal.{number, values}
 use Rattle.arithmetic.specs.Amount.{difference}
 use Rattle.units.specs.Fee.{required_fee}
-use Rattle.rules.specs.Outcome.{check, check_with, ◌>>◌}
+use Rattle.error.specs.Outcome.{check, check_with, ◌>>◌}
 use Rattle.rules.specs.Judge.{covered}
 use Rattle.accounts.proofs.capacity.cover.Goals as goal
 

@@ -2,7 +2,7 @@ use Rattle.std.proofs.Common.{arith}
 use Rattle.std.proofs.lemmas.Grind.{common_steps}
 use Rattle.error.specs.Refusal.{number, values}
 use Rattle.arithmetic.specs.Amount.{sum, amount_at}
-use Rattle.rules.specs.Outcome.{check, check_with, ◌>>◌}
+use Rattle.error.specs.Outcome.{check, check_with, ◌>>◌}
 use Rattle.rules.specs.Surplus.{has_amount, amount_of}
 use Rattle.rules.specs.Judge.{counted}
 use Rattle.accounts.proofs.token.add_amount.Goals as goal

@@ -1,6 +1,6 @@
 use Rattle.std.proofs.Common.{arith}
 use Rattle.std.proofs.lemmas.Grind.{common_steps}
-use Rattle.rules.specs.Outcome.{◌>>=◌}
+use Rattle.error.specs.Outcome.{◌>>=◌}
 use Rattle.rules.specs.Surplus.{is_of}
 use Rattle.rules.specs.Judge.{counted}
 use Rattle.accounts.specs.Paid.{and_cell}

@@ -2,7 +2,7 @@ use Rattle.std.proofs.Common.{arith}
 use Rattle.std.proofs.lemmas.Grind.{common_steps}
 use Rattle.error.specs.Refusal.{number, values}
 use Rattle.arithmetic.specs.Amount.{sum, difference}
-use Rattle.rules.specs.Outcome.{check, check_with, ◌>>◌}
+use Rattle.error.specs.Outcome.{check, check_with, ◌>>◌}
 use Rattle.rules.specs.Judge.{settled}
 use Rattle.accounts.proofs.token.settle.Goals as goal
 

@@ -1,7 +1,7 @@
 use Rattle.std.proofs.Common.{arith}
 use Rattle.std.proofs.lemmas.Grind.{common_steps}
-use Rattle.rules.specs.Outcome.{◌>>=◌}
-use Rattle.rules.specs.Surplus.{is_empty}
+use Rattle.error.specs.Outcome.{◌>>=◌}
+use Rattle.lists.specs.Lists.{is_empty}
 use Rattle.accounts.specs.Paid.{tokens_left}
 use Rattle.accounts.proofs.token.surplus.Goals as goal
 

@@ -1,6 +1,6 @@
 use Rattle.std.proofs.Common.{arith}
 use Rattle.std.proofs.lemmas.Grind.{common_steps}
-use Rattle.rules.specs.Outcome.{◌>>=◌}
+use Rattle.error.specs.Outcome.{◌>>=◌}
 use Rattle.contribution.specs.Contributed.{accounts_over}
 use Rattle.contribution.proofs.AccountLaws.{added-from}
 use Rattle.contribution.proofs.Both.account.Goals as goal

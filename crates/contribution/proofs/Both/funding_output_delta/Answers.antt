@@ -2,9 +2,9 @@ use Rattle.std.proofs.Common.{arith}
 use Rattle.std.proofs.lemmas.Grind.{common_steps}
 use Rattle.arithmetic.specs.Amount.{difference}
 use Rattle.error.specs.Refusal.{number, values}
-use Rattle.rules.specs.Outcome.{check, check_with, ◌>>◌, ◌>>=◌}
+use Rattle.error.specs.Outcome.{check, check_with, ◌>>◌, ◌>>=◌}
 use Rattle.rules.specs.Judge.{funding_output_delta}
-use Rattle.rules.proofs.CellLaws.{empty-is}
+use Rattle.lists.proofs.EqualLaws.{empty-is}
 use Rattle.contribution.proofs.Both.funding_output_delta.Goals as goal
 
 pub returns-then-not-has_first : goal.returns-then-not-has_first

@@ -2,7 +2,7 @@ use Rattle.std.proofs.Common.{arith}
 use Rattle.std.proofs.lemmas.Grind.{common_steps}
 use Rattle.arithmetic.specs.Amount.{difference}
 use Rattle.error.specs.Refusal.{number, values}
-use Rattle.rules.specs.Outcome.{check, check_with, ◌>>◌}
+use Rattle.error.specs.Outcome.{check, check_with, ◌>>◌}
 use Rattle.rules.specs.Judge.{token_delta}
 use Rattle.contribution.specs.Answers.{first_amount}
 use Rattle.contribution.proofs.Both.token_delta.Goals as goal

@@ -2,7 +2,7 @@ use Rattle.std.proofs.Common.{arith, ◌∙◌, ap}
 use Rattle.std.proofs.lemmas.Grind.{common_steps}
 use Rattle.arithmetic.specs.Amount.{amount_at}
 use Rattle.molecule.specs.Layout.{item_count}
-use Rattle.rules.specs.Outcome.{check, check_with, ◌>>◌}
+use Rattle.error.specs.Outcome.{check, check_with, ◌>>◌}
 use Rattle.rules.specs.Judge.{at_first}
 use Rattle.rules.specs.Surplus.{first, amount_of, has_amount}
 use Rattle.rules.proofs.CellLaws.{cell_at, cells-none, cells-some}

@@ -2,7 +2,7 @@ use Rattle.std.proofs.Common.{arith}
 use Rattle.std.proofs.lemmas.Grind.{common_steps}
 use Rattle.molecule.proofs.Offsets.{span-length}
 use Rattle.transaction.specs.Tx.{tx_at}
-use Rattle.rules.proofs.CellLaws.{empty-is}
+use Rattle.lists.proofs.EqualLaws.{empty-is}
 use Rattle.contribution.proofs.funded.Funded.is_unfunded.Goals as goal
 
 pub returns-then-input_count-eq0 : goal.returns-then-input_count-eq0

@@ -1,6 +1,6 @@
 -- What follows an answer, and what follows a refusal; `outcomes` lists these for the checks of functions that answer as a `do` block does.
 use Rattle.std.proofs.Common.{◌≡◌, ℕ, List, refl}
-use Rattle.rules.specs.Outcome.{Outcome, fine, refused, ◌>>=◌, ◌>>◌}
+use Rattle.error.specs.Outcome.{Outcome, fine, refused, ◌>>=◌, ◌>>◌}
 
 pub then_fine : {B : Type 0} (r : Outcome B) → (fine tt >> r) ≡ r
 unfolding ◌>>◌

@@ -1,6 +1,9 @@
--- An answer, or a refusal with its number and the numbers listed (docs/RULES.md, "A peer's update arrives"). Checks are written one after another in a `do` block.
-use Rattle.std.specs.Prelude.{ℕ, Bool, true, false, List, []}
+-- What a call answers: a value, or a refusal with its number and the numbers listed (docs/RULES.md, "The form each place takes"). Checks are written one after
+-- another in a `do` block.
+use Rattle.std.specs.Prelude.{ℕ, Bool, true, false, List, [], Result, Ok, Err}
 use Rattle.std.proofs.Math.Option.{Option, none, some}
+use Rattle.error.specs.declared.Refusal.{Refusal}
+use Rattle.error.specs.Refusal.{number, values}
 
 pub data Outcome (A : Type 0) : Type 0 where
   fine : A → Outcome A
@@ -28,3 +31,13 @@ check n b = check_with n [] b
 unfoldable pub given : {A : Type 0} → ℕ → Option A → Outcome A
 given n none = refused n []
 given n (some a) = fine a
+
+-- ---- what code answers
+
+abbrev pub refusal : {A : Type 0} → Refusal → Outcome A
+refusal e = refused (number e) (values e)
+
+-- with its value in numbers
+abbrev pub told_by : {T A : Type 0} → (T → A) → Result T Refusal → Outcome A
+told_by f (Ok x) = fine (f x)
+told_by f (Err e) = refusal e

@@ -2,7 +2,7 @@
 use mathlib.Core.Path.{◌≡◌, refl, ◌∙◌}
 use Prim.Native.Nat.{ℕ}
 use mathlib.Core.Bool.{Bool, true, false, ◌&&◌}
-use Rattle.rules.specs.Outcome.{Outcome, check, check_with, ◌>>◌}
+use Rattle.error.specs.Outcome.{Outcome, check, check_with, ◌>>◌}
 
 module _ (n : ℕ) where
   pub skip : (a : Bool) {r : Outcome (Unit {0})} → check n false ≡ r → check n false ≡ (check n a >> r)
