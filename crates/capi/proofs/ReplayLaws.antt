@@ -3,9 +3,9 @@ use mathlib.Core.Path.{◌≡◌, refl, sym, ap, ◌∙◌}
 use Prim.Native.Nat.{ℕ}
 use mathlib.Core.List.{List, ◌∷◌}
 use lib.ListN.{length, drop, get_or}
-use Rattle.error.specs.Outcome.{Outcome, fine, refused}
+use Rattle.error.specs.Outcome.{Outcome, fine, refused, number_of, values_of}
 use Rattle.units.specs.Units.{Figures}
-use Rattle.words.specs.Words.{set_words, number_of, values_of, in_words, writing}
+use Rattle.words.specs.Words.{set_words, in_words, writing}
 use Rattle.words.proofs.WordLaws.{wrote}
 use Rattle.negotiation.specs.Replay.{Summary, summary_of, replay_of, leaves}
 use Rattle.negotiation.specs.Law.{Lawful}

@@ -32,6 +32,21 @@ unfoldable pub given : {A : Type 0} → ℕ → Option A → Outcome A
 given n none = refused n []
 given n (some a) = fine a
 
+-- 0, or the number of a refusal
+unfoldable pub number_of : {A : Type 0} → Outcome A → ℕ
+number_of (fine x) = 0
+number_of (refused n l) = n
+
+-- the values of what is no refusal, by f, or those that the refusal carries
+unfoldable pub values_of : {A : Type 0} → (A → List ℕ) → Outcome A → List ℕ
+values_of f (fine x) = f x
+values_of f (refused n l) = l
+
+-- what stands after a call: what it writes, and what stood before it where it is refused
+unfoldable pub leaves {ℓ} : {A : Type 0} {B : Type ℓ} → Outcome A → (A → B) → B → B
+leaves (fine a) f b = f a
+leaves (refused n l) f b = b
+
 -- ---- what code answers
 
 abbrev pub refusal : {A : Type 0} → Refusal → Outcome A

@@ -3,7 +3,8 @@ use mathlib.Core.Path.{refl}
 use mathlib.Core.List.{flatten}
 use Rattle.molecule.specs.Layout.{part_start, field_start, fix_start, item_start, content_start, entry_start}
 use Rattle.transaction.specs.Tx.{raw_start}
-use Rattle.words.specs.Words.{set_words, number_of, values_of, in_words, writing}
+use Rattle.error.specs.Outcome.{number_of, values_of}
+use Rattle.words.specs.Words.{set_words, in_words, writing}
 use Rattle.answer_words.specs.Answers.{count_words}
 use Rattle.transaction_lists.specs.Lists.{list_of, list_in, start_of, place_in}
 use Rattle.transaction_lists.specs.Found.{version_found, count_found}

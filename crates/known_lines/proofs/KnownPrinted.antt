@@ -2,7 +2,8 @@
 use mathlib.Core.Path.{refl}
 use Rattle.transaction_writer.specs.Written.{fits}
 use Rattle.base_writer.specs.Answer.{in_room, leaves}
-use Rattle.words.specs.Words.{set_words, number_of, values_of, in_words, writing}
+use Rattle.error.specs.Outcome.{number_of, values_of}
+use Rattle.words.specs.Words.{set_words, in_words, writing}
 use Rattle.answer_words.specs.Answers.{count_words}
 use Rattle.known_cases.specs.Rows.{AllRight}
 use Rattle.known_cases.proofs.Rows.{◌and◌, done}

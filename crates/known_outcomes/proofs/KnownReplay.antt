@@ -2,10 +2,10 @@
 use mathlib.Core.Path.{◌≡◌, refl}
 use mathlib.Core.List.{[], ◌∷◌, ◌++◌}
 use lib.ListN.{replicate}
-use Rattle.error.specs.Outcome.{fine, refused}
+use Rattle.error.specs.Outcome.{fine, refused, number_of, values_of}
 use Rattle.rules.specs.Judge.{judge}
 use Rattle.negotiation.specs.Updates.{bytes_of, rate_of, calls_of, transaction_at}
-use Rattle.words.specs.Words.{number_of, values_of, surplus_words, set_words, in_words}
+use Rattle.words.specs.Words.{surplus_words, set_words, in_words}
 use Rattle.negotiation.specs.Words.{all_words}
 use Rattle.negotiation.specs.Replay.{accepted_of, index_after, replay_of, leaves}
 use Rattle.known_cases.specs.Cases.{expected_lock, token_type}

@@ -13,7 +13,7 @@ use Rattle.molecule.specs.Molecule.{readable}
 use Rattle.molecule.specs.Layout.{item_count}
 use Rattle.molecule.proofs.Offsets.{span-length}
 use Rattle.arithmetic.proofs.AmountLaws.{halves_are}
-use Rattle.error.specs.Outcome.{Outcome, fine, refused}
+use Rattle.error.specs.Outcome.{Outcome, fine, refused, number_of, values_of}
 use Rattle.transaction.specs.Tx.{read_ours}
 use Rattle.molecule.specs.Partial.{All}
 use Rattle.rules.specs.Surplus.{Measure, capacities, expected}
@@ -26,7 +26,7 @@ use Rattle.rules.proofs.Law.{exact, kept-inputs, kept-records, stay-readable}
 use Rattle.funding_tx.proofs.Demand3.{all_one}
 use Rattle.error.specs.declared.Refusal.{Refusal}
 use Rattle.negotiation.specs.Updates.{Updates, calls_of, call_at, transaction_at}
-use Rattle.words.specs.Words.{number_of, values_of, four_of, surplus_words}
+use Rattle.words.specs.Words.{four_of, surplus_words}
 use Rattle.negotiation.specs.Words.{words, all_words}
 use Rattle.negotiation.specs.Replay.{Summary, accepted_of, index_after, summary_of, replay_of, leaves, answered}
 use Rattle.negotiation.specs.Law.{answer_in, answers_in, Called, Lawful}

@@ -5,10 +5,10 @@ use mathlib.Core.List.{List, [], ◌∷◌, ◌++◌}
 use native.Mathlib.Omega.{arith}
 use lib.ListN.{length, drop, get_or}
 use Rattle.molecule.specs.Write.{splice}
-use Rattle.error.specs.Outcome.{Outcome}
+use Rattle.error.specs.Outcome.{Outcome, number_of, values_of}
 use Rattle.units.specs.Units.{Figures}
 use Rattle.rules.specs.Told.{Update, told}
-use Rattle.words.specs.Words.{four_of, set_words, number_of, values_of, in_words, surplus_words}
+use Rattle.words.specs.Words.{four_of, set_words, in_words, surplus_words}
 use Rattle.negotiation.specs.Words.{words, all_words}
 
 -- values set at the start of four words that were 0

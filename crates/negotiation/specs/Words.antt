@@ -1,8 +1,8 @@
 -- The answers to updates in words of 64 bits, five for each (ours: docs/DECISIONS.md, "Lists of updates").
 use Rattle.std.specs.Prelude.{ℕ, List, [], ◌∷◌, ◌++◌}
-use Rattle.error.specs.Outcome.{Outcome}
+use Rattle.error.specs.Outcome.{Outcome, number_of, values_of}
 use Rattle.units.specs.Units.{Figures}
-use Rattle.words.specs.Words.{four_of, number_of, values_of, surplus_words}
+use Rattle.words.specs.Words.{four_of, surplus_words}
 
 -- the number, 0 for an acceptance, and four words for the surpluses or for the values of the refusal
 abbrev pub words : Outcome Figures → List ℕ

@@ -5,18 +5,15 @@ use mathlib.Core.List.{List, [], ◌∷◌}
 use mathlib.Core.Bool.{true, false}
 use mathlib.Core.Option.{none, some}
 use native.Mathlib.Omega.{arith}
-use borrow.Author.Tests.{ne_eqb}
 use lib.ListN.{length, drop}
-use lib.Dec.{eqb}
 use Rattle.molecule.specs.Layout.{span, item_count, item_of, entry_of}
 use Rattle.molecule.specs.Partial.{only}
-use Rattle.molecule.specs.Molecule.{option, readable}
+use Rattle.molecule.specs.Molecule.{readable}
 use Rattle.molecule.proofs.LayoutLaws.{entry_past}
 use Rattle.lists.proofs.SpanLaws.{span-on, span-whole, span-drop}
-use Rattle.transaction.specs.Ckb.{Transaction, Records}
-use Rattle.transaction.specs.Tx.{tx_at, raw_field, read_tx, read_ours}
+use Rattle.transaction.specs.Ckb.{Records}
+use Rattle.transaction.specs.Tx.{tx_at, raw_field}
 use Rattle.rules.specs.Cells.{Cell, pair, cells, record_at, read_records}
-use Rattle.lists.specs.Lists.{is_empty}
 use Rattle.rules.specs.Surplus.{added}
 
 -- output i of a transaction with its data

@@ -2,10 +2,10 @@
 use Rattle.std.specs.Prelude.{ℕ, cond, List, [], ◌∷◌, length, get_or, drop, eqb}
 use Rattle.std.proofs.Math.Option.{Option, none, some}
 use Rattle.molecule.specs.Partial.{only}
-use Rattle.molecule.specs.Molecule.{option, readable}
+use Rattle.molecule.specs.Molecule.{readable}
 use Rattle.molecule.specs.Layout.{span, item_count, item_of}
-use Rattle.transaction.specs.Ckb.{Transaction, Records}
-use Rattle.transaction.specs.Tx.{Tx, tx_at, first_of, data_of}
+use Rattle.transaction.specs.Ckb.{Records}
+use Rattle.transaction.specs.Tx.{Tx, first_of, data_of}
 
 -- an output's bytes with its data: a resolved record, or an output of a transaction with its data entry
 pub record Cell : Type 0 where

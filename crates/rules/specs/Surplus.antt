@@ -1,5 +1,5 @@
 -- Figures of cells, added outputs, and the surplus in whole numbers (docs/RULES.md, "What the peer put in").
-use Rattle.std.specs.Prelude.{ℕ, ◌+◌, max, Bool, true, false, cond, List, [], ◌∷◌, length, take, drop, leb, ℤ, pos, ◌-ℤ◌}
+use Rattle.std.specs.Prelude.{ℕ, ◌+◌, max, Bool, cond, List, [], ◌∷◌, length, take, drop, leb, ℤ, pos, ◌-ℤ◌}
 use Rattle.arithmetic.specs.LittleEndian.{le}
 use Rattle.lists.specs.Lists.{eq_bytes, is_empty}
 use Rattle.transaction.specs.Tx.{Tx, type_of}

@@ -2,7 +2,6 @@
 use Rattle.std.specs.Prelude.{Result, Ok, Err}
 use Rattle.units.specs.Units.{shannon_count, token_count, Figures}
 use Rattle.error.specs.declared.Refusal.{Refusal}
-use Rattle.error.specs.Refusal.{number, values}
 use Rattle.rules.specs.declared.Surplus.{Surplus}
 use Rattle.error.specs.Outcome.{Outcome, told_by}
 

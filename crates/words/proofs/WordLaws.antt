@@ -3,8 +3,8 @@ use Rattle.std.proofs.Common.{◌≡◌, ℕ, List, ◌∙◌, Result, Ok, Err}
 use Rattle.std.specs.Result.{MatchResult, IsOkAnd}
 use Rattle.error.specs.declared.Refusal.{Refusal}
 use Rattle.error.specs.Refusal.{number, values}
-use Rattle.error.specs.Outcome.{Outcome, refusal, told_by}
-use Rattle.words.specs.Words.{set_words, number_of, values_of, in_words, writing}
+use Rattle.error.specs.Outcome.{Outcome, refusal, told_by, number_of, values_of}
+use Rattle.words.specs.Words.{set_words, in_words, writing}
 
 -- a refusal
 pub refused_as : {A : Type 0} (f : A → List ℕ) (words : List ℕ) {o : Outcome A} (why : Refusal) {r : ℕ × List ℕ} → o ≡ refusal why

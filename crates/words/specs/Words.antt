@@ -2,22 +2,12 @@
 -- docs/RULES.md, "The three demands", 1: "and then the transaction in force, every table and every lent output byte are as before". The words that hold the
 -- values of a refusal are set, and no other.
 use Rattle.std.specs.Prelude.{ℕ, ◌/◌, ◌%◌, ◌^◌, List, [], ◌∷◌, ◌++◌, length, drop, get_or}
-use Rattle.error.specs.Outcome.{Outcome, fine, refused}
+use Rattle.error.specs.Outcome.{Outcome, number_of, values_of}
 use Rattle.units.specs.Units.{Figures}
 
 -- the answer n, and these values as the first words, of which those beyond keep their value
 unfoldable pub set_words : ℕ → List ℕ → List ℕ → ℕ × List ℕ
 set_words n values words = (n, values ++ drop (length values) words)
-
--- 0, or the number of a refusal
-unfoldable pub number_of : {A : Type 0} → Outcome A → ℕ
-number_of (fine x) = 0
-number_of (refused n l) = n
-
--- the values of what is no refusal, by f, or those that the refusal carries
-unfoldable pub values_of : {A : Type 0} → (A → List ℕ) → Outcome A → List ℕ
-values_of f (fine x) = f x
-values_of f (refused n l) = l
 
 unfoldable pub in_words : {A : Type 0} → (A → List ℕ) → Outcome A → List ℕ → ℕ × List ℕ
 in_words f o words = set_words (number_of o) (values_of f o) words
