@@ -17,7 +17,7 @@ use Rattle.rules.specs.Surplus.{is_of}
 use Rattle.rules.specs.Judge.{at_first, has_lock, no_data_untyped, comparison}
 use Rattle.rules.specs.Step.{Prefix, start, more}
 use Rattle.rules.proofs.Telescope.{prefix_refl, prefix_trans, prefix_length}
-use Rattle.error.proofs.Checks.{pass, last_is}
+use Rattle.rules.proofs.Checks.{pass, last_is}
 use Rattle.list_writer.specs.ListWriter.{item_or}
 use Rattle.cell_deps.specs.CellDeps.{pushed, push_all}
 use Rattle.base_theorems.proofs.Claims.{Distinct}

@@ -19,8 +19,9 @@ use Rattle.error.specs.Outcome.{check}
 use Rattle.rules.specs.Cells.{cells}
 use Rattle.rules.specs.Surplus.{is_of}
 use Rattle.rules.specs.Judge.{at_first, has_lock, no_data_untyped, comparison}
+use Rattle.rules.specs.Lines.{verdict}
 use Rattle.comparison.specs.Together.{none_missing, kept_after_first, funding_cell_first}
-use Rattle.error.proofs.Checks.{skip, fail, pass, last_is, last_two, fail_two, fail_apart, pass_two}
+use Rattle.rules.proofs.Checks.{skip, fail, pass, last_two, fail_two, fail_apart, pass_two}
 use Rattle.lists.proofs.EqualLaws.{empty-is}
 use Rattle.rules.proofs.CellLaws.{cell_at, cells-none, cells-some}
 
@@ -120,36 +121,36 @@ two-lines : {r : Bool} (xs ys : List (List ℕ)) → r ≡ extends xs ys → (b 
 two-lines xs ys e b h = sym (extends-is xs ys) ∙ sym e ∙ h
 
 module _ (lock type o p : List ℕ) where
-  pub differs_version : {r : Bool} → r ≡ eqb (tx_at o).version (tx_at p).version → r ≡ false → check 5 false ≡ comparison lock type (tx_at o) (tx_at p)
+  pub differs_version : {r : Bool} → r ≡ eqb (tx_at o).version (tx_at p).version → r ≡ false → check 5 false ≡ verdict (comparison lock type (tx_at o) (tx_at p))
   unfolding comparison
-  differs_version e h = fail 5 _ (sym e ∙ h)
+  differs_version e h = fail 5 _ _ (sym e ∙ h)
 
   pub differs_deps : {r : Bool} → r ≡ none_missing (tx_at o).cell_deps (tx_at p).cell_deps
-      → r ≡ false → check 5 false ≡ comparison lock type (tx_at o) (tx_at p)
+      → r ≡ false → check 5 false ≡ verdict (comparison lock type (tx_at o) (tx_at p))
   unfolding comparison none_missing
-  differs_deps e h = skip 5 _ (fail_two 5 _ _ _ (sym e ∙ h))
+  differs_deps e h = skip 5 _ _ _ (fail_two 5 _ _ _ _ _ (sym e ∙ h))
 
-  pub differs_headers : {r : Bool} → r ≡ extends (tx_at o).header_deps (tx_at p).header_deps → r ≡ false → check 5 false ≡ comparison lock type (tx_at o) (tx_at p)
+  pub differs_headers : {r : Bool} → r ≡ extends (tx_at o).header_deps (tx_at p).header_deps → r ≡ false → check 5 false ≡ verdict (comparison lock type (tx_at o) (tx_at p))
   unfolding comparison
-  differs_headers e h = skip 5 _ (skip 5 _ (skip 5 _ (fail_two 5 _ _ _ (two-lines (tx_at o).header_deps (tx_at p).header_deps e false h))))
+  differs_headers e h = skip 5 _ _ _ (skip 5 _ _ _ (skip 5 _ _ _ (fail_two 5 _ _ _ _ _ (two-lines (tx_at o).header_deps (tx_at p).header_deps e false h))))
 
-  pub differs_inputs : {r : Bool} → r ≡ extends (tx_at o).inputs (tx_at p).inputs → r ≡ false → check 5 false ≡ comparison lock type (tx_at o) (tx_at p)
+  pub differs_inputs : {r : Bool} → r ≡ extends (tx_at o).inputs (tx_at p).inputs → r ≡ false → check 5 false ≡ verdict (comparison lock type (tx_at o) (tx_at p))
   unfolding comparison
-  differs_inputs e h = skip 5 _ (skip 5 _ (skip 5 _ (skip 5 _ (skip 5 _ (fail_two 5 _ _ _ (two-lines (tx_at o).inputs (tx_at p).inputs e false h))))))
+  differs_inputs e h = skip 5 _ _ _ (skip 5 _ _ _ (skip 5 _ _ _ (skip 5 _ _ _ (skip 5 _ _ _ (fail_two 5 _ _ _ _ _ (two-lines (tx_at o).inputs (tx_at p).inputs e false h))))))
 
   pub differs_outputs : {r : Bool} → r ≡ kept_after_first (tx_at o).outputs (tx_at p).outputs
-      → r ≡ false → check 5 false ≡ comparison lock type (tx_at o) (tx_at p)
+      → r ≡ false → check 5 false ≡ verdict (comparison lock type (tx_at o) (tx_at p))
   unfolding comparison kept_after_first
   differs_outputs e h =
-      skip 5 _ (skip 5 _ (skip 5 _ (skip 5 _ (skip 5 _ (skip 5 _ (skip 5 _
-      (fail_apart 5 _ _ (λ z. skip 5 _ (skip 5 _ (skip 5 _ (fail 5 _ z)))) (sym e ∙ h))))))))
+      skip 5 _ _ _ (skip 5 _ _ _ (skip 5 _ _ _ (skip 5 _ _ _ (skip 5 _ _ _ (skip 5 _ _ _ (skip 5 _
+      (fail_apart 5 _ _ _ _ (λ z. skip 5 _ _ _ (skip 5 _ _ _ (skip 5 _ _ _ (fail 5 _ _ z)))) (sym e ∙ h))))))))
 
   pub differs_funding : {r : Bool}
       → r ≡ funding_cell_first lock type (cells (tx_at p))
-      → r ≡ false → check 5 false ≡ comparison lock type (tx_at o) (tx_at p)
+      → r ≡ false → check 5 false ≡ verdict (comparison lock type (tx_at o) (tx_at p))
   unfolding comparison funding_cell_first
   differs_funding e h =
-      skip 5 _ (skip 5 _ (skip 5 _ (skip 5 _ (skip 5 _ (skip 5 _ (skip 5 _ (skip 5 _ (fail_apart 5 _ _ (fail_two 5 _ _ _) (sym e ∙ h)))))))))
+      skip 5 _ _ _ (skip 5 _ _ _ (skip 5 _ _ _ (skip 5 _ _ _ (skip 5 _ _ _ (skip 5 _ _ _ (skip 5 _ _ _ (skip 5 _ _ _ (fail_apart 5 _ _ _ _ (fail_two 5 _ _ _ _ _) (sym e ∙ h)))))))))
 
   -- all but the last pass
   pub differs_data : {r1 r2 r3 r4 r5 r6 r : Bool}
@@ -160,16 +161,16 @@ module _ (lock type o p : List ℕ) where
       → r5 ≡ kept_after_first (tx_at o).outputs (tx_at p).outputs → r5 ≡ true
       → r6 ≡ funding_cell_first lock type (cells (tx_at p)) → r6 ≡ true
       → r ≡ kept_after_first (tx_at o).outputs_data (tx_at p).outputs_data
-      → check 5 r ≡ comparison lock type (tx_at o) (tx_at p)
+      → check 5 r ≡ verdict (comparison lock type (tx_at o) (tx_at p))
   unfolding comparison none_missing kept_after_first funding_cell_first
   differs_data e1 t1 e2 t2 e3 t3 e4 t4 e5 t5 e6 t6 e =
       let (n, a) = (and-eq-true_iff _ _).0 (sym e5 ∙ t5) in
       let (l, k) = (and-eq-true_iff _ _).0 (sym e6 ∙ t6) in
-      pass 5 (sym e1 ∙ t1)
-      (pass_two 5 _ _ (sym e2 ∙ t2)
-      (pass_two 5 _ _ (two-lines (tx_at o).header_deps (tx_at p).header_deps e3 true t3)
-      (pass_two 5 _ _ (two-lines (tx_at o).inputs (tx_at p).inputs e4 true t4)
-      (pass 5 n (pass 5 l (pass_two 5 _ _ k (pass 5 a (last_is 5 e ∙ last_two 5 _ _))))))))
+      pass 5 _ _ (sym e1 ∙ t1)
+      (pass_two 5 _ _ _ _ _ (sym e2 ∙ t2)
+      (pass_two 5 _ _ _ _ _ (two-lines (tx_at o).header_deps (tx_at p).header_deps e3 true t3)
+      (pass_two 5 _ _ _ _ _ (two-lines (tx_at o).inputs (tx_at p).inputs e4 true t4)
+      (pass 5 _ _ n (pass 5 _ _ l (pass_two 5 _ _ _ _ _ k (pass 5 _ _ a (ap (check 5) e ∙ last_two 5 _ _ _ _))))))))
 
 -- ---- where there is nothing of ours
 
@@ -196,7 +197,7 @@ no_data ys = rw (le-leb 0 (length ys) (omega arith))
 module _ (lock type o p : List ℕ) where
   pub opens : {r s : Bool} → r ≡ funding_cell_first lock type (cells (tx_at p)) → r ≡ true
       → s ≡ eqb (tx_at o).version (tx_at p).version → s ≡ true → length o ≡ 0
-      → check 5 true ≡ comparison lock type (tx_at o) (tx_at p)
+      → check 5 true ≡ verdict (comparison lock type (tx_at o) (tx_at p))
   opens e t f u z =
       let y : [] ≡ o = by_length o sym (λ n. absurd (n z)) in
       differs_data lock type o p f u

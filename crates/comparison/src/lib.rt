@@ -8,6 +8,7 @@ ghost use Rattle.transaction.specs.Tx.{tx_at};
 ghost use Rattle.error.specs.Outcome.{check};
 ghost use Rattle.rules.specs.Cells.{cells};
 ghost use Rattle.rules.specs.Judge.{comparison};
+ghost use Rattle.rules.specs.Lines.{verdict};
 ghost use Rattle.comparison.specs.Together.{none_missing, funding_cell_first};
 
 use transaction::fields;
@@ -79,7 +80,7 @@ fn keeps_after_first<'a, F: Fn(&'a [u8], &'a [u8]) -> bool>(
 // there is no transaction of ours no list is read: all of them have the one refusal, so their order can't be told. A struct of the two scripts, which the caller
 // has apart, would be made for this call alone. An `Answer` would name the one refusal at each of the exits.
 pub fn keeps_ours(ours: &[u8], peer: &[u8], lock: &[u8], udt: &[u8]) -> bool
-    ensures { check 5 result ≡ comparison lock.now udt.now (tx_at ours.now) (tx_at peer.now) }
+    ensures { check 5 result ≡ verdict (comparison lock.now udt.now (tx_at ours.now) (tx_at peer.now)) }
 {
     if !is_funding_cell(lock, udt, peer) {
         return false;

@@ -19,7 +19,7 @@ use Rattle.rules.specs.Surplus.{total, capacity_of}
 use Rattle.rules.specs.Judge.{Call, scripts, limits, comparison, spent, tally, account, token_account, accounts, contribution, judge, judge_against}
 use Rattle.rules.specs.Told.{Update, told, in_force_of}
 use Rattle.rules.specs.Run.{handed_back, next, update_for_peer}
-use Rattle.error.proofs.Checks.{skip, fail, pass, last_is}
+use Rattle.rules.proofs.Checks.{skip, fail, pass, last_is}
 use Rattle.transaction.proofs.ReadLaws.{read_yes, read_no, ours_yes, ours_no}
 use Rattle.error.proofs.Passed.{never, fine_inj, bound-fine}
 use Rattle.accounts.specs.Paid.{tokens_left}

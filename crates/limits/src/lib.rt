@@ -5,6 +5,7 @@ ghost use Rattle.std.specs.Prelude.{◌≡◌, ◌+◌, ◌-◌, ℕ, List, leng
 ghost use Rattle.transaction.specs.Tx.{tx_at};
 ghost use Rattle.error.specs.Outcome.{check};
 ghost use Rattle.rules.specs.Judge.{limits};
+ghost use Rattle.rules.specs.Lines.{verdict};
 
 use transaction::fields;
 
@@ -61,7 +62,7 @@ fn added_cell_deps(ours: &[u8], peer: &[u8]) -> u32
 // Whether the peer's transaction keeps within the limits; the refusal is 4. A bool is plainer than an `Answer`, which would name the one
 // refusal at each of the four exits.
 pub fn validate_peer_funding_tx_complexity(ours: &[u8], peer: &[u8]) -> bool
-    ensures { check 4 result ≡ limits (length peer.now + 4) (tx_at ours.now) (tx_at peer.now) }
+    ensures { check 4 result ≡ verdict (limits (length peer.now + 4) (tx_at ours.now) (tx_at peer.now)) }
 {
     if MAX_PEER_FUNDING_TX_SERIALIZED_SIZE < serialized_size_in_block(peer) {
         return false;

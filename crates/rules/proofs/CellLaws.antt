@@ -7,13 +7,11 @@ use mathlib.Core.Option.{none, some}
 use native.Mathlib.Omega.{arith}
 use lib.ListN.{length, drop}
 use Rattle.molecule.specs.Layout.{span, item_count, item_of, entry_of}
-use Rattle.molecule.specs.Partial.{only}
-use Rattle.molecule.specs.Molecule.{readable}
 use Rattle.molecule.proofs.LayoutLaws.{entry_past}
 use Rattle.lists.proofs.SpanLaws.{span-on, span-whole, span-drop}
 use Rattle.transaction.specs.Ckb.{Records}
 use Rattle.transaction.specs.Tx.{tx_at, raw_field}
-use Rattle.rules.specs.Cells.{Cell, pair, cells, record_at, read_records}
+use Rattle.rules.specs.Cells.{Cell, pair, cells}
 use Rattle.rules.specs.Surplus.{added}
 
 -- output i of a transaction with its data
@@ -51,13 +49,3 @@ added_is o p {k} e =
     ap₂ (λ (n : ℕ) (cs : List Cell). drop n cs) (sym e) (cells_are p)
     ∙ span-drop (cell_at p) k 0 (item_count (raw_field p 4))
     ∙ (let z : 0 + k ≡ k = omega arith in ap (λ (j : ℕ). span (cell_at p) j (item_count (raw_field p 4) - k)) z)
-
--- ---- what is read
-
-pub records_yes : (s : List ℕ) → readable Records s ≡ true → read_records s ≡ some (span (record_at s) 0 (item_count s))
-unfolding read_records only
-records_yes s h = rw h
-
-pub records_no : (s : List ℕ) → readable Records s ≡ false → read_records s ≡ none
-unfolding read_records only
-records_no s h = rw h

@@ -3,14 +3,15 @@
 use mathlib.Core.Path.{◌≡◌, refl, ap, ap₂, ◌∙◌, subst}
 use Prim.Native.Nat.{ℕ}
 use mathlib.Core.List.{List, [], ◌∷◌, ◌++◌, map}
-use mathlib.Core.Option.{some}
+use mathlib.Core.Bool.{true}
 use lib.IntN.{pos}
 use Rattle.error.specs.Outcome.{Outcome, fine, refused}
-use Rattle.transaction.specs.Tx.{Tx, read_ours}
+use Rattle.molecule.specs.Molecule.{option, readable}
+use Rattle.transaction.specs.Ckb.{Transaction}
+use Rattle.transaction.specs.Tx.{Tx, tx_at}
 use Rattle.rules.specs.Cells.{Cell, cells}
 use Rattle.molecule.specs.Partial.{All}
 use Rattle.rules.specs.Surplus.{total, first, added, Measure, surplus}
-use Rattle.rules.specs.Judge.{tx_of}
 use Rattle.rules.specs.Run.{Entry, handed_back, keep, carried, sum, next, verdicts, in_force, forces, kept_records, spent_by, kept, inputs_of, records_of, steps, NotNegative, Exact, Returned, Ran, call}
 use Rattle.rules.specs.Run as run
 use Rattle.rules.proofs.Telescope.{Chain, stop, step, Sum, chain_sum, step_records, records-append}
@@ -26,12 +27,12 @@ step_surplus {m} {a} {c} {records} {paid} s =
 module _ {C S : Type 0} (E : Entry C S) where
   module _ (m : Measure) (pick : S → ℕ)
       (step_by : (ours : List ℕ) (c : C) (s : S) → E.judged ours c ≡ fine s
-      → Step m (tx_of ours) (tx_of (E.peer_of c)) (E.lent c) (pick s)) where
+      → Step m (tx_at ours) (tx_at (E.peer_of c)) (E.lent c) (pick s)) where
     abbrev ChainOf : List ℕ → List C → Type 0
-    ChainOf start calls = Chain m (tx_of start) (tx_of (in_force E start calls)) (kept E start calls) (sum (carried pick (verdicts E start calls)))
+    ChainOf start calls = Chain m (tx_at start) (tx_at (in_force E start calls)) (kept E start calls) (sum (carried pick (verdicts E start calls)))
 
     turn : (start : List ℕ) (c : C) (cs : List C) (v : Outcome S) → E.judged start c ≡ v → ((b : List ℕ) → ChainOf b cs)
-        → Chain m (tx_of start) (tx_of (in_force E (handed_back v start (E.peer_of c)) cs))
+        → Chain m (tx_at start) (tx_at (in_force E (handed_back v start (E.peer_of c)) cs))
         (keep v (spent_by E start c) ++ kept E (handed_back v start (E.peer_of c)) cs)
         (sum (carried pick (v ∷ verdicts E (handed_back v start (E.peer_of c)) cs)))
     turn start c cs (fine s) e ih = step (step_by start c s e) (ih (E.peer_of c))
@@ -44,7 +45,7 @@ module _ {C S : Type 0} (E : Entry C S) where
     each_turn : (start : List ℕ) (c : C) (cs : List C) (v : Outcome S) → E.judged start c ≡ v
         → ((b : List ℕ) → map pos (carried pick (verdicts E b cs)) ≡ steps E m b cs)
         → map pos (carried pick (v ∷ verdicts E (handed_back v start (E.peer_of c)) cs))
-        ≡ keep v (surplus m (tx_of start) (tx_of (E.peer_of c)) (E.lent c) ∷ []) ++ steps E m (handed_back v start (E.peer_of c)) cs
+        ≡ keep v (surplus m (tx_at start) (tx_at (E.peer_of c)) (E.lent c) ∷ []) ++ steps E m (handed_back v start (E.peer_of c)) cs
     each_turn start c cs (fine s) e ih = λ i. step_surplus (step_by start c s e) i ∷ ih (E.peer_of c) i
     each_turn start c cs (refused n l) e ih = ih start
 
@@ -79,24 +80,25 @@ module _ {C S : Type 0} (E : Entry C S) where
     exact start calls = record {
       each = each_step calls start;
       natural = subst (All NotNegative) (each_step calls start) (all_natural (carried pick (verdicts E start calls)));
-      sums = total-surplus (chain_sum (chain calls start)) ∙ ap (surplus m (tx_of start) (tx_of (in_force E start calls))) (kept-records calls start);
+      sums = total-surplus (chain_sum (chain calls start)) ∙ ap (surplus m (tx_at start) (tx_at (in_force E start calls))) (kept-records calls start);
     }
 
     -- the inputs of the transaction in force are those at the start, and then the kept ones
-    pub kept-inputs : (start : List ℕ) (calls : List C) → (tx_of (in_force E start calls)).inputs ≡ (tx_of start).inputs ++ inputs_of (kept E start calls)
+    pub kept-inputs : (start : List ℕ) (calls : List C) → (tx_at (in_force E start calls)).inputs ≡ (tx_at start).inputs ++ inputs_of (kept E start calls)
     kept-inputs start calls = (chain_sum (chain calls start)).inputs
 
   -- from a readable transaction, or none, a readable one, or none, is in force
-  module _ (reads : (ours : List ℕ) (c : C) (s : S) → E.judged ours c ≡ fine s → read_ours (E.peer_of c) ≡ some (tx_of (E.peer_of c))) where
-    read_turn : (start : List ℕ) (c : C) (v : Outcome S) → E.judged start c ≡ v → read_ours start ≡ some (tx_of start)
-        → read_ours (handed_back v start (E.peer_of c)) ≡ some (tx_of (handed_back v start (E.peer_of c)))
+  module _ (reads : (ours : List ℕ) (c : C) (s : S) → E.judged ours c ≡ fine s → readable (option Transaction) (E.peer_of c) ≡ true) where
+    read_turn : (start : List ℕ) (c : C) (v : Outcome S) → E.judged start c ≡ v → readable (option Transaction) start ≡ true
+        → readable (option Transaction) (handed_back v start (E.peer_of c)) ≡ true
     read_turn start c (fine s) e h = reads start c s e
     read_turn start c (refused n l) e h = h
 
-    pub stay-readable : (calls : List C) (start : List ℕ) → read_ours start ≡ some (tx_of start) → All (λ (b : List ℕ). read_ours b ≡ some (tx_of b)) (forces E start calls)
+    pub stay-readable : (calls : List C) (start : List ℕ) → readable (option Transaction) start ≡ true
+        → All (λ (b : List ℕ). readable (option Transaction) b ≡ true) (forces E start calls)
     stay-readable [] start h = tt
     stay-readable (c ∷ cs) start h =
-        let k : read_ours (next E start c) ≡ some (tx_of (next E start c)) = read_turn start c (E.judged start c) refl h in
+        let k : readable (option Transaction) (next E start c) ≡ true = read_turn start c (E.judged start c) refl h in
         (k, stay-readable cs (next E start c) k)
 
   -- calls of which each answers and hands back what the rules say are a run of the rules

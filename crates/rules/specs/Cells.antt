@@ -1,5 +1,5 @@
 -- Outputs with their data, and the lent records (docs/RULES.md, "A peer's update arrives").
-use Rattle.std.specs.Prelude.{ℕ, cond, List, [], ◌∷◌, length, get_or, drop, eqb}
+use Rattle.std.specs.Prelude.{ℕ, Bool, cond, List, [], ◌∷◌, length, get_or, drop, eqb}
 use Rattle.std.proofs.Math.Option.{Option, none, some}
 use Rattle.molecule.specs.Partial.{only}
 use Rattle.molecule.specs.Molecule.{readable}
@@ -28,5 +28,10 @@ record_cell r = record { output = first_of r; cell_data = data_of r }
 unfoldable pub record_at : List ℕ → ℕ → Option Cell
 record_at s i = cond (eqb (length (item_of s i)) 0) none (some (record_cell (item_of s i)))
 
-unfoldable pub read_records : List ℕ → Option (List (Option Cell))
-read_records s = only (readable Records s) (some (span (record_at s) 0 (item_count s)))
+-- the lent records: whether all can be read, and what is read of them
+pub record Lent : Type 0 where
+  pub readable : Bool
+  pub records : List (Option Cell)
+
+unfoldable pub lent_at : List ℕ → Lent
+lent_at s = record { readable = readable Records s; records = span (record_at s) 0 (item_count s) }

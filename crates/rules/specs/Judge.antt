@@ -1,13 +1,15 @@
--- update_for_peer: the checks of docs/RULES.md, "A peer's update arrives", a line for each, in table order and within a row as written.
-use Rattle.std.specs.Prelude.{ℕ, suc, ◌+◌, ◌-◌, ◌^◌, min, Bool, true, cond, not, ◌&&◌, ◌||◌, List, [], ◌∷◌, length, drop, leb, ltb, eqb}
-use Rattle.std.proofs.Math.Option.{Option, none, some, get_or}
+-- update_for_peer: the lines of docs/RULES.md, "A peer's update arrives", in table order and within a row as written. Each has its number and its name.
+use Rattle.std.specs.Prelude.{ℕ, suc, ◌+◌, ◌-◌, ◌^◌, min, Bool, true, false, cond, not, ◌&&◌, ◌||◌, List, [], ◌∷◌, length, drop, leb, ltb, eqb}
+use Prim.Native.String.{String}
+use Rattle.std.proofs.Math.Option.{Option, none, some}
+use Rattle.error.specs.Outcome.{Outcome}
 use Rattle.lists.specs.Lists.{eq_bytes, agree, contains_all, is_empty}
 use Rattle.molecule.specs.Molecule.{option, readable}
-use Rattle.transaction.specs.Ckb.{Script}
+use Rattle.transaction.specs.Ckb.{Script, Transaction}
+use Rattle.transaction.specs.Tx.{Tx, tx_at, lock_of}
 use Rattle.units.specs.{Fee.fee_shannons, Units.Figures}
-use Rattle.transaction.specs.Tx.{Tx, tx_at, lock_of, read_tx, read_ours}
-use Rattle.rules.specs.Cells.{Cell, cells, read_records}
-use Rattle.error.specs.Outcome.{Outcome, fine, refused, check, check_with, given, ◌>>=◌, ◌>>◌}
+use Rattle.rules.specs.Cells.{Cell, cells, Lent, lent_at}
+use Rattle.rules.specs.Lines.{Ruled, line, line_with, answer, verdict, ◌>>=◌, ◌>>◌}
 use Rattle.rules.specs.Surplus.{total, first, added, capacity_of, amount_of, is_of, has_amount}
 
 -- what a call brings
@@ -17,22 +19,24 @@ pub record Call : Type 0 where
   pub source : List ℕ
   pub rate : ℕ
 
--- the transaction of our bytes; where they can't be read, that of version 0 and empty lists
-unfoldable pub tx_of : List ℕ → Tx
-tx_of bs = get_or (read_ours bs) (tx_at [])
+-- ---- entry
+
+-- a script unreadable
+unfoldable pub scripts : List ℕ → List ℕ → List ℕ → Ruled (Unit {0})
+scripts lock type source = do
+  line 3 "the lock unreadable" (readable Script lock)
+  line 3 "the type unreadable" (readable (option Script) type)
+  line 3 "our source lock unreadable" (readable Script source)
 
 -- ---- limits
 
-unfoldable pub limits : ℕ → Tx → Tx → Outcome (Unit {0})
+-- the size is that of the bytes and 4
+unfoldable pub limits : ℕ → Tx → Tx → Ruled (Unit {0})
 limits size ours peer = do
-  -- size (bytes + 4) over 133,120
-  check 4 (leb size 133120)
-  -- added inputs over 64
-  check 4 (leb (length peer.inputs - length ours.inputs) 64)
-  -- added outputs over 3
-  check 4 (leb (length peer.outputs - length ours.outputs) 3)
-  -- added cell deps over 8
-  check 4 (leb (length peer.cell_deps - length ours.cell_deps) 8)
+  line 4 "size over 133,120" (leb size 133120)
+  line 4 "added inputs over 64" (leb (length peer.inputs - length ours.inputs) 64)
+  line 4 "added outputs over 3" (leb (length peer.outputs - length ours.outputs) 3)
+  line 4 "added cell deps over 8" (leb (length peer.cell_deps - length ours.cell_deps) 8)
 
 -- ---- comparison
 
@@ -47,42 +51,39 @@ has_lock lock c = eq_bytes lock (lock_of c.output)
 unfoldable pub no_data_untyped : List ℕ → Cell → Bool
 no_data_untyped type c = not (is_empty type) || is_empty c.cell_data
 
-unfoldable pub comparison : List ℕ → List ℕ → Tx → Tx → Outcome (Unit {0})
+unfoldable pub comparison : List ℕ → List ℕ → Tx → Tx → Ruled (Unit {0})
 comparison lock type ours peer = do
-  -- version differs
-  check 5 (eqb ours.version peer.version)
-  -- fewer cell deps, or one of ours missing
-  check 5 (leb (length ours.cell_deps) (length peer.cell_deps))
-  check 5 (contains_all ours.cell_deps peer.cell_deps)
-  -- fewer header deps, or a shared place differs
-  check 5 (leb (length ours.header_deps) (length peer.header_deps))
-  check 5 (agree ours.header_deps peer.header_deps)
-  -- the same for inputs
-  check 5 (leb (length ours.inputs) (length peer.inputs))
-  check 5 (agree ours.inputs peer.inputs)
-  -- fewer outputs
-  check 5 (leb (length ours.outputs) (length peer.outputs))
-  -- output 0 present with lock or type not as expected, or untyped with data
-  check 5 (at_first (has_lock lock) (cells peer))
-  check 5 (at_first (is_of type) (cells peer))
-  check 5 (at_first (no_data_untyped type) (cells peer))
-  -- an output after 0 differs from ours
-  check 5 (agree (drop 1 ours.outputs) (drop 1 peer.outputs))
-  -- fewer data entries
-  check 5 (leb (length ours.outputs_data) (length peer.outputs_data))
-  -- a data entry after 0 differs
-  check 5 (agree (drop 1 ours.outputs_data) (drop 1 peer.outputs_data))
+  line 5 "version differs" (eqb ours.version peer.version)
+  line 5 "fewer cell deps" (leb (length ours.cell_deps) (length peer.cell_deps))
+  line 5 "a cell dep of ours missing" (contains_all ours.cell_deps peer.cell_deps)
+  line 5 "fewer header deps" (leb (length ours.header_deps) (length peer.header_deps))
+  line 5 "a header dep differs" (agree ours.header_deps peer.header_deps)
+  line 5 "fewer inputs" (leb (length ours.inputs) (length peer.inputs))
+  line 5 "an input differs" (agree ours.inputs peer.inputs)
+  line 5 "fewer outputs" (leb (length ours.outputs) (length peer.outputs))
+  line 5 "output 0's lock not as expected" (at_first (has_lock lock) (cells peer))
+  line 5 "output 0's type not as expected" (at_first (is_of type) (cells peer))
+  line 5 "output 0 untyped with data" (at_first (no_data_untyped type) (cells peer))
+  line 5 "an output after 0 differs" (agree (drop 1 ours.outputs) (drop 1 peer.outputs))
+  line 5 "fewer data entries" (leb (length ours.outputs_data) (length peer.outputs_data))
+  line 5 "a data entry after 0 differs" (agree (drop 1 ours.outputs_data) (drop 1 peer.outputs_data))
 
 -- ---- records
 
+abbrev pub is_live : Option Cell → Bool
+is_live none = false
+is_live (some c) = true
+
+abbrev pub is_ours : List ℕ → Option Cell → Bool
+is_ours source none = false
+is_ours source (some c) = has_lock source c
+
 -- by input, from index i among all inputs
-unfoldable pub live : List ℕ → ℕ → List (Option Cell) → Outcome (Unit {0})
-live source i [] = fine tt
--- not live
-live source i (none ∷ rs) = refused 5 []
-live source i (some c ∷ rs) = do
-  -- lock is our source lock
-  check_with 6 (i ∷ []) (not (has_lock source c))
+unfoldable pub live : List ℕ → ℕ → List (Option Cell) → Ruled (Unit {0})
+live source i [] = answer tt
+live source i (r ∷ rs) = do
+  line 5 "a record not live" (is_live r)
+  line_with 6 (i ∷ []) "a record under our source lock" (not (is_ours source r))
   live source (suc i) rs
 
 unfoldable pub live_cells : List (Option Cell) → List Cell
@@ -91,13 +92,12 @@ live_cells (none ∷ rs) = live_cells rs
 live_cells (some c ∷ rs) = c ∷ live_cells rs
 
 -- the cells that the added inputs spend
-unfoldable pub spent : List ℕ → Tx → Tx → Option (List (Option Cell)) → Outcome (List Cell)
+unfoldable pub spent : List ℕ → Tx → Tx → Lent → Ruled (List Cell)
 spent source ours peer lent = do
-  -- a record unreadable, or not one per added input
-  records ← given 3 lent
-  check 3 (eqb (length records) (length peer.inputs - length ours.inputs))
-  live source (length ours.inputs) records
-  fine (live_cells records)
+  line 3 "a record unreadable" lent.readable
+  line 3 "not one record per added input" (eqb (length lent.records) (length peer.inputs - length ours.inputs))
+  live source (length ours.inputs) lent.records
+  answer (live_cells lent.records)
 
 -- ---- contribution
 
@@ -105,110 +105,117 @@ abbrev pub growth : (Cell → ℕ) → Tx → Tx → ℕ
 growth f ours peer = first f (cells peer) - first f (cells ours)
 
 -- the growth of output 0 in tokens
-unfoldable pub token_delta : Tx → Tx → Outcome ℕ
+unfoldable pub token_delta : Tx → Tx → Ruled ℕ
 token_delta ours peer = do
-  -- our amount, then the peer's, under 16 bytes
-  check 5 (at_first has_amount (cells ours))
-  check 5 (at_first has_amount (cells peer))
-  -- amount falls
-  check 5 (leb (first amount_of (cells ours)) (first amount_of (cells peer)))
-  fine (growth amount_of ours peer)
+  line 5 "our amount under 16 bytes" (at_first has_amount (cells ours))
+  line 5 "the peer's amount under 16 bytes" (at_first has_amount (cells peer))
+  line 5 "amount falls" (leb (first amount_of (cells ours)) (first amount_of (cells peer)))
+  answer (growth amount_of ours peer)
 
 -- the growth of output 0, in tokens only where a type is expected
-unfoldable pub funding_output_delta : List ℕ → Tx → Tx → Outcome Figures
+unfoldable pub funding_output_delta : List ℕ → Tx → Tx → Ruled Figures
 funding_output_delta type ours peer = do
-  -- output 0 or its data missing
-  check 5 (not (is_empty peer.outputs))
-  check 5 (not (is_empty peer.outputs_data))
-  -- its capacity falls
-  check 5 (leb (first capacity_of (cells ours)) (first capacity_of (cells peer)))
-  token ← cond (is_empty type) (fine 0) (token_delta ours peer)
-  fine (record { capacity = growth capacity_of ours peer; token = token })
+  line 5 "output 0 missing" (not (is_empty peer.outputs))
+  line 5 "output 0's data missing" (not (is_empty peer.outputs_data))
+  line 5 "its capacity falls" (leb (first capacity_of (cells ours)) (first capacity_of (cells peer)))
+  token ← cond (is_empty type) (answer 0) (token_delta ours peer)
+  answer (record { capacity = growth capacity_of ours peer; token = token })
 
 -- ours has no inputs and no outputs
 abbrev pub unfunded : Tx → Bool
 unfunded ours = is_empty ours.inputs && is_empty ours.outputs
 
 -- what is left of `gained` over what it has to cover, which pays the fee where ours is still empty
-unfoldable pub covered : Bool → ℕ → ℕ → ℕ → ℕ → Outcome ℕ
+unfoldable pub covered : Bool → ℕ → ℕ → ℕ → ℕ → Ruled ℕ
 covered opening gained needed rate size = do
-  -- added inputs below growth plus added outputs
-  check 5 (leb needed gained)
-  -- ours has no inputs and no outputs, and the fee is too low
-  check_with 8 (min (gained - needed) (2 ^ 64 - 1) ∷ fee_shannons rate size ∷ rate ∷ size ∷ []) (not opening || leb (fee_shannons rate size) (gained - needed))
-  fine (gained - needed)
+  line 5 "added inputs below growth plus added outputs" (leb needed gained)
+  line_with 8 (min (gained - needed) (2 ^ 64 - 1) ∷ fee_shannons rate size ∷ rate ∷ size ∷ []) "the fee too low"
+    (not opening || leb (fee_shannons rate size) (gained - needed))
+  answer (gained - needed)
 
--- a sum of tokens with those of one more cell; a cell of another type may hold any data
-unfoldable pub counted : List ℕ → ℕ → Cell → Outcome ℕ
-counted type sum c = cond (is_of type c) summed (fine sum)
-  where
-    summed : Outcome ℕ
-    summed = do
-      -- an amount under 16 bytes
-      check 5 (has_amount c)
-      -- a total of 2^128 or more
-      check 7 (ltb (sum + amount_of c) (2 ^ 128))
-      fine (sum + amount_of c)
+-- of a type: a sum of tokens with those of one more cell; a cell of another type may hold any data. `short` and `over` are the names of its lines
+module _ (short over : String) (type : List ℕ) where
+  unfoldable pub counted : ℕ → Cell → Ruled ℕ
+  counted sum c = cond (is_of type c) summed (answer sum)
+    where
+      summed : Ruled ℕ
+      summed = do
+        line 5 short (has_amount c)
+        line 7 over (ltb (sum + amount_of c) (2 ^ 128))
+        answer (sum + amount_of c)
 
-unfoldable pub tally : List ℕ → ℕ → List Cell → Outcome ℕ
-tally type sum [] = fine sum
-tally type sum (c ∷ cs) = do
-  next ← counted type sum c
-  tally type next cs
+  unfoldable pub tally : ℕ → List Cell → Ruled ℕ
+  tally sum [] = answer sum
+  tally sum (c ∷ cs) = do
+    next ← counted sum c
+    tally next cs
+
+-- of the cells that records bring in, and of added outputs
+abbrev pub brought_tokens : List ℕ → List Cell → Ruled ℕ
+brought_tokens type cs = tally "a record's amount under 16 bytes" "the records' total 2^128 or more" type 0 cs
+
+abbrev pub added_tokens : List ℕ → List Cell → Ruled ℕ
+added_tokens type cs = tally "an added output's amount under 16 bytes" "the added outputs' total 2^128 or more" type 0 cs
 
 -- what is left of `gained` over growth and outputs
-unfoldable pub settled : ℕ → ℕ → ℕ → Outcome ℕ
+unfoldable pub settled : ℕ → ℕ → ℕ → Ruled ℕ
 settled growth outs gained = do
-  -- growth plus outputs 2^128 or more
-  check 7 (ltb (growth + outs) (2 ^ 128))
-  -- inputs below it
-  check 5 (leb (growth + outs) gained)
-  fine (gained - (growth + outs))
+  line 7 "growth plus outputs 2^128 or more" (ltb (growth + outs) (2 ^ 128))
+  line 5 "token inputs below growth plus outputs" (leb (growth + outs) gained)
+  answer (gained - (growth + outs))
 
--- the account of one type: by record, then by added output, then with the growth of output 0
-unfoldable pub account : List ℕ → ℕ → List Cell → List Cell → Outcome ℕ
-account type growth records outs = do
-  gained ← tally type 0 records
-  put ← tally type 0 outs
-  settled growth put gained
+-- the account of the expected type: by record, which is `paid`, then by added output, then with the growth of output 0; 0 when untyped
+unfoldable pub token_account : List ℕ → ℕ → Ruled ℕ → List Cell → Ruled ℕ
+token_account type growth paid outs = cond (is_empty type) (answer 0) account
+  where
+    account : Ruled ℕ
+    account = do
+      gained ← paid
+      put ← added_tokens type outs
+      settled growth put gained
 
-unfoldable pub token_account : List ℕ → ℕ → List Cell → List Cell → Outcome ℕ
-token_account type growth records outs = cond (is_empty type) (fine 0) (account type growth records outs)
+-- both accounts of records that bring in so many shannons and tokens, with output 0 grown by `grown` and with these outputs added
+unfoldable pub accounts : List ℕ → Bool → ℕ → Ruled ℕ → List Cell → ℕ → ℕ → Figures → Ruled Figures
+accounts type opening gained paid outs rate size grown = do
+  capacity ← covered opening gained (grown.capacity + total capacity_of outs) rate size
+  token ← token_account type grown.token paid outs
+  answer (record { capacity = capacity; token = token })
 
--- both accounts, with output 0 grown by so many shannons and tokens
-unfoldable pub accounts : List ℕ → Tx → Tx → List Cell → ℕ → ℕ → ℕ → ℕ → Outcome Figures
-accounts type ours peer records rate size shannons tokens = do
-  capacity ← covered (unfunded ours) (total capacity_of records) (shannons + total capacity_of (added ours peer)) rate size
-  token ← token_account type tokens records (added ours peer)
-  fine (record { capacity = capacity; token = token })
-
-unfoldable pub contribution : List ℕ → Tx → Tx → List Cell → ℕ → ℕ → Outcome Figures
-contribution type ours peer records rate size = do
-  delta ← funding_output_delta type ours peer
-  accounts type ours peer records rate size delta.capacity delta.token
+unfoldable pub contribution : List ℕ → Tx → Tx → ℕ → Ruled ℕ → ℕ → ℕ → Ruled Figures
+contribution type ours peer gained paid rate size = do
+  grown ← funding_output_delta type ours peer
+  accounts type (unfunded ours) gained paid (added ours peer) rate size grown
 
 -- ---- all
 
--- a script unreadable
-unfoldable pub scripts : List ℕ → List ℕ → List ℕ → Outcome (Unit {0})
-scripts lock type source = do
-  check 3 (readable Script lock)
-  check 3 (readable (option Script) type)
-  check 3 (readable Script source)
+-- what comes before the records
+unfoldable pub opening : List ℕ → List ℕ → List ℕ → Tx → List ℕ → Ruled (Unit {0})
+opening lock type source ours bytes = do
+  line 2 "the peer's bytes unreadable" (readable Transaction bytes)
+  scripts lock type source
+  limits (length bytes + 4) ours (tx_at bytes)
+  comparison lock type ours (tx_at bytes)
 
--- the checks after "our bytes unreadable", against our transaction as it was read
+-- the records, and what follows them
+unfoldable pub closing : List ℕ → List ℕ → Tx → Tx → ℕ → ℕ → Lent → Ruled Figures
+closing type source ours peer rate size lent = do
+  records ← spent source ours peer lent
+  contribution type ours peer (total capacity_of records) (brought_tokens type records) rate size
+
+-- against our transaction, as it was read
+unfoldable pub ruling_against : List ℕ → List ℕ → Tx → Call → Ruled Figures
+ruling_against lock type ours call = do
+  opening lock type call.source ours call.peer
+  closing type call.source ours (tx_at call.peer) call.rate (length call.peer + 4) (lent_at call.records)
+
+unfoldable pub ruling : List ℕ → List ℕ → List ℕ → Call → Ruled Figures
+ruling lock type oursBytes call = do
+  line 1 "our bytes unreadable" (readable (option Transaction) oursBytes)
+  ruling_against lock type (tx_at oursBytes) call
+
+-- what is answered
 unfoldable pub judge_against : List ℕ → List ℕ → Tx → Call → Outcome Figures
-judge_against lock type ours call = do
-  -- peer's bytes unreadable
-  peer ← given 2 (read_tx call.peer)
-  scripts lock type call.source
-  limits (length call.peer + 4) ours peer
-  comparison lock type ours peer
-  records ← spent call.source ours peer (read_records call.records)
-  contribution type ours peer records call.rate (length call.peer + 4)
+judge_against lock type ours call = verdict (ruling_against lock type ours call)
 
 unfoldable pub judge : List ℕ → List ℕ → List ℕ → Call → Outcome Figures
-judge lock type oursBytes call = do
-  -- our bytes unreadable
-  ours ← given 1 (read_ours oursBytes)
-  judge_against lock type ours call
+judge lock type oursBytes call = verdict (ruling lock type oursBytes call)

@@ -1,24 +1,23 @@
 -- A list of calls (docs/RULES.md, "The three demands", 3, and "What the peer put in"): each is judged against the transaction in force that the one before left.
 use Rattle.std.specs.Prelude.{ℕ, ◌+◌, ◌≡◌, List, [], ◌∷◌, ◌++◌, map, length, drop, ℤ, pos}
-use Rattle.std.proofs.Math.Option.{Option, none, some}
-use Rattle.error.specs.Outcome.{Outcome, fine, refused}
-use Rattle.rules.specs.Cells.{Cell, read_records}
+use Rattle.error.specs.Outcome.{Outcome, fine, refused, leaves}
+use Rattle.transaction.specs.Tx.{tx_at}
+use Rattle.rules.specs.Cells.{Cell, lent_at}
 use Rattle.molecule.specs.Partial.{All}
 use Rattle.rules.specs.Surplus.{Measure, surplus}
 use Rattle.units.specs.Units.{Figures}
-use Rattle.rules.specs.Judge.{Call, judge, tx_of, live_cells}
+use Rattle.rules.specs.Judge.{Call, judge, live_cells}
 
 -- An entry judges calls C against our bytes, and its acceptances carry S.
 pub record Entry (C S : Type 0) : Type 0 where
   pub judged : List ℕ → C → Outcome S
   pub peer_of : C → List ℕ
-  -- the live cells of the records that a call lends; none where they can't be read
+  -- the live cells of the records that a call lends
   pub lent : C → List Cell
 
 -- the bytes in force after a verdict: the peer's after an acceptance, ours after a refusal
 abbrev pub handed_back {ℓ} : {S : Type 0} {A : Type ℓ} → Outcome S → A → A → A
-handed_back (fine s) ours peer = peer
-handed_back (refused n l) ours peer = ours
+handed_back v ours peer = leaves v (λ _. peer) ours
 
 -- what an acceptance adds, and a refusal does not
 abbrev pub keep : {S A : Type 0} → Outcome S → List A → List A
@@ -82,7 +81,7 @@ module _ {C S : Type 0} (E : Entry C S) where
 
   -- what a call would add to ours
   abbrev pub spent_by : List ℕ → C → List Spent
-  spent_by ours c = spends (drop (length (tx_of ours).inputs) (tx_of (E.peer_of c)).inputs) (E.lent c)
+  spent_by ours c = spends (drop (length (tx_at ours).inputs) (tx_at (E.peer_of c)).inputs) (E.lent c)
 
   -- the inputs that the accepted updates added, with their records, in order
   abbrev pub kept : List ℕ → List C → List Spent
@@ -93,7 +92,7 @@ module _ {C S : Type 0} (E : Entry C S) where
   abbrev pub steps : Measure → List ℕ → List C → List ℤ
   steps m ours [] = []
   steps m ours (c ∷ cs) =
-      keep (E.judged ours c) (surplus m (tx_of ours) (tx_of (E.peer_of c)) (E.lent c) ∷ []) ++ steps m (next ours c) cs
+      keep (E.judged ours c) (surplus m (tx_at ours) (tx_at (E.peer_of c)) (E.lent c) ∷ []) ++ steps m (next ours c) cs
 
   -- The law for one measure, of the verdicts of a list of calls and the bytes in force at its end: `pick` takes the surplus from what an acceptance carries.
   pub record Exact (m : Measure) (pick : S → ℕ) (start : List ℕ) (calls : List C) (answers : List (Outcome S)) (end : List ℕ) : Type 0 where
@@ -102,7 +101,7 @@ module _ {C S : Type 0} (E : Entry C S) where
     -- none of which is negative
     pub natural : All NotNegative (steps m start calls)
     -- and they sum to the surplus of the transaction then in force against the one at the start, over the records kept, in order
-    pub sums : pos (sum (carried pick answers)) ≡ surplus m (tx_of start) (tx_of end) (kept_records start calls)
+    pub sums : pos (sum (carried pick answers)) ≡ surplus m (tx_at start) (tx_at end) (kept_records start calls)
 
 -- what a call of a program returns: its answer, and the bytes that it hands back
 pub record Returned (U : Type 0) : Type 0 where
@@ -118,13 +117,13 @@ pub data Ran {C U : Type 0} (Called : List ℕ → C → U → List ℕ → Type
 
 -- ---- update_for_peer
 
-abbrev pub all_cells : Option (List (Option Cell)) → List Cell
-all_cells none = []
-all_cells (some rs) = live_cells rs
+-- the live cells of lent records
+abbrev pub lent_cells : List ℕ → List Cell
+lent_cells s = live_cells (lent_at s).records
 
 abbrev pub update_for_peer : List ℕ → List ℕ → Entry Call Figures
 update_for_peer lock type = record {
   judged = judge lock type;
   peer_of = λ c. c.peer;
-  lent = λ c. all_cells (read_records c.records);
+  lent = λ c. lent_cells c.records;
 }
