@@ -4,6 +4,7 @@ ghost use Rattle.units.specs.Units.{shannon_count};
 ghost use Rattle.rules.specs.Cells.{record_cell};
 ghost use Rattle.rules.specs.Surplus.{total, capacity_of};
 ghost use Rattle.rules.specs.Judge.{covered};
+ghost use Rattle.rules.specs.Lines.{verdict};
 ghost use Rattle.error.specs.Outcome.{told_by};
 ghost use Rattle.accounts.specs.Added.{added_cells};
 
@@ -47,7 +48,7 @@ fn cover(
     rate: u64,
     size: u64,
 ) -> Result<Shannons, Refusal>
-    ensures { told_by shannon_count result ≡ covered opening (shannon_count gained) (shannon_count grown + shannon_count put) rate size }
+    ensures { told_by shannon_count result ≡ verdict (covered opening (shannon_count gained) (shannon_count grown + shannon_count put) rate size) }
 {
     let rest = gained
         .checked_sub(grown)
@@ -77,7 +78,7 @@ pub fn surplus(
     rate: u64,
     size: u64,
 ) -> Result<Shannons, Refusal>
-    ensures { told_by shannon_count result ≡ covered opening (shannon_count gained) (shannon_count grown + total capacity_of (added_cells added.entry)) rate size }
+    ensures { told_by shannon_count result ≡ verdict (covered opening (shannon_count gained) (shannon_count grown + total capacity_of (added_cells added.entry)) rate size) }
 {
     let put = added.capacity();
     cover(opening, gained, grown, put, rate, size)

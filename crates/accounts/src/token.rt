@@ -4,10 +4,11 @@ ghost use Rattle.std.specs.Prelude.{◌≡◌, true, List, ℕ};
 ghost use Rattle.units.specs.Units.{token_count};
 ghost use Rattle.rules.specs.Cells.{record_cell};
 ghost use Rattle.rules.specs.Surplus.{is_of};
-ghost use Rattle.rules.specs.Judge.{counted, tally, settled};
+ghost use Rattle.rules.specs.Judge.{Names, of_outputs, counted, tally, settled, token_account};
+ghost use Rattle.rules.specs.Lines.{Name, verdict, known};
 ghost use Rattle.error.specs.Outcome.{told_by};
 ghost use Rattle.accounts.specs.Added.{cell_in, added_cells};
-ghost use Rattle.accounts.specs.Paid.{and_cell, tokens_left};
+ghost use Rattle.accounts.specs.Inner.{and_record};
 
 use crate::Added;
 use error::Refusal;
@@ -16,7 +17,7 @@ use units::{Figure, Tokens};
 
 // A sum with the amount of one more cell of the type that is asked for, whatever that is; d is its data.
 fn add_amount(d: &[u8], sum: Tokens) -> Result<Tokens, Refusal>
-    ensures { (type o : List ℕ) → is_of type (record { output = o; cell_data = d.now }) ≡ true → told_by token_count result ≡ counted type (token_count sum) (record { output = o; cell_data = d.now }) }
+    ensures { (names : Names) (type o : List ℕ) → is_of type (record { output = o; cell_data = d.now }) ≡ true → told_by token_count result ≡ verdict (counted names type (token_count sum) (record { output = o; cell_data = d.now })) }
 {
     let amount = crate::read_udt_amount(d).ok_or(Refusal::InvalidPeerFundingTx)?;
     sum.checked_add(amount).ok_or(Refusal::OverflowError)
@@ -28,7 +29,7 @@ pub fn add_record(
     resolved: &[u8],
     paid: Result<Tokens, Refusal>,
 ) -> Result<Tokens, Refusal>
-    ensures { told_by token_count result ≡ and_cell udt.now (told_by token_count paid) (record_cell resolved.now) }
+    ensures { told_by token_count result ≡ verdict (and_record udt.now (known (told_by token_count paid)) (record_cell resolved.now)) }
 {
     let sum = paid?;
     let o = fields::record_output(resolved);
@@ -43,7 +44,7 @@ pub fn add_record(
 impl Added<'_> {
     // A sum with the tokens of output i.
     fn add_output(self, udt: &[u8], i: usize, sum: Tokens) -> Result<Tokens, Refusal>
-        ensures { told_by token_count result ≡ counted udt.now (token_count sum) (cell_in self.entry.outputs.now self.entry.entries.now i) }
+        ensures { told_by token_count result ≡ verdict (counted of_outputs udt.now (token_count sum) (cell_in self.entry.outputs.now self.entry.entries.now i)) }
     {
         let o = molecule::item(self.outputs, i);
         let t = fields::type_script(o);
@@ -56,7 +57,7 @@ impl Added<'_> {
 
     // The tokens of these outputs.
     fn tokens(self, udt: &[u8]) -> Result<Tokens, Refusal>
-        ensures { told_by token_count result ≡ tally udt.now 0 (added_cells self.entry) }
+        ensures { told_by token_count result ≡ verdict (tally of_outputs udt.now 0 (added_cells self.entry)) }
     {
         let n = molecule::item_count(self.outputs) as usize;
         let mut sum = Tokens::ZERO;
@@ -69,7 +70,7 @@ impl Added<'_> {
 
 // What is left of what the records brought in over growth and added outputs.
 fn settle(grown: Tokens, put: Tokens, gained: Tokens) -> Result<Tokens, Refusal>
-    ensures { told_by token_count result ≡ settled (token_count grown) (token_count put) (token_count gained) }
+    ensures { told_by token_count result ≡ verdict (settled (token_count grown) (token_count put) (token_count gained)) }
 {
     let needed = grown.checked_add(put).ok_or(Refusal::OverflowError)?;
     gained
@@ -84,7 +85,7 @@ pub fn surplus(
     grown: Tokens,
     added: Added<'_>,
 ) -> Result<Tokens, Refusal>
-    ensures { told_by token_count result ≡ tokens_left udt.now (token_count grown) (told_by token_count paid) (added_cells added.entry) }
+    ensures { told_by token_count result ≡ verdict (token_account udt.now (token_count grown) (known (told_by token_count paid)) (added_cells added.entry)) }
 {
     if udt.is_empty() {
         return Ok(Tokens::ZERO);

@@ -142,7 +142,7 @@ module _ (lock type o p : List ℕ) where
       → r ≡ false → check 5 false ≡ verdict (comparison lock type (tx_at o) (tx_at p))
   unfolding comparison kept_after_first
   differs_outputs e h =
-      skip 5 _ _ _ (skip 5 _ _ _ (skip 5 _ _ _ (skip 5 _ _ _ (skip 5 _ _ _ (skip 5 _ _ _ (skip 5 _
+      skip 5 _ _ _ (skip 5 _ _ _ (skip 5 _ _ _ (skip 5 _ _ _ (skip 5 _ _ _ (skip 5 _ _ _ (skip 5 _ _ _
       (fail_apart 5 _ _ _ _ (λ z. skip 5 _ _ _ (skip 5 _ _ _ (skip 5 _ _ _ (fail 5 _ _ z)))) (sym e ∙ h))))))))
 
   pub differs_funding : {r : Bool}

@@ -1,1 +1,2 @@
+pub mod Inner
 pub mod Resolved

@@ -5,10 +5,11 @@ ghost use Rattle.std.specs.Prelude.{◌≡◌, ◌+◌};
 ghost use Rattle.molecule.specs.Molecule.{readable};
 ghost use Rattle.transaction.specs.Ckb.{Record};
 ghost use Rattle.transaction.specs.Tx.{tx_at};
-ghost use Rattle.rules.specs.Cells.{read_records, record_cell};
+ghost use Rattle.rules.specs.Cells.{lent_at, record_cell};
 ghost use Rattle.rules.specs.Judge.{has_lock};
 ghost use Rattle.error.specs.Outcome.{refusal, told_by};
-ghost use Rattle.records.specs.Resolved.{brought_by, or_unreadable, gathered, brings};
+ghost use Rattle.records.specs.Inner.{or_unreadable, gathered};
+ghost use Rattle.records.specs.Resolved.{brought_by, brings};
 
 use accounts::{Brought, capacity, token};
 use error::Refusal;
@@ -38,7 +39,7 @@ fn is_record(s: &[u8]) -> bool
 
 // Why a record is refused, unless one of them is unreadable.
 fn unless_unreadable(records: &[u8], why: Refusal) -> Refusal
-    ensures { refusal result ≡ or_unreadable why (read_records records.now) }
+    ensures { refusal result ≡ or_unreadable why (lent_at records.now) }
 {
     if transaction::is_records(records) {
         why
@@ -49,7 +50,7 @@ fn unless_unreadable(records: &[u8], why: Refusal) -> Refusal
 
 // One walk reads the records, sees that each is live and not under our source lock, and sums up what they bring in; the first is of input `first` among all.
 fn gather(source: &[u8], udt: &[u8], first: u32, records: &[u8]) -> Result<Brought, Refusal>
-    ensures { told_by brought_by result ≡ gathered source.now udt.now first (read_records records.now) }
+    ensures { told_by brought_by result ≡ gathered source.now udt.now first (lent_at records.now) }
 {
     let n = molecule::item_count(records) as usize;
     if !molecule::has_header(records, n) {
@@ -93,7 +94,7 @@ pub fn resolve(
     udt: &[u8],
     records: &[u8],
 ) -> Result<Brought, Refusal>
-    ensures { told_by brought_by result ≡ brings source.now udt.now (tx_at ours.now) (tx_at peer.now) (read_records records.now) }
+    ensures { told_by brought_by result ≡ brings source.now udt.now (tx_at ours.now) (tx_at peer.now) (lent_at records.now) }
 {
     let n = molecule::item_count(records);
     if n != limits::added_inputs(ours, peer) {

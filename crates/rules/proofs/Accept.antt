@@ -21,7 +21,7 @@ use Rattle.transaction.specs.Tx.{Tx, tx_at}
 use Rattle.rules.specs.Cells.{Cell, cells, Lent, lent_at}
 use Rattle.rules.specs.Surplus.{total, first, added, Measure, capacities, capacity_of, amount_of, token_of, is_of, has_amount, expected}
 use Rattle.rules.specs.Lines.{Ruled, line, line_with, answer, verdict, followed, line_holds, first_failing, ◌>>=◌, ◌>>◌}
-use Rattle.rules.specs.Judge.{Call, judge, judge_against, ruling, ruling_against, opening, closing, scripts, limits, comparison, spent, live, live_cells, counted, tally, brought_tokens, added_tokens, settled, growth, token_delta, funding_output_delta, covered, token_account, accounts, contribution}
+use Rattle.rules.specs.Judge.{Call, judge, judge_against, ruling, ruling_against, opening, closing, scripts, limits, comparison, spent, live, live_cells, counted, Names, of_records, of_outputs, tally, settled, growth, token_delta, funding_output_delta, covered, token_account, accounts, contribution}
 use Rattle.rules.specs.Run.{handed_back, lent_cells, next, update_for_peer}
 use Rattle.rules.specs.Step.{Settled, with_data, Extends, Step}
 use Rattle.rules.proofs.LinesLaws.{holding, line-accepted, answer-accepted, bind-accepted, then-accepted}
@@ -55,28 +55,28 @@ live_all source i (some c ∷ rs) e =
 abbrev Read : List ℕ → Cell → Type 0
 Read type c = T (not (is_of type c) || has_amount c)
 
-module _ (short over : String) (type : List ℕ) where
-  counted_is : (sum : ℕ) (c : Cell) (t : ℕ) → verdict (counted short over type sum c) ≡ fine t → (t ≡ sum + token_of type c) × Read type c
-  unfolding counted
-  counted_is sum c t e = by (is_of type c) e
-    where
-      by : (b : Bool) → verdict (cond b (line 5 short (has_amount c) >> (line 7 over (ltb (sum + amount_of c) (2 ^ 128)) >> answer (sum + amount_of c))) (answer sum)) ≡ fine t
-          → (t ≡ sum + cond b (amount_of c) 0) × T (not b || has_amount c)
-      by true e =
-          let (read, e₁) = line-accepted _ _ _ _ _ _ e in
-          let (small, e₂) = line-accepted _ _ _ _ _ _ e₁ in
-          (sym (answer-accepted e₂), read)
-      by false e = let h : sum ≡ t = answer-accepted e in (omega arith, tt)
+counted_is : (names : Names) (type : List ℕ) (sum : ℕ) (c : Cell) (t : ℕ) → verdict (counted names type sum c) ≡ fine t
+    → (t ≡ sum + token_of type c) × Read type c
+unfolding counted
+counted_is names type sum c t e = by (is_of type c) e
+  where
+    by : (b : Bool) → verdict (cond b (line 5 names.short (has_amount c) >> (line 7 names.over (ltb (sum + amount_of c) (2 ^ 128)) >> answer (sum + amount_of c))) (answer sum)) ≡ fine t
+        → (t ≡ sum + cond b (amount_of c) 0) × T (not b || has_amount c)
+    by true e =
+        let (read, e₁) = line-accepted _ _ _ _ _ _ e in
+        let (small, e₂) = line-accepted _ _ _ _ _ _ e₁ in
+        (sym (answer-accepted e₂), read)
+    by false e = let h : sum ≡ t = answer-accepted e in (omega arith, tt)
 
-  tally-total : (sum : ℕ) (cs : List Cell) (t : ℕ) → verdict (tally short over type sum cs) ≡ fine t
-      → (t ≡ sum + total (token_of type) cs) × All (Read type) cs
-  unfolding tally total
-  tally-total sum [] t e = let h : sum ≡ t = answer-accepted e in (omega arith, tt)
-  tally-total sum (c ∷ cs) t e =
-      let (next, n, e₁) = bind-accepted (counted short over type sum c) (λ (m : ℕ). tally short over type m cs) t e in
-      let (h, read) = counted_is sum c next n in
-      let (p, q) = tally-total next cs t e₁ in
-      (omega (arith, p, h), (read, q))
+tally-total : (names : Names) (type : List ℕ) (sum : ℕ) (cs : List Cell) (t : ℕ) → verdict (tally names type sum cs) ≡ fine t
+    → (t ≡ sum + total (token_of type) cs) × All (Read type) cs
+unfolding tally total
+tally-total names type sum [] t e = let h : sum ≡ t = answer-accepted e in (omega arith, tt)
+tally-total names type sum (c ∷ cs) t e =
+    let (next, n, e₁) = bind-accepted (counted names type sum c) (λ (m : ℕ). tally names type m cs) t e in
+    let (h, read) = counted_is names type sum c next n in
+    let (p, q) = tally-total names type next cs t e₁ in
+    (omega (arith, p, h), (read, q))
 
 -- an output of the type that is added has its amount when it is added, and no data entry can come to it later
 read_settled : (type : List ℕ) (c : Cell) → Read type c → Settled (token_of type) c
@@ -99,16 +99,16 @@ record Accounted (type : List ℕ) (growth : ℕ) (records outs : List Cell) (pa
   pub balance : total (token_of type) records ≡ paid + growth + total (token_of type) outs
 
 accounted : (type : List ℕ) (growth : ℕ) (records outs : List Cell) (paid : ℕ)
-    → verdict (brought_tokens type records >>= (λ (g : ℕ). added_tokens type outs >>= (λ (o : ℕ). settled growth o g))) ≡ fine paid
+    → verdict (tally of_records type 0 records >>= (λ (g : ℕ). tally of_outputs type 0 outs >>= (λ (o : ℕ). settled growth o g))) ≡ fine paid
     → Accounted type growth records outs paid
 unfolding settled
 accounted type growth records outs paid e =
-    let (gained, g, e₁) = bind-accepted (brought_tokens type records) _ _ e in
-    let (spent, s, e₂) = bind-accepted (added_tokens type outs) _ _ e₁ in
+    let (gained, g, e₁) = bind-accepted (tally of_records type 0 records) _ _ e in
+    let (spent, s, e₂) = bind-accepted (tally of_outputs type 0 outs) _ _ e₁ in
     let (small, e₃) = line-accepted _ _ _ _ _ _ e₂ in
     let (enough, e₄) = line-accepted _ _ _ _ _ _ e₃ in
-    let (p, _) = tally-total _ _ type 0 records gained g in
-    let (q, read) = tally-total _ _ type 0 outs spent s in
+    let (p, _) = tally-total _ type 0 records gained g in
+    let (q, read) = tally-total _ type 0 outs spent s in
     let r : gained - (growth + spent) ≡ paid = answer-accepted e₄ in
     record {
       settled = all_settled type outs read;
@@ -147,7 +147,7 @@ abbrev Grows : List ℕ → Tx → Tx → Type 0
 Grows type ours peer = T (is_empty type || leb (first amount_of (cells ours)) (first amount_of (cells peer)))
 
 token_balanced : (type : List ℕ) (ours peer : Tx) (records : List Cell) (paid : ℕ)
-    → verdict (token_account type (cond (is_empty type) 0 (growth amount_of ours peer)) (brought_tokens type records) (added ours peer)) ≡ fine paid
+    → verdict (token_account type (cond (is_empty type) 0 (growth amount_of ours peer)) (tally of_records type 0 records) (added ours peer)) ≡ fine paid
     → Grows type ours peer → Balanced (expected type) ours peer records paid
 unfolding token_account is_empty
 token_balanced [] ours peer records paid e t =
@@ -207,7 +207,7 @@ unfolding capacity_of
 capacity_free cs = data_free capacity_of (λ _ _. refl) cs
 
 contributed : (type : List ℕ) (ours peer : Tx) (records : List Cell) (rate bytes : ℕ) (s : Figures)
-    → verdict (contribution type ours peer (total capacity_of records) (brought_tokens type records) rate bytes) ≡ fine s
+    → verdict (contribution type ours peer (total capacity_of records) (tally of_records type 0 records) rate bytes) ≡ fine s
     → Balanced capacities ours peer records s.capacity × Balanced (expected type) ours peer records s.token
 unfolding contribution accounts
 contributed type ours peer records rate bytes s e =
@@ -223,7 +223,7 @@ contributed type ours peer records rate bytes s e =
         settled = capacity_free (added ours peer);
         balance = omega (arith, left_over _ _ _ _ _ _ c, g.capacity);
       },
-      subst (Balanced (expected type) ours peer records) tokenPaid (token_balanced type ours peer records token (ap (λ (n : ℕ). verdict (token_account type n (brought_tokens type records) (added ours peer))) (sym tokenBy) ∙ t) g.amount),
+      subst (Balanced (expected type) ours peer records) tokenPaid (token_balanced type ours peer records token (ap (λ (n : ℕ). verdict (token_account type n (tally of_records type 0 records) (added ours peer))) (sym tokenBy) ∙ t) g.amount),
     )
 
 -- ---- the whole verdict

@@ -1,6 +1,5 @@
 -- update_for_peer: the lines of docs/RULES.md, "A peer's update arrives", in table order and within a row as written. Each has its number and its name.
 use Rattle.std.specs.Prelude.{ℕ, suc, ◌+◌, ◌-◌, ◌^◌, min, Bool, true, false, cond, not, ◌&&◌, ◌||◌, List, [], ◌∷◌, length, drop, leb, ltb, eqb}
-use Prim.Native.String.{String}
 use Rattle.std.proofs.Math.Option.{Option, none, some}
 use Rattle.error.specs.Outcome.{Outcome}
 use Rattle.lists.specs.Lists.{eq_bytes, agree, contains_all, is_empty}
@@ -9,7 +8,7 @@ use Rattle.transaction.specs.Ckb.{Script, Transaction}
 use Rattle.transaction.specs.Tx.{Tx, tx_at, lock_of}
 use Rattle.units.specs.{Fee.fee_shannons, Units.Figures}
 use Rattle.rules.specs.Cells.{Cell, cells, Lent, lent_at}
-use Rattle.rules.specs.Lines.{Ruled, line, line_with, answer, verdict, ◌>>=◌, ◌>>◌}
+use Rattle.rules.specs.Lines.{Name, Ruled, line, line_with, answer, verdict, ◌>>=◌, ◌>>◌}
 use Rattle.rules.specs.Surplus.{total, first, added, capacity_of, amount_of, is_of, has_amount}
 
 -- what a call brings
@@ -133,29 +132,33 @@ covered opening gained needed rate size = do
     (not opening || leb (fee_shannons rate size) (gained - needed))
   answer (gained - needed)
 
--- of a type: a sum of tokens with those of one more cell; a cell of another type may hold any data. `short` and `over` are the names of its lines
-module _ (short over : String) (type : List ℕ) where
-  unfoldable pub counted : ℕ → Cell → Ruled ℕ
-  counted sum c = cond (is_of type c) summed (answer sum)
-    where
-      summed : Ruled ℕ
-      summed = do
-        line 5 short (has_amount c)
-        line 7 over (ltb (sum + amount_of c) (2 ^ 128))
-        answer (sum + amount_of c)
+-- the names of a tally's lines: of the cells that records bring in, and of added outputs
+pub record Names : Type 0 where
+  pub short : Name
+  pub over : Name
 
-  unfoldable pub tally : ℕ → List Cell → Ruled ℕ
-  tally sum [] = answer sum
-  tally sum (c ∷ cs) = do
-    next ← counted sum c
-    tally next cs
+abbrev pub of_records : Names
+of_records = record { short = "a record's amount under 16 bytes"; over = "the records' total 2^128 or more" }
 
--- of the cells that records bring in, and of added outputs
-abbrev pub brought_tokens : List ℕ → List Cell → Ruled ℕ
-brought_tokens type cs = tally "a record's amount under 16 bytes" "the records' total 2^128 or more" type 0 cs
+abbrev pub of_outputs : Names
+of_outputs = record { short = "an added output's amount under 16 bytes"; over = "the added outputs' total 2^128 or more" }
 
-abbrev pub added_tokens : List ℕ → List Cell → Ruled ℕ
-added_tokens type cs = tally "an added output's amount under 16 bytes" "the added outputs' total 2^128 or more" type 0 cs
+-- a sum of tokens with those of one more cell; a cell of another type may hold any data
+unfoldable pub counted : Names → List ℕ → ℕ → Cell → Ruled ℕ
+counted names type sum c = cond (is_of type c) summed (answer sum)
+  where
+    summed : Ruled ℕ
+    summed = do
+      line 5 names.short (has_amount c)
+      line 7 names.over (ltb (sum + amount_of c) (2 ^ 128))
+      answer (sum + amount_of c)
+
+-- a sum with each of these cells
+unfoldable pub tally : Names → List ℕ → ℕ → List Cell → Ruled ℕ
+tally names type sum [] = answer sum
+tally names type sum (c ∷ cs) = do
+  next ← counted names type sum c
+  tally names type next cs
 
 -- what is left of `gained` over growth and outputs
 unfoldable pub settled : ℕ → ℕ → ℕ → Ruled ℕ
@@ -171,7 +174,7 @@ token_account type growth paid outs = cond (is_empty type) (answer 0) account
     account : Ruled ℕ
     account = do
       gained ← paid
-      put ← added_tokens type outs
+      put ← tally of_outputs type 0 outs
       settled growth put gained
 
 -- both accounts of records that bring in so many shannons and tokens, with output 0 grown by `grown` and with these outputs added
@@ -200,7 +203,7 @@ opening lock type source ours bytes = do
 unfoldable pub closing : List ℕ → List ℕ → Tx → Tx → ℕ → ℕ → Lent → Ruled Figures
 closing type source ours peer rate size lent = do
   records ← spent source ours peer lent
-  contribution type ours peer (total capacity_of records) (brought_tokens type records) rate size
+  contribution type ours peer (total capacity_of records) (tally of_records type 0 records) rate size
 
 -- against our transaction, as it was read
 unfoldable pub ruling_against : List ℕ → List ℕ → Tx → Call → Ruled Figures

@@ -6,9 +6,13 @@ use lib.Text.{eqt}
 use Rattle.error.specs.Outcome.{Outcome, fine, refused, check_with}
 use Rattle.error.specs.Outcome as outcome
 
--- what is refused, the number and its values, and whether all is well
+-- what is refused, in words
+abbrev pub Name : Type 0
+Name = String
+
+-- a line: its name, its number and values, and whether all is well
 pub record Line : Type 0 where
-  pub name : String
+  pub name : Name
   pub number : ℕ
   pub values : List ℕ
   pub holds : Bool
@@ -48,20 +52,20 @@ answer a = record { lines = []; answer = fine a }
 unfoldable pub known : {A : Type 0} → Outcome A → Ruled A
 known o = record { lines = []; answer = o }
 
-unfoldable pub line_with : ℕ → List ℕ → String → Bool → Ruled (Unit {0})
+unfoldable pub line_with : ℕ → List ℕ → Name → Bool → Ruled (Unit {0})
 line_with n l s b = record { lines = record { name = s; number = n; values = l; holds = b } ∷ []; answer = fine tt }
 
-abbrev pub line : ℕ → String → Bool → Ruled (Unit {0})
+abbrev pub line : ℕ → Name → Bool → Ruled (Unit {0})
 line n s b = line_with n [] s b
 
 -- ---- by names
 
 -- whether the first line of a name holds
-unfoldable pub line_holds : String → List Line → Bool
+unfoldable pub line_holds : Name → List Line → Bool
 line_holds name [] = true
 line_holds name (l ∷ ls) = cond (eqt name l.name) l.holds (line_holds name ls)
 
 -- the names of the lines that fail
-unfoldable pub failing : List Line → List String
+unfoldable pub failing : List Line → List Name
 failing [] = []
 failing (l ∷ ls) = cond l.holds (failing ls) (l.name ∷ failing ls)
