@@ -1,14 +1,12 @@
--- What this crate's answers about output 0 stand for, in the rules' numbers (docs/RULES.md, the table's row "contribution").
-use Rattle.std.specs.Prelude.{ℕ, [], Option, Some, None, Result}
+-- What is read of output 0, in the rules' numbers (docs/RULES.md, the table's row "contribution").
+use Rattle.std.specs.Prelude.{ℕ, [], Option, Some, None}
 use Rattle.units.specs.declared.Tokens.{Tokens}
-use Rattle.units.specs.Units.{shannon_count, token_count, Figures}
-use Rattle.error.specs.declared.Refusal.{Refusal}
+use Rattle.units.specs.Units.{token_count}
+use Rattle.error.specs.Outcome.{Outcome, fine, refused, check, ◌>>◌}
 use Rattle.transaction.specs.Tx.{Tx}
-use Rattle.error.specs.Outcome.{Outcome, fine, refused, check, ◌>>◌, told_by}
 use Rattle.rules.specs.Cells.{cells}
 use Rattle.rules.specs.Surplus.{first, amount_of, has_amount}
 use Rattle.rules.specs.Judge.{at_first}
-use Rattle.contribution.specs.declared.Growth.{Growth}
 
 -- an amount, or none that can be read
 abbrev pub amount : Option Tokens → Outcome ℕ
@@ -20,6 +18,3 @@ unfoldable pub first_amount : Tx → Outcome ℕ
 first_amount t = do
   check 5 (at_first has_amount (cells t))
   fine (first amount_of (cells t))
-
-abbrev pub delta : Result Growth Refusal → Outcome Figures
-delta = told_by (λ g. record { capacity = shannon_count g.capacity; token = token_count g.token })

@@ -3,15 +3,14 @@
 
 mod funded;
 
-ghost use Rattle.std.specs.Prelude.{◌≡◌, ◌+◌, length};
-ghost use Rattle.units.specs.Units.{shannon_count, token_count};
+ghost use Rattle.std.specs.Prelude.{◌≡◌};
+ghost use Rattle.units.specs.Units.{token_count};
 ghost use Rattle.transaction.specs.Tx.{tx_at};
-ghost use Rattle.rules.specs.Surplus.{added};
-ghost use Rattle.rules.specs.Judge.{token_delta, funding_output_delta, unfunded};
+ghost use Rattle.rules.specs.Judge.{token_delta, funding_output_delta};
+ghost use Rattle.rules.specs.Lines.{verdict};
 ghost use Rattle.error.specs.Outcome.{told_by};
 ghost use Rattle.rules.specs.Told.{told};
-ghost use Rattle.contribution.specs.Answers.{delta};
-ghost use Rattle.contribution.specs.Contributed.{accounts_over, contributed};
+ghost use Rattle.contribution.specs.Account.{grown_by, account_of, contribution_of};
 
 use accounts::{Added, Brought, capacity, token};
 use error::Refusal;
@@ -37,7 +36,7 @@ struct Both<'a> {
 impl Both<'_> {
     // By how many tokens output 0 grows: 5 where an amount can't be read, or it falls.
     fn token_delta(self) -> Result<Tokens, Refusal>
-        ensures { told_by token_count result ≡ token_delta (tx_at self.entry.ours.tx.now) (tx_at self.entry.peer.tx.now) }
+        ensures { told_by token_count result ≡ verdict (token_delta (tx_at self.entry.ours.tx.now) (tx_at self.entry.peer.tx.now)) }
     {
         let a = self
             .ours
@@ -52,7 +51,7 @@ impl Both<'_> {
 
     // How much it grows: it and its data are there, and neither figure falls.
     fn funding_output_delta(self) -> Result<Growth, Refusal>
-        ensures { delta result ≡ funding_output_delta self.entry.udt.now (tx_at self.entry.ours.tx.now) (tx_at self.entry.peer.tx.now) }
+        ensures { told_by grown_by result ≡ verdict (funding_output_delta self.entry.udt.now (tx_at self.entry.ours.tx.now) (tx_at self.entry.peer.tx.now)) }
     {
         if !self.peer.has_first() {
             return Err(Refusal::InvalidPeerFundingTx);
@@ -73,7 +72,7 @@ impl Both<'_> {
     // The account of an update in which output 0 has grown by so much: what is left of what the records brought in over the growth and the outputs that the peer
     // added, in capacity and in tokens.
     fn account(self, rate: u64, brought: Brought, growth: Growth) -> Update
-        ensures { told result ≡ accounts_over self.entry.udt.now (unfunded (tx_at self.entry.ours.tx.now)) (shannon_count brought.capacity) (told_by token_count brought.token) (added (tx_at self.entry.ours.tx.now) (tx_at self.entry.peer.tx.now)) rate (length self.entry.peer.tx.now + 4) (shannon_count growth.capacity) (token_count growth.token) }
+        ensures { told result ≡ verdict (account_of self.entry rate brought growth) }
     {
         let Both { ours, peer, udt } = self;
         let opening = ours.is_unfunded();
@@ -105,7 +104,7 @@ pub fn verify_peer_funding_contribution(
     rate: u64,
     brought: Brought,
 ) -> Update
-    ensures { told result ≡ contributed udt.now (tx_at ours.now) (tx_at peer.now) (shannon_count brought.capacity) (told_by token_count brought.token) rate (length peer.now + 4) }
+    ensures { told result ≡ verdict (contribution_of udt.now ours.now peer.now brought rate) }
 {
     // taken anew, a slice comes in as its two words, and not by way of memory
     let both = Both {

@@ -23,7 +23,7 @@ use Rattle.error.specs.declared.Refusal.{Refusal}
 use Rattle.error.specs.Refusal.{number, values}
 use Rattle.accounts.specs.declared.Brought as accounts
 use Rattle.rules.specs.Lines.{Ruled, verdict, answer, first_failing}
-use Rattle.rules.proofs.LinesLaws.{line-then, verdict-then}
+use Rattle.rules.proofs.LinesLaws.{line-then, verdict-then, answer_is}
 use Rattle.records.specs.Inner.{gathered, or_unreadable}
 use Rattle.records.specs.Resolved.{Brought, brought, brought_by, brings}
 
@@ -51,10 +51,6 @@ and_then : {A B : Type 0} (u : Outcome (Unit {0})) (a : A) (f : A → B) → (u 
 unfolding ◌>>◌ ◌>>=◌
 and_then (fine u) a f = refl
 and_then (refused n l) a f = refl
-
-answer_is : {A : Type 0} (a : A) → verdict (answer a) ≡ fine a
-unfolding verdict first_failing answer
-answer_is a = refl
 
 spent-is : (source : List ℕ) (ours peer : Tx) (lent : Lent) → verdict (spent source ours peer lent)
     ≡ (check 3 lent.readable >> (check 3 (eqb (length lent.records) (length peer.inputs - length ours.inputs))

@@ -9,7 +9,8 @@ use mathlib.Core.Option.{Option, none, some}
 use lib.ListN.{length, drop}
 use lib.Dec.{T, leb, ltb, eqb, eqb→eq, leb→le}
 use lib.Text.{eqt}
-use Rattle.error.specs.Outcome.{Outcome, fine, refused, leaves}
+use Rattle.error.specs.Outcome.{Outcome, fine, refused, check_with, leaves}
+use Rattle.error.specs.Outcome as outcome
 use Rattle.error.proofs.Passed.{is_true}
 use Rattle.units.specs.Units.{Figures}
 use Rattle.molecule.specs.Partial.{All}
@@ -23,8 +24,9 @@ use Rattle.rules.specs.Surplus.{total, first, added, Measure, capacities, capaci
 use Rattle.rules.specs.Lines.{Ruled, line, line_with, answer, verdict, followed, line_holds, first_failing, ◌>>=◌, ◌>>◌}
 use Rattle.rules.specs.Judge.{Call, judge, judge_against, ruling, ruling_against, opening, closing, scripts, limits, comparison, spent, live, live_cells, counted, Names, of_records, of_outputs, tally, settled, growth, token_delta, funding_output_delta, covered, token_account, accounts, contribution}
 use Rattle.rules.specs.Run.{handed_back, lent_cells, next, update_for_peer}
-use Rattle.rules.specs.Step.{Settled, with_data, Extends, Step}
-use Rattle.rules.proofs.LinesLaws.{holding, line-accepted, answer-accepted, bind-accepted, then-accepted}
+use Rattle.rules.specs.Step.{Settled, with_data, Extends, Balanced}
+use Rattle.rules.specs.Lawful.{Owed, Owes, two_figures}
+use Rattle.rules.proofs.LinesLaws.{holding, line-then, line-accepted, answer-accepted, bind-accepted, then-accepted}
 use Rattle.rules.proofs.Telescope.{prefix_length}
 use Rattle.rules.proofs.Tests.{agree_prefix, drop_more}
 
@@ -117,23 +119,18 @@ accounted type growth records outs paid e =
 
 -- ---- contribution
 
--- the two accounts of an accepted update
-record Balanced (m : Measure) (ours peer : Tx) (records : List Cell) (paid : ℕ) : Type 0 where
-  pub settled : All (Settled m.of) (added ours peer)
-  pub balance : total m.of records + first m.at_zero (cells ours) ≡ paid + first m.at_zero (cells peer) + total m.of (added ours peer)
-
-total-nothing : (cs : List Cell) → total (λ _. 0) cs ≡ 0
+pub total-nothing : (cs : List Cell) → total (λ _. 0) cs ≡ 0
 unfolding total
 total-nothing [] = refl
 total-nothing (c ∷ cs) = omega (arith, total-nothing cs)
 
-first-nothing : (cs : List Cell) → first (λ _. 0) cs ≡ 0
+pub first-nothing : (cs : List Cell) → first (λ _. 0) cs ≡ 0
 unfolding first
 first-nothing [] = refl
 first-nothing (c ∷ cs) = refl
 
 -- a figure that does not read data is settled
-data_free : (f : Cell → ℕ) → ((c : Cell) (d : List ℕ) → f (with_data c.output d) ≡ f c) → (cs : List Cell) → All (Settled f) cs
+pub data_free : (f : Cell → ℕ) → ((c : Cell) (d : List ℕ) → f (with_data c.output d) ≡ f c) → (cs : List Cell) → All (Settled f) cs
 data_free f h [] = tt
 data_free f h (c ∷ cs) = (λ _ d. h c d, data_free f h cs)
 
@@ -246,15 +243,10 @@ examined ours peer lent source cs more e =
     let are : live_cells lent.records ≡ cs = answer-accepted e₃ in
     (are, omega (arith, more, eqb→eq (length lent.records) (length peer.inputs - length ours.inputs) count, live_all source _ lent.records alive, ap length are))
 
--- What an acceptance of update_for_peer says of the bytes it was given.
-pub record Accepted (type oursBytes : List ℕ) (call : Call) (s : Figures) : Type 0 where
-  pub ours_readable : readable (option Transaction) oursBytes ≡ true
-  pub peer_readable : readable (option Transaction) call.peer ≡ true
-  pub capacity : Step capacities (tx_at oursBytes) (tx_at call.peer) (lent_cells call.records) s.capacity
-  pub token : Step (expected type) (tx_at oursBytes) (tx_at call.peer) (lent_cells call.records) s.token
-
+-- what an acceptance of update_for_peer says of the bytes that it was given
 pub accepted : (lock type oursBytes : List ℕ) (call : Call) (s : Figures) → judge lock type oursBytes call ≡ fine s
-    → Accepted type oursBytes call s
+    → Owed (two_figures type) (tx_at oursBytes) (tx_at call.peer) (lent_cells call.records) s
+    × (readable (option Transaction) oursBytes ≡ true) × (readable (option Transaction) call.peer ≡ true)
 unfolding judge ruling ruling_against opening closing lent_at
 accepted lock type oursBytes call s e =
     let ours = tx_at oursBytes in
@@ -265,15 +257,10 @@ accepted lock type oursBytes call s e =
     let (_, f₂) = then-accepted (scripts lock type call.source) _ _ f₁ in
     let (_, f₃) = then-accepted (limits (length call.peer + 4) ours peer) _ _ f₂ in
     let (cs, x, e₃) = bind-accepted (spent call.source ours peer (lent_at call.records)) _ _ e₂ in
-    let (capacityPaid, tokenPaid) = contributed type ours peer cs call.rate _ s e₃ in
+    let (capacity, token) = contributed type ours peer cs call.rate _ s e₃ in
     let c : Extends ours peer = compared lock type ours peer f₃ in
     let (are, inputs) = examined ours peer (lent_at call.records) call.source cs (prefix_length c.inputs) x in
-    record {
-      ours_readable = is_true _ o;
-      peer_readable = peer_read call.peer (is_true _ p);
-      capacity = rw are (record { extends = c; settled = capacityPaid.settled; balance = capacityPaid.balance; inputs = inputs });
-      token = rw are (record { extends = c; settled = tokenPaid.settled; balance = tokenPaid.balance; inputs = inputs });
-    }
+    (rw are (record { extends = c; inputs = inputs; balanced = (capacity, (token, tt)) }), is_true _ o, peer_read call.peer (is_true _ p))
 
 -- ---- what is known of our bytes
 
@@ -283,7 +270,20 @@ pub readable-next : (lock type ours : List ℕ) (c : Call)
 readable-next lock type ours c = by (judge lock type ours c) refl
   where
     by : (v : Outcome Figures) → judge lock type ours c ≡ v → readable (option Transaction) (handed_back v ours c.peer) ≡ readable (option Transaction) ours
-    by (fine f) e =
-        let a : Accepted type ours c f = accepted lock type ours c f e in
-        a.peer_readable ∙ sym a.ours_readable
+    by (fine f) e = let (_, o, p) = accepted lock type ours c f e in p ∙ sym o
     by (refused n l) e = refl
+
+-- from bytes that can't be read the answer is 1
+ruled_out : (lock type ours : List ℕ) (c : Call) → readable (option Transaction) ours ≡ false → judge lock type ours c ≡ refused 1 []
+unfolding judge ruling judge_against outcome.◌>>◌ check_with
+ruled_out lock type ours c h = rw (line-then 1 [] "our bytes unreadable" (readable (option Transaction) ours) (ruling_against lock type (tx_at ours) c), h) (one_refused (judge_against lock type (tx_at ours) c))
+  where
+    one_refused : (r : Outcome Figures) → outcome.◌>>◌ (check_with 1 [] false) r ≡ refused 1 []
+    one_refused r = refl
+
+pub update_owes : (lock type : List ℕ) → Owes (update_for_peer lock type) (two_figures type)
+update_owes lock type = record {
+  accepts = λ ours c s e. (accepted lock type ours c s e).0;
+  reads = λ ours c s e. (accepted lock type ours c s e).2;
+  ones = ruled_out lock type;
+}

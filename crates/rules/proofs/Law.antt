@@ -22,7 +22,7 @@ use Rattle.rules.proofs.Whole.{whole}
 step_surplus : {m : Measure} {a c : Tx} {records : List Cell} {paid : ℕ} → Step m a c records paid → pos paid ≡ surplus m a c records
 unfolding surplus
 step_surplus {m} {a} {c} {records} {paid} s =
-    whole (total m.of records) (first m.at_zero (cells a)) paid (first m.at_zero (cells c)) (total m.of (added a c)) s.balance
+    whole (total m.of records) (first m.at_zero (cells a)) paid (first m.at_zero (cells c)) (total m.of (added a c)) s.account.balance
 
 module _ {C S : Type 0} (E : Entry C S) where
   module _ (m : Measure) (pick : S → ℕ)

@@ -2,6 +2,7 @@ pub mod Accept
 pub mod CellLaws
 pub mod Checks
 pub mod Law
+pub mod LawfulLaws
 pub mod LinesLaws
 pub mod Telescope
 pub mod Tests

@@ -58,6 +58,10 @@ pub line-then : {B : Type 0} (n : ℕ) (l : List ℕ) (s : String) (b : Bool) (r
 unfolding verdict first_failing line_with followed ◌>>◌
 line-then n l s b r = refl
 
+pub answer_is : {A : Type 0} (a : A) → verdict (answer a) ≡ fine a
+unfolding verdict first_failing answer
+answer_is a = refl
+
 -- ---- what an acceptance says
 
 module _ {A B : Type 0} where

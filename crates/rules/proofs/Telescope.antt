@@ -163,7 +163,7 @@ chain_sum {m} (step {a} {b} {c} {records} {kept} {paid} {sum} s ch) =
     ∙ ap (λ (l : List Cell). total m.of l + total m.of (records_of kept)) (step_records s) in
     record {
       extends = extends_trans s.extends r.extends;
-      balance = omega (arith, s.balance, r.balance, added-split m.of s.extends r.extends s.settled, t);
+      balance = omega (arith, s.account.balance, r.balance, added-split m.of s.extends r.extends s.account.settled, t);
       inputs = r.inputs ∙ ap (λ (l : List (List ℕ)). l ++ inputs_of kept) (step_inputs s)
           ∙ append_assoc a.inputs (inputs_of (spent_in a b records)) (inputs_of kept)
           ∙ ap (λ (l : List (List ℕ)). a.inputs ++ l) (sym (inputs-append (spent_in a b records) kept));

@@ -1,5 +1,6 @@
 pub mod Cells
 pub mod Judge
+pub mod Lawful
 pub mod Lines
 pub mod Run
 pub mod Step

@@ -24,9 +24,13 @@ pub record Extends (a b : Tx) : Type 0 where
   pub rest : Prefix (drop 1 a.outputs) (drop 1 b.outputs)
   pub entries : Prefix (drop 1 a.outputs_data) (drop 1 b.outputs_data)
 
--- What an accepted update from a to b over its records brings: `paid` is the surplus it carries.
-pub record Step (m : Measure) (a b : Tx) (records : List Cell) (paid : ℕ) : Type 0 where
-  pub extends : Extends a b
+-- The account of one measure of an accepted update from a to b over its records, where `paid` is the surplus that it carries.
+pub record Balanced (m : Measure) (a b : Tx) (records : List Cell) (paid : ℕ) : Type 0 where
   pub settled : All (Settled m.of) (added a b)
   pub balance : total m.of records + first m.at_zero (cells a) ≡ paid + first m.at_zero (cells b) + total m.of (added a b)
+
+-- What such an update brings.
+pub record Step (m : Measure) (a b : Tx) (records : List Cell) (paid : ℕ) : Type 0 where
+  pub extends : Extends a b
   pub inputs : length b.inputs ≡ length a.inputs + length records
+  pub account : Balanced m a b records paid
