@@ -42,18 +42,28 @@ module _ {type : List ℕ} {f : ℕ → Cell} {n i : ℕ} {sum : Tokens} {R : Ou
     tally_stops z = rw z (sym (rw z at next_is))
 
 -- the account by its three answers
-pub known_account : (type : List ℕ) (grown : ℕ) (paid : Outcome ℕ) (outs : List Cell) → verdict (token_account type grown (known paid) outs)
-    ≡ cond (is_empty type) (fine 0) (paid >>= (λ (gained : ℕ). verdict (tally of_outputs type 0 outs) >>= (λ (put : ℕ). verdict (settled grown put gained))))
-unfolding token_account answer known verdict first_failing
-known_account type grown paid outs = by (is_empty type)
+pub paid_account : (type : List ℕ) (grown : ℕ) (paid : Ruled ℕ) (outs : List Cell) → verdict (token_account type grown paid outs)
+    ≡ cond (is_empty type) (fine 0) (verdict paid >>= (λ (gained : ℕ). verdict (tally of_outputs type 0 outs) >>= (λ (put : ℕ). verdict (settled grown put gained))))
+unfolding token_account answer verdict first_failing
+paid_account type grown paid outs = by (is_empty type)
   where
     left : ℕ → Ruled ℕ
     left gained = lines.◌>>=◌ (tally of_outputs type 0 outs) (λ (put : ℕ). settled grown put gained)
 
-    both : verdict (lines.◌>>=◌ (known paid) left) ≡ paid >>= (λ (gained : ℕ). verdict (tally of_outputs type 0 outs) >>= (λ (put : ℕ). verdict (settled grown put gained)))
-    both = verdict-bind (known paid) left ∙ ap (λ (f : ℕ → Outcome ℕ). paid >>= f) (λ i gained. verdict-bind (tally of_outputs type 0 outs) (λ (put : ℕ). settled grown put gained) i)
+    both : verdict (lines.◌>>=◌ paid left) ≡ verdict paid >>= (λ (gained : ℕ). verdict (tally of_outputs type 0 outs) >>= (λ (put : ℕ). verdict (settled grown put gained)))
+    both = verdict-bind paid left ∙ ap (λ (f : ℕ → Outcome ℕ). verdict paid >>= f) (λ i gained. verdict-bind (tally of_outputs type 0 outs) (λ (put : ℕ). settled grown put gained) i)
 
-    by : (b : Bool) → verdict (cond b (answer 0) (lines.◌>>=◌ (known paid) left))
-        ≡ cond b (fine 0) (paid >>= (λ (gained : ℕ). verdict (tally of_outputs type 0 outs) >>= (λ (put : ℕ). verdict (settled grown put gained))))
+    by : (b : Bool) → verdict (cond b (answer 0) (lines.◌>>=◌ paid left))
+        ≡ cond b (fine 0) (verdict paid >>= (λ (gained : ℕ). verdict (tally of_outputs type 0 outs) >>= (λ (put : ℕ). verdict (settled grown put gained))))
     by true = refl
     by false = both
+
+pub known_account : (type : List ℕ) (grown : ℕ) (paid : Outcome ℕ) (outs : List Cell) → verdict (token_account type grown (known paid) outs)
+    ≡ cond (is_empty type) (fine 0) (paid >>= (λ (gained : ℕ). verdict (tally of_outputs type 0 outs) >>= (λ (put : ℕ). verdict (settled grown put gained))))
+unfolding known verdict first_failing
+known_account type grown paid outs = paid_account type grown (known paid) outs
+
+-- it hangs on the records' answer alone
+pub account-known : (type : List ℕ) (grown : ℕ) (paid : Ruled ℕ) (outs : List Cell)
+    → verdict (token_account type grown paid outs) ≡ verdict (token_account type grown (known (verdict paid)) outs)
+account-known type grown paid outs = paid_account type grown paid outs ∙ sym (known_account type grown (verdict paid) outs)

@@ -12,11 +12,12 @@ use Rattle.lists.specs.Lists.{is_empty}
 use Rattle.transaction.specs.Tx.{Tx, tx_at, raw_field}
 use Rattle.rules.specs.Cells.{Cell, cells}
 use Rattle.rules.specs.Surplus.{total, first, added, capacity_of}
-use Rattle.rules.specs.Lines.{Ruled, verdict, answer, first_failing}
+use Rattle.rules.specs.Lines.{Ruled, verdict, answer, known, first_failing}
 use Rattle.rules.specs.Judge.{growth, unfunded, token_delta, funding_output_delta, covered, token_account, accounts, contribution}
 use Rattle.rules.proofs.LinesLaws.{verdict-bind, line-then, answer_is}
 use Rattle.rules.proofs.CellLaws.{cell_at, added_is}
 use Rattle.accounts.specs.Added.{cell_in, cells_from}
+use Rattle.accounts.proofs.TokenLaws.{account-known}
 
 -- the outputs that the peer added, by the lists of outputs and data of ours (f) and of the peer's (g, d)
 pub added-from : (o p : List ℕ) {f g d : List ℕ} {i : ℕ} → f ≡ raw_field o 4 → g ≡ raw_field p 4 → d ≡ raw_field p 5 → i ≡ max 1 (item_count f)
@@ -68,3 +69,19 @@ account_steps type opening gained paid outs rate size grown =
     ended : (c : ℕ) → (verdict (token_account type grown.token paid outs) >>= (λ (t : ℕ). verdict (answer (both c t))))
         ≡ (verdict (token_account type grown.token paid outs) >>= (λ (t : ℕ). fine (both c t)))
     ended c = ap (λ (f : ℕ → Outcome Figures). verdict (token_account type grown.token paid outs) >>= f) (λ i t. answer_is (both c t) i)
+
+-- the contribution hangs on the answer of the records' tokens alone
+module _ (type : List ℕ) (paid : Ruled ℕ) where
+  accounts-known : (opening : Bool) (gained : ℕ) (outs : List Cell) (rate size : ℕ) (grown : Figures)
+      → verdict (accounts type opening gained paid outs rate size grown) ≡ verdict (accounts type opening gained (known (verdict paid)) outs rate size grown)
+  accounts-known opening gained outs rate size grown =
+      account_steps type opening gained paid outs rate size grown
+      ∙ ap (λ (o : Outcome ℕ). verdict (covered opening gained (grown.capacity + total capacity_of outs) rate size) >>= (λ (c : ℕ). o >>= (λ (t : ℕ). fine (both c t)))) (account-known type grown.token paid outs)
+      ∙ sym (account_steps type opening gained (known (verdict paid)) outs rate size grown)
+
+  pub contribution-known : (ours peer : Tx) (gained rate size : ℕ)
+      → verdict (contribution type ours peer gained paid rate size) ≡ verdict (contribution type ours peer gained (known (verdict paid)) rate size)
+  contribution-known ours peer gained rate size =
+      contribution_steps type ours peer gained paid rate size
+      ∙ ap (λ (f : Figures → Outcome Figures). verdict (funding_output_delta type ours peer) >>= f) (λ i g. accounts-known (unfunded ours) gained (added ours peer) rate size g i)
+      ∙ sym (contribution_steps type ours peer gained (known (verdict paid)) rate size)

@@ -1,67 +1,87 @@
 -- Laws of the verdict, one for each way out of the functions.
 use mathlib.Core.Path.{◌≡◌, refl, sym, ap, ◌∙◌}
 use Prim.Native.Nat.{ℕ, ◌+◌, ◌-◌}
-use mathlib.Core.List.{List}
-use mathlib.Core.Bool.{Bool, true, false, not}
-use mathlib.Core.Option.{Option}
-use borrow.Author.Tests.{not-true, not-false}
+use mathlib.Core.List.{List, []}
+use mathlib.Core.Bool.{Bool, true, false, ◌&&◌}
 use lib.ListN.{length, take, drop}
-use Rattle.molecule.specs.Molecule.{option, readable}
-use Rattle.transaction.specs.Ckb.{Script, Transaction}
-use Rattle.transaction.specs.Tx.{Tx, tx_at}
-use Rattle.units.specs.declared.{Shannons.Shannons}
-use Rattle.units.specs.Units.{shannon_count, Figures}
 use Rattle.error.specs.declared.Refusal.{Refusal}
 use Rattle.error.specs.Refusal.{number, values}
-use Rattle.error.specs.Outcome.{Outcome, fine, refused, check, check_with, given, ◌>>◌, ◌>>=◌, refusal}
-use Rattle.rules.specs.Cells.{Cell, read_records}
+use Rattle.error.specs.Outcome.{Outcome, fine, refused, check, check_with, ◌>>◌, ◌>>=◌, refusal}
+use Rattle.units.specs.Units.{Figures}
+use Rattle.molecule.specs.Molecule.{option, readable}
+use Rattle.lists.proofs.EqualLaws.{whole}
+use Rattle.transaction.specs.Ckb.{Script, Transaction}
+use Rattle.transaction.specs.Tx.{Tx, tx_at, are_scripts}
+use Rattle.rules.specs.Cells.{Cell, Lent, lent_at}
 use Rattle.rules.specs.Surplus.{total, capacity_of}
-use Rattle.rules.specs.Judge.{Call, scripts, limits, comparison, spent, tally, account, token_account, accounts, contribution, judge, judge_against}
+use Rattle.rules.specs.Lines.{Name, line, line_with, followed, known, verdict, first_failing}
+use Rattle.rules.specs.Lines as lines
+use Rattle.rules.specs.Judge.{Call, of_records, tally, scripts, limits, comparison, spent, contribution, opening, closing, ruling, ruling_against, judge, judge_against}
 use Rattle.rules.specs.Told.{Update, told, in_force_of}
 use Rattle.rules.specs.Run.{handed_back, next, update_for_peer}
-use Rattle.rules.proofs.Checks.{skip, fail, pass, last_is}
-use Rattle.transaction.proofs.ReadLaws.{read_yes, read_no, ours_yes, ours_no}
-use Rattle.error.proofs.Passed.{never, fine_inj, bound-fine}
-use Rattle.accounts.specs.Paid.{tokens_left}
-use Rattle.contribution.specs.Contributed.{accounts_over, contributed}
-use Rattle.lists.proofs.EqualLaws.{whole}
+use Rattle.rules.proofs.LinesLaws.{line-then, verdict-then, verdict-bind}
+use Rattle.rules.proofs.Accept.{ruled_out}
+use Rattle.contribution.proofs.AccountLaws.{contribution-known}
 use Rattle.records.specs.Resolved.{Brought, brought, brings}
 use Rattle.funding_tx.proofs.Demand3.{hands}
 
--- ---- what the records bring in
+-- ---- the whole: by the verdicts of its parts
 
--- the rules' contribution is that of what they bring
-pub over : (type : List ℕ) (ours peer : Tx) (cells : List Cell) (rate size : ℕ)
-    → contribution type ours peer cells rate size ≡ contributed type ours peer (total capacity_of cells) (tally type 0 cells) rate size
-unfolding contribution accounts token_account account contributed accounts_over tokens_left
-over type ours peer cells rate size = refl
+three_lines : (s t u : Name) (a b c : Bool) → verdict (lines.◌>>◌ (line 3 s a) (lines.◌>>◌ (line 3 t b) (line 3 u c))) ≡ check 3 (a && b && c)
+unfolding check check_with line_with followed lines.◌>>◌ verdict first_failing ◌>>◌
+three_lines s t u false b c = refl
+three_lines s t u true false c = refl
+three_lines s t u true true false = refl
+three_lines s t u true true true = refl
 
-refused_inj : {A : Type 0} {n m : ℕ} {l k : List ℕ} → ◌≡◌ {A = Outcome A} (refused n l) (refused m k) → (n ≡ m) × (l ≡ k)
-refused_inj e = (cc, cc)
+module _ (lock type source o p : List ℕ) where
+  scripts_steps : verdict (scripts lock type source) ≡ check 3 (are_scripts lock type source)
+  unfolding scripts
+  scripts_steps = three_lines _ _ _ (readable Script lock) (readable (option Script) type) (readable Script source)
 
-module _ (source type : List ℕ) (ours peer : Tx) (lent : Option (List (Option Cell))) where
-  pub not_spent : (n : ℕ) (l : List ℕ) → brings source type ours peer lent ≡ refused n l → spent source ours peer lent ≡ refused n l
-  unfolding brings ◌>>=◌
-  not_spent n l e = by (spent source ours peer lent) e
+  pub opening_steps : verdict (opening lock type source (tx_at o) p) ≡ (check 2 (readable Transaction p)
+      >> (check 3 (are_scripts lock type source) >> (verdict (limits (length p + 4) (tx_at o) (tx_at p)) >> verdict (comparison lock type (tx_at o) (tx_at p)))))
+  unfolding opening check
+  opening_steps =
+      let within : Outcome (Unit {0}) = verdict (limits (length p + 4) (tx_at o) (tx_at p)) in
+      let alike : Outcome (Unit {0}) = verdict (comparison lock type (tx_at o) (tx_at p)) in
+      line-then _ _ _ _ _
+      ∙ ap (λ (v : Outcome (Unit {0})). check 2 (readable Transaction p) >> v)
+      (verdict-then (scripts lock type source) _
+      ∙ ap (λ (v : Outcome (Unit {0})). verdict (scripts lock type source) >> v) (verdict-then (limits (length p + 4) (tx_at o) (tx_at p)) (comparison lock type (tx_at o) (tx_at p)))
+      ∙ ap (λ (v : Outcome (Unit {0})). v >> (within >> alike)) scripts_steps)
+
+-- what the records bring in decides the rest
+module _ (type source : List ℕ) (ours peer : Tx) (rate size : ℕ) (lent : Lent) where
+  pub after_records : Brought → Outcome Figures
+  after_records b = verdict (contribution type ours peer b.capacity (known b.token) rate size)
+
+  pub closing_steps : verdict (closing type source ours peer rate size lent) ≡ (brings source type ours peer lent >>= after_records)
+  unfolding closing brings ◌>>=◌ after_records
+  closing_steps = verdict-bind (spent source ours peer lent) _ ∙ by (verdict (spent source ours peer lent))
     where
-      by : (v : Outcome (List Cell)) → (v >>= (λ (cs : List Cell). fine (brought type cs))) ≡ refused n l → v ≡ refused n l
-      by (fine cs) e = absurd (never n l (brought type cs) (sym e))
-      by (refused m k) e = let (a, b) = refused_inj e in rw (a, b)
+      by : (v : Outcome (List Cell)) → (v >>= (λ (cs : List Cell). verdict (contribution type ours peer (total capacity_of cs) (tally of_records type 0 cs) rate size)))
+          ≡ ((v >>= (λ (cs : List Cell). fine (brought type cs))) >>= after_records)
+      by (fine cs) = contribution-known type (tally of_records type 0 cs) ours peer (total capacity_of cs) rate size
+      by (refused n l) = refl
 
-  pub is-spent : (b : Brought) → brings source type ours peer lent ≡ fine b → (cs : List Cell) × (spent source ours peer lent ≡ fine cs) × (brought type cs ≡ b)
-  unfolding brings
-  is-spent b e = let (cs, q, f) = bound-fine (spent source ours peer lent) (λ (cs : List Cell). fine (brought type cs)) b e in (cs, q, fine_inj f)
+module _ (lock type o : List ℕ) (c : Call) where
+  pub against_steps : judge_against lock type (tx_at o) c ≡ (verdict (opening lock type c.source (tx_at o) c.peer)
+      >> (brings c.source type (tx_at o) (tx_at c.peer) (lent_at c.records)
+      >>= (λ (b : Brought). verdict (contribution type (tx_at o) (tx_at c.peer) b.capacity (known b.token) c.rate (length c.peer + 4)))))
+  unfolding judge_against ruling_against after_records
+  against_steps =
+      verdict-then (opening lock type c.source (tx_at o) c.peer) _
+      ∙ ap (λ (v : Outcome Figures). verdict (opening lock type c.source (tx_at o) c.peer) >> v) (closing_steps type c.source (tx_at o) (tx_at c.peer) c.rate (length c.peer + 4) (lent_at c.records))
 
--- ---- the whole: what was known of our bytes, and the rest
+  module _ {known : Bool} (e : known ≡ readable (option Transaction) o) where
+    pub judge-ours : known ≡ false → refusal Refusal.OurTransactionUnreadable ≡ judge lock type o c
+    unfolding number values
+    judge-ours t = sym (ruled_out lock type o c (sym e ∙ t))
 
-module _ (lock type o : List ℕ) (c : Call) {known : Bool} (e : known ≡ readable (option Transaction) o) where
-  pub judge-ours : known ≡ false → refusal Refusal.OurTransactionUnreadable ≡ judge lock type o c
-  unfolding judge given ◌>>=◌ number values
-  judge-ours t = rw (ours_no o (sym e ∙ t))
-
-  pub judge_read : (u : Update) → known ≡ true → told u ≡ judge_against lock type (tx_at o) c → told u ≡ judge lock type o c
-  unfolding judge given ◌>>=◌
-  judge_read u t h = rw (ours_yes o (sym e ∙ t)) h
+    pub judge_read : (u : Update) → known ≡ true → told u ≡ judge_against lock type (tx_at o) c → told u ≡ judge lock type o c
+    unfolding judge ruling check_with ◌>>◌ judge_against
+    judge_read u t h = h ∙ sym (line-then 1 [] "our bytes unreadable" (readable (option Transaction) o) (ruling_against lock type (tx_at o) c) ∙ rw (sym e ∙ t))
 
 -- ---- a whole call
 

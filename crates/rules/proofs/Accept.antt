@@ -274,7 +274,7 @@ readable-next lock type ours c = by (judge lock type ours c) refl
     by (refused n l) e = refl
 
 -- from bytes that can't be read the answer is 1
-ruled_out : (lock type ours : List ℕ) (c : Call) → readable (option Transaction) ours ≡ false → judge lock type ours c ≡ refused 1 []
+pub ruled_out : (lock type ours : List ℕ) (c : Call) → readable (option Transaction) ours ≡ false → judge lock type ours c ≡ refused 1 []
 unfolding judge ruling judge_against outcome.◌>>◌ check_with
 ruled_out lock type ours c h = rw (line-then 1 [] "our bytes unreadable" (readable (option Transaction) ours) (ruling_against lock type (tx_at ours) c), h) (one_refused (judge_against lock type (tx_at ours) c))
   where
