@@ -1,6 +1,6 @@
 // A list of updates judged one after another, from C.
 ghost use Rattle.std.specs.Prelude.{◌≡◌, length, get_or};
-ghost use Rattle.negotiation.specs.Replay.{replay_of, leaves};
+ghost use Rattle.negotiation.specs.Replay.{replay_of, after_replay};
 ghost use Rattle.negotiation.specs.Law.{Lawful};
 ghost use Rattle.words.specs.Words.{writing};
 ghost use Rattle.answer_words.specs.Answers.{replay_words};
@@ -18,7 +18,7 @@ pub extern "C" fn basinpantry_replay<'a>(
     answers: &mut [u64],
     values: &mut [u64; WORDS],
 ) -> u32
-    ensures answers_after { ((result, values.new), answers.new) ≡ writing replay_words (leaves (replay_of lock.now udt.now start.now updates.now (length answers.old)) answers.old) values.old }
+    ensures answers_after { ((result, values.new), answers.new) ≡ writing replay_words (after_replay (replay_of lock.now udt.now start.now updates.now (length answers.old)) answers.old) values.old }
     ensures lawful { result ≡ 0 → Lawful lock.now udt.now start.now updates.now answers.old (get_or values.new 0 0) (get_or values.new 1 0) (get_or values.new 2 0) answers.new }
 {
     let negotiation = Negotiation {

@@ -4,7 +4,6 @@ use mathlib.Core.Path.{◌≡◌, refl, sym, ap, ◌∙◌}
 use Prim.Native.Nat.{ℕ, ◌*◌, ◌<◌}
 use native.Mathlib.Omega.{arith}
 use mathlib.Core.List.{List, [], ◌∷◌, ◌++◌}
-use mathlib.Core.Option.{some}
 use borrow.Author.Tests.{ne_eqb}
 use lib.Dec.{T, leb}
 use lib.ListN.{length, take, drop}
@@ -14,22 +13,21 @@ use Rattle.molecule.specs.Layout.{item_count}
 use Rattle.molecule.proofs.Offsets.{span-length}
 use Rattle.arithmetic.proofs.AmountLaws.{halves_are}
 use Rattle.error.specs.Outcome.{Outcome, fine, refused, number_of, values_of}
-use Rattle.transaction.specs.Tx.{read_ours}
 use Rattle.molecule.specs.Partial.{All}
-use Rattle.rules.specs.Surplus.{Measure, capacities, expected}
+use Rattle.rules.specs.Surplus.{Measure}
 use Rattle.units.specs.Units.{Figures}
-use Rattle.rules.specs.Judge.{Call, tx_of}
+use Rattle.rules.specs.Judge.{Call}
 use Rattle.rules.specs.Run.{Entry, Exact, update_for_peer, carried, sum, verdicts, in_force, next, forces}
 use Rattle.error.proofs.Passed.{never, fine_inj, check-fine}
-use Rattle.rules.proofs.Accept as accept
-use Rattle.rules.proofs.Law.{exact, kept-inputs, kept-records, stay-readable}
-use Rattle.funding_tx.proofs.Demand3.{all_one}
+use Rattle.rules.specs.Lawful.{Figure, Lawful, two_figures}
+use Rattle.rules.proofs.Accept.{update_owes}
+use Rattle.rules.proofs.LawfulLaws as law
 use Rattle.error.specs.declared.Refusal.{Refusal}
 use Rattle.negotiation.specs.Updates.{Updates, calls_of, call_at, transaction_at}
 use Rattle.words.specs.Words.{four_of, surplus_words}
 use Rattle.negotiation.specs.Words.{words, all_words}
-use Rattle.negotiation.specs.Replay.{Summary, accepted_of, index_after, summary_of, replay_of, leaves, answered}
-use Rattle.negotiation.specs.Law.{answer_in, answers_in, Called, Lawful}
+use Rattle.negotiation.specs.Replay.{Summary, accepted_of, index_after, summary_of, replay_of, after_replay, answered}
+use Rattle.negotiation.specs.Law.{answer_in, answers_in, Called, LawfulReplay}
 use Rattle.negotiation.proofs.WordLaws.{all_length}
 use Rattle.negotiation.proofs.RunLaws.{length-verdicts, index_names}
 use Rattle.negotiation.proofs.Numbers.{Numbered, verdicts_numbered}
@@ -69,15 +67,15 @@ done-of lock udt start updates room vs e =
     let (u, f) = check-fine 13 (leb (5 * item_count updates) room) _ vs d in
     (t, fine_inj f)
 
--- what holds of the bytes after each call, and of the start, holds of the bytes at the end
-at_last : {C S : Type 0} (E : Entry C S) (P : List ℕ → Type 0) (calls : List C) (start : List ℕ) → P start → All P (forces E start calls) → P (in_force E start calls)
-at_last E P [] start p ps = p
-at_last E P (c ∷ cs) start p (q, qs) = at_last E P cs (next E start c) q qs
+-- what is said of answers is said of others that carry the same
+module _ (E : Entry Call Figures) {start : List ℕ} {calls : List Call} {end end' : List ℕ} {vs ws : List (Outcome Figures)} (b : end' ≡ end) where
+  as_carried : {m : Measure} (pick : Figures → ℕ) → carried pick ws ≡ carried pick vs → Exact E m pick start calls vs end → Exact E m pick start calls ws end'
+  as_carried pick c x = record { each = rw c x.each; natural = x.natural; sums = rw (c, b) x.sums }
 
-module _ {m : Measure} (E : Entry Call Figures) (pick : Figures → ℕ) {start : List ℕ} {calls : List Call} {end end' : List ℕ} {vs ws : List (Outcome Figures)} where
-  -- what is said of answers is said of others that carry the same
-  as_carried : carried pick ws ≡ carried pick vs → end' ≡ end → Exact E m pick start calls vs end → Exact E m pick start calls ws end'
-  as_carried c b x = record { each = rw c x.each; natural = x.natural; sums = rw (c, b) x.sums }
+  all_carried : (figures : List (Figure Figures)) → ((pick : Figures → ℕ) → carried pick ws ≡ carried pick vs)
+      → All (λ f. Exact E f.measure f.pick start calls vs end) figures → All (λ f. Exact E f.measure f.pick start calls ws end') figures
+  all_carried [] c xs = tt
+  all_carried (f ∷ fs) c (x, xs) = (as_carried f.pick (c f.pick) x, all_carried fs c xs)
 
 module _ (lock udt start updates before : List ℕ) (n accepted at : ℕ) (after : List ℕ) where
   abbrev E : Entry Call Figures
@@ -88,7 +86,7 @@ module _ (lock udt start updates before : List ℕ) (n accepted at : ℕ) (after
 
   lawful : (vs : List (Outcome Figures)) → T (readable Updates updates) → verdicts E start calls ≡ vs
       → fine (record { updates = n; accepted = accepted; at = at }) ≡ fine (summary_of vs) → after ≡ all_words vs ++ drop (length (all_words vs)) before
-      → Lawful lock udt start updates before n accepted at after
+      → LawfulReplay lock udt start updates before n accepted at after
   unfolding accepted_of
   lawful vs t ev es ea =
       let s : record { updates = n; accepted = accepted; at = at } ≡ summary_of vs = fine_inj es in
@@ -100,41 +98,34 @@ module _ (lock udt start updates before : List ℕ) (n accepted at : ℕ) (after
       let l : length (all_words vs) ≡ 5 * n = all_length vs ∙ ap (λ (j : ℕ). 5 * j) (sym c) in
       let back : (pick : Figures → ℕ) → carried pick (answers_in n after) ≡ carried pick vs = λ pick. rw (c, ea) (back-carried pick vs _ h) in
       let w : take (5 * n) after ≡ all_words (verdicts E start calls) = rw (ea, ev) (take_at (all_words vs) _ (5 * n) l) in
+      let k' : Lawful E (two_figures udt) start calls (verdicts E start calls) (forces E start calls) (in_force E start calls) = law.lawful E (update_owes lock udt) start calls in
       record {
         is_list = t;
         count = c ∙ ap (length {A = Outcome Figures}) (sym ev) ∙ length-verdicts E start calls ∙ span-length (call_at updates) 0 (item_count updates);
         words = w;
-        at_end = eb;
+        lawful = rw eb k';
         acceptances = k ∙ ap sum (sym (back (λ f. 1)));
-        capacity = as_carried E (λ f. f.capacity) (back (λ f. f.capacity) ∙ ap (carried (λ (f : Figures). f.capacity)) (sym ev)) eb
-            (exact E capacities (λ f. f.capacity) (λ ours c f e. (accept.accepted lock udt ours c f e).capacity) start calls);
-        token = as_carried E (λ f. f.token) (back (λ f. f.token) ∙ ap (carried (λ (f : Figures). f.token)) (sym ev)) eb
-            (exact E (expected udt) (λ f. f.token) (λ ours c f e. (accept.accepted lock udt ours c f e).token) start calls);
-        inputs = ap (λ (b : List ℕ). (tx_of b).inputs) eb ∙ kept-inputs E capacities (λ f. f.capacity) (λ ours c f e. (accept.accepted lock udt ours c f e).capacity) start calls;
-        records = kept-records E capacities (λ f. f.capacity) (λ ours c f e. (accept.accepted lock udt ours c f e).capacity) calls start;
-        readable = λ h. rw eb
-            (at_last E (λ b. read_ours b ≡ some (tx_of b)) calls start h (stay-readable E (λ ours c f e. (accept.accepted lock udt ours c f e).peer_readable) calls start h));
-        unreadable = λ h. (let (ones, same) = all_one lock udt calls start h in (w ∙ ap all_words ones, eb ∙ same));
+        exact = all_carried E eb (two_figures udt) (λ pick. back pick ∙ ap (carried pick) (sym ev)) k'.exact;
         beyond = rw (ea, l) (drop_at (all_words vs) (drop (5 * n) before) (5 * n) l);
       }
 
   -- of what a call leaves, by what the list comes to
   by : (x : Outcome (List (Outcome Figures))) → replay_of lock udt start updates (length before) ≡ x
-      → (fine (record { updates = n; accepted = accepted; at = at }), after) ≡ leaves x before → Lawful lock udt start updates before n accepted at after
-  unfolding leaves
+      → (fine (record { updates = n; accepted = accepted; at = at }), after) ≡ after_replay x before → LawfulReplay lock udt start updates before n accepted at after
+  unfolding after_replay
   by (fine vs) e a =
       let (t, v) = done-of lock udt start updates (length before) vs e in
       lawful vs t v (ap (λ (p : Outcome Summary × List ℕ). p.0) a) (ap (λ (p : Outcome Summary × List ℕ). p.1) a)
   by (refused m l) e a = absurd (never m l _ (sym (ap (λ (p : Outcome Summary × List ℕ). p.0) a)))
 
-  pub demand_3 : Called lock udt start updates before (Ok (record { updates = n; accepted = accepted; at = at })) after → Lawful lock udt start updates before n accepted at after
+  pub demand_3 : Called lock udt start updates before (Ok (record { updates = n; accepted = accepted; at = at })) after → LawfulReplay lock udt start updates before n accepted at after
   demand_3 = by (replay_of lock udt start updates (length before)) refl
 
 -- a refused call leaves the words as they were
 pub refusals : (lock udt start updates before : List ℕ) (e : Refusal) (after : List ℕ) → Called lock udt start updates before (Err e) after → after ≡ before
-unfolding leaves
+unfolding after_replay
 refusals lock udt start updates before e after k = of (replay_of lock udt start updates (length before)) k
   where
-    of : (x : Outcome (List (Outcome Figures))) → (answered (Err e), after) ≡ leaves x before → after ≡ before
+    of : (x : Outcome (List (Outcome Figures))) → (answered (Err e), after) ≡ after_replay x before → after ≡ before
     of (fine vs) a = absurd (never _ _ _ (ap (λ (p : Outcome Summary × List ℕ). p.0) a))
     of (refused m l) a = ap (λ (p : Outcome Summary × List ℕ). p.1) a

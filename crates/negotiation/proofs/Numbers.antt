@@ -1,24 +1,25 @@
--- No refusal of the rules has the number 0: a first word of 0 is an acceptance.
+-- No refusal of the rules has the number 0, since no line has: a first word of 0 is an acceptance.
 use mathlib.Core.Path.{◌≡◌, refl, sym}
 use Prim.Native.Nat.{ℕ, suc, ◌<◌}
 use mathlib.Core.Bool.{Bool, true, false, cond}
-use mathlib.Core.List.{List, [], ◌∷◌}
-use mathlib.Core.Option.{Option, none, some}
+use mathlib.Core.List.{List, [], ◌∷◌, ◌++◌}
+use mathlib.Core.Option.{Option}
 use native.Mathlib.Omega.{arith}
-use Rattle.transaction.specs.Tx.{Tx, read_tx, read_ours}
-use Rattle.error.specs.Outcome.{Outcome, fine, refused, check, check_with, given, ◌>>=◌, ◌>>◌}
-use Rattle.rules.specs.Cells.{Cell, read_records}
-use Rattle.lists.specs.Lists.{is_empty}
-use Rattle.rules.specs.Surplus.{is_of, added}
-use Rattle.rules.specs.Judge.{Call, limits, comparison, live, live_cells, spent, token_delta, funding_output_delta, covered, counted, tally, settled, account, token_account, accounts, contribution, scripts, judge_against, judge}
-use Rattle.rules.specs.Run.{next, verdicts, update_for_peer}
-use Rattle.molecule.specs.Partial.{All}
+use Rattle.error.specs.Outcome.{Outcome, fine, refused, check_with}
+use Rattle.error.specs.Outcome as outcome
 use Rattle.error.proofs.Passed.{never}
+use Rattle.units.specs.Units.{Figures}
+use Rattle.molecule.specs.Partial.{All}
+use Rattle.lists.specs.Lists.{is_empty}
+use Rattle.transaction.specs.Tx.{Tx, tx_at}
+use Rattle.rules.specs.Cells.{Cell, Lent, lent_at}
+use Rattle.rules.specs.Surplus.{is_of, added}
+use Rattle.rules.specs.Lines.{Name, Line, Ruled, first_failing, verdict, followed, answer, line, line_with, ◌>>=◌, ◌>>◌}
+use Rattle.rules.specs.Judge.{Call, Names, limits, comparison, live, live_cells, spent, token_delta, funding_output_delta, covered, counted, tally, settled, token_account, accounts, contribution, scripts, opening, closing, ruling, ruling_against, judge}
+use Rattle.rules.specs.Run.{next, verdicts, update_for_peer}
 
 pub record Numbered {A : Type 0} (o : Outcome A) : Type 0 where
   pub positive : (n : ℕ) (l : List ℕ) → o ≡ refused n l → 0 < n
-
--- ---- the forms of a check
 
 done : {A : Type 0} (a : A) → Numbered (fine a)
 done a = record { positive = λ n l e. absurd (never n l a (sym e)) }
@@ -26,127 +27,145 @@ done a = record { positive = λ n l e. absurd (never n l a (sym e)) }
 refuse : {A : Type 0} (n : ℕ) (l : List ℕ) → 0 < n → Numbered {A = A} (refused n l)
 refuse n l h = record { positive = λ m k e. (let z : n ≡ m = cc in omega arith) }
 
-with_values : (n : ℕ) (l : List ℕ) (b : Bool) → 0 < n → Numbered (check_with n l b)
-unfolding check_with
-with_values n l true h = done tt
-with_values n l false h = refuse n l h
+-- ---- lines with numbers
 
-plain : (n : ℕ) (b : Bool) → 0 < n → Numbered (check n b)
-unfolding check
-plain n b h = with_values n [] b h
+abbrev Positive : Line → Type 0
+Positive l = 0 < l.number
 
-lent : {A : Type 0} (n : ℕ) (o : Option A) → 0 < n → Numbered (given n o)
-unfolding given
-lent n none h = refuse n [] h
-lent n (some a) h = done a
+-- each of a block's lines has one, and an answer follows
+record Lined {A : Type 0} (m : Ruled A) : Type 0 where
+  pub lines : All Positive m.lines
+  pub given : Numbered m.answer
 
-and_then : {B : Type 0} (m : Outcome (Unit {0})) {r : Outcome B} → Numbered m → Numbered r → Numbered (m >> r)
-unfolding ◌>>◌
-and_then (fine u) a b = b
-and_then (refused n l) a b = refuse n l (a.positive n l refl)
+joined : (ls ms : List Line) → All Positive ls → All Positive ms → All Positive (ls ++ ms)
+joined [] ms a b = b
+joined (l ∷ ls) ms (p, a) b = (p, joined ls ms a b)
 
-and_with : {A B : Type 0} (m : Outcome A) {f : A → Outcome B} → Numbered m → ((x : A) → Numbered (f x)) → Numbered (m >>= f)
+just : {A : Type 0} (a : A) → Lined (answer a)
+unfolding answer
+just a = record { lines = tt; given = done a }
+
+of : (n : ℕ) (l : List ℕ) (s : Name) (b : Bool) → 0 < n → Lined (line_with n l s b)
+unfolding line_with
+of n l s b h = record { lines = (h, tt); given = done tt }
+
+after : {A B : Type 0} (ls : List Line) (o : Outcome A) (f : A → Ruled B) → All Positive ls → Numbered o → ((a : A) → Lined (f a)) → Lined (followed ls o f)
+unfolding followed
+after ls (fine a) f p q h = let w = h a in record { lines = joined ls (f a).lines p w.lines; given = w.given }
+after ls (refused n l) f p q h = record { lines = p; given = refuse n l (q.positive n l refl) }
+
+and_with : {A B : Type 0} (m : Ruled A) (f : A → Ruled B) → Lined m → ((a : A) → Lined (f a)) → Lined (m >>= f)
 unfolding ◌>>=◌
-and_with (fine x) a b = b x
-and_with (refused n l) a b = refuse n l (a.positive n l refl)
+and_with m f w h = after m.lines m.answer f w.lines w.given h
 
-either : {A : Type 0} (b : Bool) {x y : Outcome A} → Numbered x → Numbered y → Numbered (cond b x y)
+and_then : {B : Type 0} (m : Ruled (Unit {0})) (r : Ruled B) → Lined m → Lined r → Lined (m >> r)
+unfolding ◌>>◌
+and_then m r w h = after m.lines m.answer (λ _. r) w.lines w.given (λ _. h)
+
+-- a line, and what follows it
+on : {B : Type 0} (n : ℕ) (l : List ℕ) (s : Name) (b : Bool) (r : Ruled B) → 0 < n → Lined r → Lined (line_with n l s b >> r)
+on n l s b r h p = and_then (line_with n l s b) r (of n l s b h) p
+
+either : {A : Type 0} (b : Bool) {x y : Ruled A} → Lined x → Lined y → Lined (cond b x y)
 either true p q = p
 either false p q = q
 
--- a check, and what follows it
-on : {B : Type 0} (n : ℕ) (b : Bool) {r : Outcome B} → 0 < n → Numbered r → Numbered (check n b >> r)
-on n b h p = and_then (check n b) (plain n b h) p
+-- what is answered by such a block
+numbered : {A : Type 0} (m : Ruled A) → Lined m → Numbered (verdict m)
+unfolding verdict first_failing
+numbered {A} m w = by m.lines w.lines
+  where
+    first : (l : Line) (b : Bool) (o : Outcome A) → 0 < l.number → Numbered o → Numbered (outcome.◌>>◌ (check_with l.number l.values b) o)
+    first l true o h p = p
+    first l false o h p = refuse l.number l.values h
 
-on_4 : {B : Type 0} (b : Bool) {r : Outcome B} → Numbered r → Numbered (check 4 b >> r)
-on_4 b p = on 4 b (omega arith) p
-
-on_5 : {B : Type 0} (b : Bool) {r : Outcome B} → Numbered r → Numbered (check 5 b >> r)
-on_5 b p = on 5 b (omega arith) p
-
-last_5 : (b : Bool) → Numbered (check 5 b)
-last_5 b = plain 5 b (omega arith)
+    by : (ls : List Line) → All Positive ls → Numbered (first_failing ls m.answer)
+    by [] tt = w.given
+    by (l ∷ ls) (h, hs) = first l l.holds (first_failing ls m.answer) h (by ls hs)
 
 -- ---- the rules
 
-limits_numbered : (size : ℕ) (ours peer : Tx) → Numbered (limits size ours peer)
-unfolding limits
-limits_numbered size ours peer = on_4 _ (on_4 _ (on_4 _ (plain 4 _ (omega arith))))
-
-comparison_numbered : (lock type : List ℕ) (ours peer : Tx) → Numbered (comparison lock type ours peer)
-unfolding comparison
-comparison_numbered lock type ours peer =
-    on_5 _ (on_5 _ (on_5 _ (on_5 _ (on_5 _ (on_5 _ (on_5 _ (on_5 _ (on_5 _ (on_5 _ (on_5 _ (on_5 _ (on_5 _ (last_5 _)))))))))))))
-
-live_numbered : (source : List ℕ) (i : ℕ) (rs : List (Option Cell)) → Numbered (live source i rs)
-unfolding live
-live_numbered source i [] = done tt
-live_numbered source i (none ∷ rs) = refuse 5 [] (omega arith)
-live_numbered source i (some c ∷ rs) = and_then _ (with_values 6 _ _ (omega arith)) (live_numbered source (suc i) rs)
-
-spent_numbered : (source : List ℕ) (ours peer : Tx) (o : Option (List (Option Cell))) → Numbered (spent source ours peer o)
-unfolding spent
-spent_numbered source ours peer o =
-    and_with _ (lent 3 o (omega arith))
-    (λ rs. on 3 _ (omega arith) (and_then _ (live_numbered source _ rs) (done (live_cells rs))))
-
-token-delta_numbered : (ours peer : Tx) → Numbered (token_delta ours peer)
-unfolding token_delta
-token-delta_numbered ours peer = on_5 _ (on_5 _ (on_5 _ (done _)))
-
-delta_numbered : (type : List ℕ) (ours peer : Tx) → Numbered (funding_output_delta type ours peer)
-unfolding funding_output_delta
-delta_numbered type ours peer =
-    on_5 _ (on_5 _ (on_5 _ (and_with _ (either (is_empty type) (done 0) (token-delta_numbered ours peer)) (λ token. done _))))
-
-covered_numbered : (opening : Bool) (gained needed rate size : ℕ) → Numbered (covered opening gained needed rate size)
-unfolding covered
-covered_numbered opening gained needed rate size = on_5 _ (and_then _ (with_values 8 _ _ (omega arith)) (done _))
-
-counted_numbered : (type : List ℕ) (sum : ℕ) (c : Cell) → Numbered (counted type sum c)
-unfolding counted
-counted_numbered type sum c = either (is_of type c) (on_5 _ (on 7 _ (omega arith) (done _))) (done sum)
-
-tally_numbered : (type : List ℕ) (sum : ℕ) (cs : List Cell) → Numbered (tally type sum cs)
-unfolding tally
-tally_numbered type sum [] = done sum
-tally_numbered type sum (c ∷ cs) = and_with _ (counted_numbered type sum c) (λ n. tally_numbered type n cs)
-
-settled_numbered : (growth outs gained : ℕ) → Numbered (settled growth outs gained)
-unfolding settled
-settled_numbered growth outs gained = on 7 _ (omega arith) (on_5 _ (done _))
-
-account_numbered : (type : List ℕ) (growth : ℕ) (records outs : List Cell) → Numbered (account type growth records outs)
-unfolding account
-account_numbered type growth records outs =
-    and_with _ (tally_numbered type 0 records) (λ gained. and_with _ (tally_numbered type 0 outs) (λ put. settled_numbered growth put gained))
-
-accounts_numbered : (type : List ℕ) (ours peer : Tx) (records : List Cell) (rate size shannons tokens : ℕ)
-    → Numbered (accounts type ours peer records rate size shannons tokens)
-unfolding accounts token_account
-accounts_numbered type ours peer records rate size shannons tokens =
-    and_with _ (covered_numbered _ _ _ rate size)
-    (λ capacity. and_with _ (either (is_empty type) (done 0) (account_numbered type tokens records (added ours peer))) (λ token. done _))
-
-contribution_numbered : (type : List ℕ) (ours peer : Tx) (records : List Cell) (rate size : ℕ) → Numbered (contribution type ours peer records rate size)
-unfolding contribution
-contribution_numbered type ours peer records rate size =
-    and_with _ (delta_numbered type ours peer) (λ delta. accounts_numbered type ours peer records rate size delta.capacity delta.token)
-
-scripts_numbered : (lock type source : List ℕ) → Numbered (scripts lock type source)
+scripts_lined : (lock type source : List ℕ) → Lined (scripts lock type source)
 unfolding scripts
-scripts_numbered lock type source = on 3 _ (omega arith) (on 3 _ (omega arith) (plain 3 _ (omega arith)))
+scripts_lined lock type source = on 3 _ _ _ _ (omega arith) (on 3 _ _ _ _ (omega arith) (of 3 _ _ _ (omega arith)))
+
+limits_lined : (size : ℕ) (ours peer : Tx) → Lined (limits size ours peer)
+unfolding limits
+limits_lined size ours peer = on 4 _ _ _ _ (omega arith) (on 4 _ _ _ _ (omega arith) (on 4 _ _ _ _ (omega arith) (of 4 _ _ _ (omega arith))))
+
+comparison_lined : (lock type : List ℕ) (ours peer : Tx) → Lined (comparison lock type ours peer)
+unfolding comparison
+comparison_lined lock type ours peer = on 5 _ _ _ _ (omega arith) (on 5 _ _ _ _ (omega arith) (on 5 _ _ _ _ (omega arith) (on 5 _ _ _ _ (omega arith) (on 5 _ _ _ _ (omega arith) (on 5 _ _ _ _ (omega arith) (on 5 _ _ _ _ (omega arith) (on 5 _ _ _ _ (omega arith) (on 5 _ _ _ _ (omega arith) (on 5 _ _ _ _ (omega arith) (on 5 _ _ _ _ (omega arith) (on 5 _ _ _ _ (omega arith) (on 5 _ _ _ _ (omega arith) (of 5 _ _ _ (omega arith))))))))))))))
+
+live_lined : (source : List ℕ) (i : ℕ) (rs : List (Option Cell)) → Lined (live source i rs)
+unfolding live
+live_lined source i [] = just tt
+live_lined source i (r ∷ rs) = on _ _ _ _ _ (omega arith) (on _ _ _ _ _ (omega arith) (live_lined source (suc i) rs))
+
+spent_lined : (source : List ℕ) (ours peer : Tx) (lent : Lent) → Lined (spent source ours peer lent)
+unfolding spent
+spent_lined source ours peer lent = on _ _ _ _ _ (omega arith) (on _ _ _ _ _ (omega arith) (and_then (live source _ lent.records) _ (live_lined source _ lent.records) (just (live_cells lent.records))))
+
+token-delta_lined : (ours peer : Tx) → Lined (token_delta ours peer)
+unfolding token_delta
+token-delta_lined ours peer = on _ _ _ _ _ (omega arith) (on _ _ _ _ _ (omega arith) (on _ _ _ _ _ (omega arith) (just _)))
+
+delta_lined : (type : List ℕ) (ours peer : Tx) → Lined (funding_output_delta type ours peer)
+unfolding funding_output_delta
+delta_lined type ours peer = on _ _ _ _ _ (omega arith) (on _ _ _ _ _ (omega arith) (on _ _ _ _ _ (omega arith) (and_with (cond (is_empty type) (answer 0) (token_delta ours peer)) _ (either (is_empty type) (just 0) (token-delta_lined ours peer)) (λ token. just _))))
+
+covered_lined : (opening : Bool) (gained needed rate size : ℕ) → Lined (covered opening gained needed rate size)
+unfolding covered
+covered_lined opening gained needed rate size = on _ _ _ _ _ (omega arith) (on _ _ _ _ _ (omega arith) (just _))
+
+counted_lined : (names : Names) (type : List ℕ) (sum : ℕ) (c : Cell) → Lined (counted names type sum c)
+unfolding counted
+counted_lined names type sum c = either (is_of type c) (on _ _ _ _ _ (omega arith) (on _ _ _ _ _ (omega arith) (just _))) (just sum)
+
+tally_lined : (names : Names) (type : List ℕ) (sum : ℕ) (cs : List Cell) → Lined (tally names type sum cs)
+unfolding tally
+tally_lined names type sum [] = just sum
+tally_lined names type sum (c ∷ cs) = and_with (counted names type sum c) _ (counted_lined names type sum c) (λ n. tally_lined names type n cs)
+
+settled_lined : (growth outs gained : ℕ) → Lined (settled growth outs gained)
+unfolding settled
+settled_lined growth outs gained = on _ _ _ _ _ (omega arith) (on _ _ _ _ _ (omega arith) (just _))
+
+token_lined : (type : List ℕ) (growth : ℕ) (paid : Ruled ℕ) (outs : List Cell) → Lined paid → Lined (token_account type growth paid outs)
+unfolding token_account
+token_lined type growth paid outs w =
+    either (is_empty type) (just 0)
+    (and_with paid _ w (λ gained. and_with (tally _ type 0 outs) _ (tally_lined _ type 0 outs) (λ put. settled_lined growth put gained)))
+
+accounts_lined : (type : List ℕ) (opening : Bool) (gained : ℕ) (paid : Ruled ℕ) (outs : List Cell) (rate size : ℕ) (grown : Figures) → Lined paid
+    → Lined (accounts type opening gained paid outs rate size grown)
+unfolding accounts
+accounts_lined type opening gained paid outs rate size grown w =
+    and_with (covered opening gained _ rate size) _ (covered_lined opening gained _ rate size)
+    (λ capacity. and_with (token_account type grown.token paid outs) _ (token_lined type grown.token paid outs w) (λ token. just _))
+
+contribution_lined : (type : List ℕ) (ours peer : Tx) (gained : ℕ) (paid : Ruled ℕ) (rate size : ℕ) → Lined paid → Lined (contribution type ours peer gained paid rate size)
+unfolding contribution
+contribution_lined type ours peer gained paid rate size w =
+    and_with (funding_output_delta type ours peer) _ (delta_lined type ours peer) (λ grown. accounts_lined type _ gained paid (added ours peer) rate size grown w)
+
+opening_lined : (lock type source : List ℕ) (ours : Tx) (bytes : List ℕ) → Lined (opening lock type source ours bytes)
+unfolding opening
+opening_lined lock type source ours bytes =
+    on _ _ _ _ _ (omega arith) (and_then (scripts lock type source) _ (scripts_lined lock type source)
+    (and_then (limits _ ours (tx_at bytes)) _ (limits_lined _ ours (tx_at bytes)) (comparison_lined lock type ours (tx_at bytes))))
+
+closing_lined : (type source : List ℕ) (ours peer : Tx) (rate size : ℕ) (lent : Lent) → Lined (closing type source ours peer rate size lent)
+unfolding closing
+closing_lined type source ours peer rate size lent =
+    and_with (spent source ours peer lent) _ (spent_lined source ours peer lent) (λ records. contribution_lined type ours peer _ _ rate size (tally_lined _ type 0 records))
 
 pub judge_numbered : (lock type ours : List ℕ) (call : Call) → Numbered (judge lock type ours call)
-unfolding judge judge_against
+unfolding judge ruling ruling_against
 judge_numbered lock type ours call =
-    and_with _ (lent 1 (read_ours ours) (omega arith))
-    (λ o. and_with _ (lent 2 (read_tx call.peer) (omega arith))
-    (λ p. and_then _ (scripts_numbered lock type call.source)
-    (and_then _ (limits_numbered _ o p)
-    (and_then _ (comparison_numbered lock type o p)
-    (and_with _ (spent_numbered call.source o p (read_records call.records))
-    (λ records. contribution_numbered type o p records call.rate _))))))
+    numbered (ruling lock type ours call)
+    (on _ _ _ _ _ (omega arith) (and_then (opening lock type call.source (tx_at ours) call.peer) _ (opening_lined lock type call.source (tx_at ours) call.peer)
+    (closing_lined type call.source (tx_at ours) (tx_at call.peer) call.rate _ (lent_at call.records))))
 
 -- so it is for the verdicts of a list
 pub verdicts_numbered : (lock type : List ℕ) (calls : List Call) (start : List ℕ) → All Numbered (verdicts (update_for_peer lock type) start calls)

@@ -17,7 +17,7 @@ use Rattle.error.specs.Outcome.{Outcome, fine, refused, check, check_with, ◌>>
 use Rattle.rules.specs.Run.{verdicts, update_for_peer}
 use Rattle.error.proofs.Passed.{never}
 use Rattle.negotiation.specs.Updates.{Updates, calls_of}
-use Rattle.negotiation.specs.Replay.{replay_of, leaves, answered}
+use Rattle.negotiation.specs.Replay.{replay_of, after_replay, answered}
 
 module _ (lock udt start s : List ℕ) (room : ℕ) where
   refused_3 : readable Updates s ≡ false → replay_of lock udt start s room ≡ refused 3 []
@@ -42,8 +42,8 @@ module _ (lock udt start s : List ℕ) (room : ℕ) where
       by true ea true eb = never m l _ (sym e ∙ judged ea eb)
 
 module _ (lock udt start s out : List ℕ) {r : Bool} (e : r ≡ readable Updates s) where
-  pub replay_unreadable : r ≡ false → (answered (Err Refusal.LentBytesUnreadable), out) ≡ leaves (replay_of lock udt start s (length out)) out
-  unfolding leaves number values
+  pub replay_unreadable : r ≡ false → (answered (Err Refusal.LentBytesUnreadable), out) ≡ after_replay (replay_of lock udt start s (length out)) out
+  unfolding after_replay number values
   replay_unreadable h = rw (refused_3 lock udt start s (length out) (sym e ∙ h))
 
   module _ {n : ℕ} (t : r ≡ true) (c : n ≡ item_count s) where
@@ -53,9 +53,9 @@ module _ (lock udt start s out : List ℕ) {r : Bool} (e : r ≡ readable Update
     enough : n ≤ length out / 5 → leb (5 * item_count s) (length out) ≡ true
     enough h = let k : 5 * item_count s ≤ length out = omega arith in le-leb _ _ k
 
-    pub replay_short : length out / 5 < n → (answered (Err Refusal.BufferTooShort), out) ≡ leaves (replay_of lock udt start s (length out)) out
-    unfolding leaves number values
+    pub replay_short : length out / 5 < n → (answered (Err Refusal.BufferTooShort), out) ≡ after_replay (replay_of lock udt start s (length out)) out
+    unfolding after_replay number values
     replay_short h = rw (refused_13 lock udt start s (length out) (sym e ∙ t) (short h))
 
-    pub replay_run : n ≤ length out / 5 → leaves (replay_of lock udt start s (length out)) out ≡ leaves (fine (verdicts (update_for_peer lock udt) start (calls_of s))) out
-    replay_run h = ap (λ (o : Outcome (List (Outcome Figures))). leaves o out) (judged lock udt start s (length out) (sym e ∙ t) (enough h))
+    pub replay_run : n ≤ length out / 5 → after_replay (replay_of lock udt start s (length out)) out ≡ after_replay (fine (verdicts (update_for_peer lock udt) start (calls_of s))) out
+    replay_run h = ap (λ (o : Outcome (List (Outcome Figures))). after_replay o out) (judged lock udt start s (length out) (sym e ∙ t) (enough h))

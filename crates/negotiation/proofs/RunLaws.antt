@@ -25,7 +25,7 @@ use Rattle.funding_tx.proofs.Demand3.{hands}
 use Rattle.funding_tx.proofs.VerdictLaws.{judge_read}
 use Rattle.negotiation.specs.Updates.{bytes_of, rate_of, call_at, calls_of, transaction_at}
 use Rattle.negotiation.specs.Words.{words, all_words}
-use Rattle.negotiation.specs.Replay.{accepted_of, index_after, leaves, answered}
+use Rattle.negotiation.specs.Replay.{accepted_of, index_after, after_replay, answered}
 use Rattle.negotiation.proofs.WordLaws.{all_length}
 
 -- what is judged is the update with this index, against the transaction with that one, which is known to be readable
@@ -161,8 +161,8 @@ module _ {lock udt start s out₀ : List ℕ} {known : Bool} {n i at accepted : 
   none_left : n ≤ i → rest lock udt start s at i n ≡ []
   none_left l = ap (verdicts (update_for_peer lock udt) (transaction_at start s at)) (span-end (call_at s) i n l)
 
-  pub run_end : n ≤ i → (answered (Ok (record { updates = n; accepted = accepted; at = at })), out) ≡ leaves (fine (verdicts (update_for_peer lock udt) start (calls_of s))) out₀
-  unfolding leaves all_words index_after accepted_of
+  pub run_end : n ≤ i → (answered (Ok (record { updates = n; accepted = accepted; at = at })), out) ≡ after_replay (fine (verdicts (update_for_peer lock udt) start (calls_of s))) out₀
+  unfolding after_replay all_words index_after accepted_of
   run_end l =
       let z = none_left l in
       let b = rw z at g.buffer in

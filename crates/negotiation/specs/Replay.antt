@@ -38,9 +38,9 @@ replay_of lock udt start updates room = do
   fine (verdicts (update_for_peer lock udt) start (calls_of updates))
 
 -- what is answered, and the buffer: it begins with the words of the answers, and what is beyond keeps its value; after a refusal all is as it was
-unfoldable pub leaves : Outcome (List (Outcome Figures)) → List ℕ → Outcome Summary × List ℕ
-leaves (fine vs) out = (fine (summary_of vs), all_words vs ++ drop (length (all_words vs)) out)
-leaves (refused n l) out = (refused n l, out)
+unfoldable pub after_replay : Outcome (List (Outcome Figures)) → List ℕ → Outcome Summary × List ℕ
+after_replay (fine vs) out = (fine (summary_of vs), all_words vs ++ drop (length (all_words vs)) out)
+after_replay (refused n l) out = (refused n l, out)
 
 -- what `replay` answers
 abbrev pub Replayed : Type 0

@@ -12,7 +12,7 @@ ghost use Rattle.rules.specs.Told.{told, in_force_of};
 ghost use Rattle.rules.specs.Run.{verdicts, update_for_peer};
 ghost use Rattle.negotiation.specs.Updates.{Updates, bytes_of, bytes_start, rate_of, call_at, calls_of, transaction_at, place_at};
 ghost use Rattle.negotiation.specs.Words.{words};
-ghost use Rattle.negotiation.specs.Replay.{replay_of, leaves, answered};
+ghost use Rattle.negotiation.specs.Replay.{replay_of, after_replay, answered};
 
 use arithmetic::little_endian;
 use error::Refusal;
@@ -136,7 +136,7 @@ impl Negotiation<'_> {
     // none is accepted.
     fn judge_all(self, answers: &mut [u64]) -> Summary
         requires { 5 * item_count self.updates.now ≤ length answers.old }
-        ensures { (answered (Ok result), answers.new) ≡ leaves (fine (verdicts (update_for_peer self.entry.lock.now self.entry.udt.now) self.entry.start.now (calls_of self.entry.updates.now))) answers.old }
+        ensures { (answered (Ok result), answers.new) ≡ after_replay (fine (verdicts (update_for_peer self.entry.lock.now self.entry.udt.now) self.entry.start.now (calls_of self.entry.updates.now))) answers.old }
     {
         let n = molecule::item_count(self.updates) as usize;
         let known = transaction::is_optional_transaction(self.start);
@@ -159,7 +159,7 @@ impl Negotiation<'_> {
     // `answers` from 5 k on are its number (0: accepted) and its values, or the halves of its surpluses. Refused, before any update is judged: 3 where
     // `updates` is no list of updates, 13 where `answers` has fewer than five words for each.
     pub fn replay(self, answers: &mut [u64]) -> Replayed
-        ensures { (answered result, answers.new) ≡ leaves (replay_of self.entry.lock.now self.entry.udt.now self.entry.start.now self.entry.updates.now (length answers.old)) answers.old }
+        ensures { (answered result, answers.new) ≡ after_replay (replay_of self.entry.lock.now self.entry.udt.now self.entry.start.now self.entry.updates.now (length answers.old)) answers.old }
     {
         if !is_updates(self.updates) {
             return Err(Refusal::LentBytesUnreadable);
