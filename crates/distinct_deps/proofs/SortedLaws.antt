@@ -22,8 +22,8 @@ use Rattle.lists.specs.Lists.{eq_bytes, contains}
 use Rattle.lists.proofs.LoopLaws.{at_place}
 use Rattle.lists.proofs.EqualLaws.{eq_refl}
 use Rattle.item_index.specs.Order.{is_before, order_of}
-use Rattle.item_index.proofs.FindLaws.{eq_sym}
-use Rattle.item_index.proofs.OrderLaws.{three, before_not, before_earlier, before_differs, after_is, after_less, after_trans, order_less, order-more, order_same}
+use Rattle.item_index.proofs.FindLaws.{eq_sym, ranked}
+use Rattle.item_index.proofs.OrderLaws.{three, before_not, before_differs, after_less, order_less, order-more, order_same}
 
 -- the first n rise
 pub record Ordered (f : ℕ → List ℕ) (n : ℕ) : Type 0 where
@@ -43,20 +43,6 @@ pub record Absent (f : ℕ → List ℕ) (n : ℕ) (x : List ℕ) (at : ℕ) : T
   pub within : at ≤ n
   pub below : (i : ℕ) → i < at → is_before (f i) x ≡ true
   pub above : (i : ℕ) → at ≤ i → i < n → is_before x (f i) ≡ true
-
--- of y, and z that does not come before it
-ranked : (y z x : List ℕ) → is_before z y ≡ false → ordering_index (order_of y x) ≤ ordering_index (order_of z x)
-unfolding order_of
-ranked y z x h = by (is_before y x) refl (is_before x y) refl
-  where
-    more : is_before z x ≡ false → (c : Bool) → 1 ≤ ordering_index (cond false Ordering.Less (cond c Ordering.Greater Ordering.Equal))
-    more e true = omega arith
-    more e false = omega arith
-
-    by : (b : Bool) → is_before y x ≡ b → (c : Bool) → is_before x y ≡ c → ordering_index (cond b Ordering.Less (cond c Ordering.Greater Ordering.Equal)) ≤ ordering_index (order_of z x)
-    by true e c w = omega arith
-    by false e true w = rw (← after_is z x (before_earlier x y z w h)) (omega arith)
-    by false e false w = let t : is_before z x ≡ false = after_trans x y z e h in rw t (more t (is_before x z))
 
 -- what the library's search says of the first n of s, which are in the order of their deps
 module _ (dep : ℕ → List ℕ) (s : List ℕ) (n : ℕ) (h : n ≤ length s) (o : Ordered (λ j. dep (get_or s j 0)) n) (x : List ℕ) where
