@@ -43,7 +43,7 @@ values_of f (fine x) = f x
 values_of f (refused n l) = l
 
 -- what stands after a call: what it writes, and what stood before it where it is refused
-unfoldable pub leaves {ℓ} : {A : Type 0} {B : Type ℓ} → Outcome A → (A → B) → B → B
+abbrev pub leaves {ℓ} : {A : Type 0} {B : Type ℓ} → Outcome A → (A → B) → B → B
 leaves (fine a) f b = f a
 leaves (refused n l) f b = b
 

@@ -8,7 +8,8 @@ use lib.{Dec.eqb, ListN.length}
 use Rattle.error.specs.declared.{Refusal.Refusal}
 use Rattle.error.specs.Refusal.{number}
 use Rattle.out_points.specs.{declared.Byte32.Byte32, OutPoints.byte32_at}
-use Rattle.out_points.specs.Tables.{refused, told, keep}
+use Rattle.std.specs.List.{filter}
+use Rattle.out_points.specs.Tables.{refused, told}
 use Rattle.table_bytes.specs.Lent.{After, leaving, with_bytes}
 use Rattle.exclusion_entries.specs.declared.{Rule.Rule}
 use Rattle.exclusion_entries.specs.Exclusions.{Entry, Ruling}
@@ -36,14 +37,13 @@ module _ (s : List ℕ) (o : Ruling) where
   lent-on g e = e ∙ rw g
 
 -- by a rule that takes none, the entries that stay are those that are kept
-pub stay-keep : (f p : Entry → Bool) → ((e : Entry) → p e ≡ false) → (l : List Entry) → stay f p false l ≡ keep f l
-unfolding stay keep
+pub stay-keep : (f p : Entry → Bool) → ((e : Entry) → p e ≡ false) → (l : List Entry) → stay f p false l ≡ filter f l
+unfolding stay
 stay-keep f p n [] = refl
 stay-keep f p n (e ∷ l) = rw (n e, stay-keep f p n l)
 
 -- by one that keeps all, all stay
-pub keep_all : (f : Entry → Bool) → ((e : Entry) → f e ≡ true) → (l : List Entry) → keep f l ≡ l
-unfolding keep
+pub keep_all : (f : Entry → Bool) → ((e : Entry) → f e ≡ true) → (l : List Entry) → filter f l ≡ l
 keep_all f n [] = refl
 keep_all f n (e ∷ l) = rw (n e) (ap (λ (r : List Entry). e ∷ r) (keep_all f n l))
 

@@ -8,7 +8,8 @@ use Rattle.std.specs.Prelude.{Result, Ok, Err}
 use lib.ListN.{length, take, drop, length-append}
 use Rattle.error.specs.declared.{Refusal.Refusal}
 use Rattle.molecule.specs.Partial.{All}
-use Rattle.out_points.specs.Tables.{keep, renew}
+use Rattle.std.specs.List.{filter}
+use Rattle.out_points.specs.Tables.{renew}
 use Rattle.exclusion_entries.specs.Exclusions.{Entry, excluded}
 use Rattle.exclusion_entries.specs.declared.{Rule.Rule, Survey.Survey}
 use Rattle.exclusion_entries.specs.Entries.{entry_bytes, entries_bytes, excluded_at, is_map}
@@ -17,8 +18,8 @@ use Rattle.exclusion_entries.proofs.EntryLaws.{length-entry}
 use Rattle.exclusion_entries.proofs.MapLaws.{map-few, map-count, map-points}
 
 module _ (f p : Entry → Bool) where
-  pub stay-kept : (l : List Entry) → stay f p true l ≡ keep f l
-  unfolding stay keep
+  pub stay-kept : (l : List Entry) → stay f p true l ≡ filter f l
+  unfolding stay
   stay-kept [] = refl
   stay-kept (e ∷ l) = rw (stay-kept l)
 
@@ -27,17 +28,17 @@ module _ (f p : Entry → Bool) where
   stay-split [] = refl
   stay-split (e ∷ l) = by (stay-split l) (f e) (p e)
     where
-      by : stay f p false l ≡ ahead f p l ++ behind f p l → (a b : Bool) → cond a (cond b (stay f p true l) (e ∷ stay f p false l)) (stay f p false l) ≡ cond a (cond b [] (e ∷ ahead f p l)) (ahead f p l) ++ cond a (cond b (keep f l) (behind f p l)) (behind f p l)
+      by : stay f p false l ≡ ahead f p l ++ behind f p l → (a b : Bool) → cond a (cond b (stay f p true l) (e ∷ stay f p false l)) (stay f p false l) ≡ cond a (cond b [] (e ∷ ahead f p l)) (ahead f p l) ++ cond a (cond b (filter f l) (behind f p l)) (behind f p l)
       by s true true = stay-kept l
       by s true false = ap (λ (r : List Entry). e ∷ r) s
       by s false b = s
 
-  pub renew-split : (x : Entry) (l : List Entry) → renew p x (keep f l) ≡ ahead f p l ++ (x ∷ behind f p l)
-  unfolding renew keep ahead behind
+  pub renew-split : (x : Entry) (l : List Entry) → renew p x (filter f l) ≡ ahead f p l ++ (x ∷ behind f p l)
+  unfolding renew ahead behind
   renew-split x [] = refl
   renew-split x (e ∷ l) = by (renew-split x l) (f e) (p e) refl
     where
-      by : renew p x (keep f l) ≡ ahead f p l ++ (x ∷ behind f p l) → (a b : Bool) → p e ≡ b → renew p x (cond a (e ∷ keep f l) (keep f l)) ≡ cond a (cond b [] (e ∷ ahead f p l)) (ahead f p l) ++ (x ∷ cond a (cond b (keep f l) (behind f p l)) (behind f p l))
+      by : renew p x (filter f l) ≡ ahead f p l ++ (x ∷ behind f p l) → (a b : Bool) → p e ≡ b → renew p x (cond a (e ∷ filter f l) (filter f l)) ≡ cond a (cond b [] (e ∷ ahead f p l)) (ahead f p l) ++ (x ∷ cond a (cond b (filter f l) (behind f p l)) (behind f p l))
       by s true true k = rw k
       by s true false k = rw k (ap (λ (r : List Entry). e ∷ r) s)
       by s false b k = s

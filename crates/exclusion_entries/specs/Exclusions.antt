@@ -5,7 +5,8 @@ use lib.{Dec.eqb, Dec.leb, ListN.length}
 use Rattle.units.specs.{declared.BlockNumber.BlockNumber, Units.is_at_least}
 use Rattle.transaction.specs.Tx.{tx_at, previous_output_of}
 use Rattle.out_points.specs.{declared.Byte32.Byte32, declared.OutPoint.OutPoint, OutPoints.eq_hash, OutPoints.byte32_at, OutPoints.out_point_at}
-use Rattle.out_points.specs.Tables.{keep, renew, Outcome, done, refused, check, has_room, written}
+use Rattle.std.specs.List.{filter}
+use Rattle.out_points.specs.Tables.{renew, Outcome, done, refused, check, has_room, with_list}
 
 -- a transaction: its hash, the block that it was committed in, the out points that it spends
 pub record Entry : Type 0 where
@@ -29,7 +30,7 @@ commit_on l hash block = check (eqb (length hash) 32) (refused 3 tt) (done (map 
 
 -- `remove`: the entry of the hash goes
 unfoldable pub without : Byte32 → List Entry → List Entry
-without hash l = keep (λ e. not (has_hash hash e)) l
+without hash l = filter (λ e. not (has_hash hash e)) l
 
 unfoldable pub remove_on : List Entry → List ℕ → Ruling
 remove_on l hash = check (eqb (length hash) 32) (refused 3 tt) (done (without (byte32_at hash 0) l))
@@ -40,7 +41,7 @@ is_recent tip none = true
 is_recent tip (some c) = not (is_at_least tip c 13)
 
 unfoldable pub truncated : BlockNumber → List Entry → List Entry
-truncated tip l = keep (λ e. is_recent tip e.committed) l
+truncated tip l = filter (λ e. is_recent tip e.committed) l
 
 unfoldable pub truncate_on : List Entry → BlockNumber → Ruling
 truncate_on l tip = done (truncated tip l)
@@ -53,7 +54,7 @@ excluded (e ∷ l) = e.points ++ excluded l
 unfoldable pub apply_on : List Entry → List ℕ → ℕ × List ℕ
 apply_on l out =
     let all = excluded l in
-    check (has_room all out) (13, out) (0, written all out)
+    check (has_room all out) (13, out) (0, with_list all out)
 
 -- "Adding a hash again replaces its entry, uncommitted": the entry of a transaction, with the out points that its inputs spend
 unfoldable pub pending : Byte32 → List ℕ → Entry

@@ -3,7 +3,7 @@ use Rattle.std.specs.Prelude.{ℕ, ◌+◌, ◌*◌, ◌≤◌, Bool, true, fals
 use lib.{Dec.eqb, ListN.length}
 use Rattle.arithmetic.specs.LittleEndian.{u64_at}
 use Rattle.error.specs.declared.{Refusal.Refusal}
-use Rattle.out_points.specs.Tables.{keep}
+use Rattle.std.specs.List.{filter}
 use Rattle.exclusion_entries.specs.Exclusions.{Entry, has_hash, is_recent}
 use Rattle.exclusion_entries.specs.declared.{Rule.Rule, Words.Words, Survey.Survey}
 use Rattle.exclusion_entries.specs.Entries.{excluded_at, map_size, is_map}
@@ -37,7 +37,7 @@ module _ (f p : Entry → Bool) where
 
   unfoldable pub behind : List Entry → List Entry
   behind [] = []
-  behind (e ∷ l) = cond (f e) (cond (p e) (keep f l) (behind l)) (behind l)
+  behind (e ∷ l) = cond (f e) (cond (p e) (filter f l) (behind l)) (behind l)
 
   -- those that stand where they will stand
   unfoldable pub front : List Entry → List Entry

@@ -18,7 +18,7 @@ use Rattle.molecule.specs.Write.{splice, put_at}
 use Rattle.molecule.proofs.WriteLaws.{put_yes, splice_zero, splice-length}
 use Rattle.out_points.specs.declared.{Byte32.Byte32}
 use Rattle.out_points.specs.OutPoints.{bytes_of, point_list}
-use Rattle.out_points.specs.Tables.{done, told, has_room, written}
+use Rattle.out_points.specs.Tables.{done, told, has_room, with_list}
 use Rattle.out_points.proofs.ListLaws.{length_list, length-bytes}
 use Rattle.table_bytes.specs.Lent.{leaving, with_bytes}
 use Rattle.exclusion_entries.specs.declared.{Rule.Rule, Survey.Survey}
@@ -76,7 +76,7 @@ module _ (s out : List ℕ) {v : Survey} (ev : Ok v ≡ survey_of Rule.All s) wh
 
   pub apply-done : {o₁ o₂ : List ℕ} → 4 + 36 * v.points ≤ min (length out) 133116 → o₁ ≡ splice out 4 (bytes_of (excluded (excluded_at s))) → o₂ ≡ put_at o₁ 0 (to_le 4 v.points)
       → (answered {T = Unit {0}} (Ok tt), o₂) ≡ lent_list s out (apply_on (excluded_at s) out)
-  unfolding lent_list apply_on answered has_room written point_list
+  unfolding lent_list apply_on answered has_room with_list point_list
   apply-done {o₁} {o₂} h e₁ e₂ =
       let ps = excluded (excluded_at s) in
       let C = to_le 4 v.points in

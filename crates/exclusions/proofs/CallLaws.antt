@@ -19,7 +19,8 @@ use Rattle.transaction.specs.Ckb.{Transaction}
 use Rattle.transaction.specs.Tx.{raw_field}
 use Rattle.out_points.specs.declared.{Byte32.Byte32}
 use Rattle.out_points.specs.OutPoints.{byte32_at}
-use Rattle.out_points.specs.Tables.{done, refused, told, keep, renew}
+use Rattle.std.specs.List.{filter}
+use Rattle.out_points.specs.Tables.{done, refused, told, renew}
 use Rattle.exclusion_entries.specs.Exclusions.{Entry, Ruling, has_hash, without, remove_on, truncated, truncate_on, pending, fitting, entering, add_on, entered, migrate_on}
 use Rattle.table_bytes.specs.Lent.{After, leaving, with_bytes}
 use Rattle.exclusion_entries.specs.declared.{Rule.Rule, Survey.Survey}
@@ -101,7 +102,7 @@ module _ (s hash tx : List ℕ) {h : Byte32} (eh : Ok h ≡ hash_of hash) where
       lent-on s (add_on (excluded_at s) hash tx) i (same_left s i b ∙ ap (leaving map_bytes s) (sym (rw (eq-eqb (length tx) 0 z)) ∙ enters))
 
   pub add_done : {k : Byte32} {f : List ℕ} {v : Survey} {a : After (List Entry)} → Ok v ≡ survey_of (Rule.Enter h) s → k ≡ h → f ≡ raw_field tx 3 → (length tx ≡ 0 → ⊥)
-      → a ≡ leaving map_bytes s (fitting (renew (takes (Rule.Enter h)) (entry_with k f) (keep (keeps (Rule.Enter h)) (excluded_at s)))) → a ≡ lent_map s (add_on (excluded_at s) hash tx)
+      → a ≡ leaving map_bytes s (fitting (renew (takes (Rule.Enter h)) (entry_with k f) (filter (keeps (Rule.Enter h)) (excluded_at s)))) → a ≡ lent_map s (add_on (excluded_at s) hash tx)
   unfolding keeps takes
   add_done {k} {f} ev ek ef z e =
       lent-on s (add_on (excluded_at s) hash tx) (told_good (Rule.Enter h) s ev)
@@ -143,7 +144,7 @@ lost_entered o h (e ∷ l) = by (lost_entered o h l) (has_hash o e)
 
 -- of an unknown hash nothing goes
 without-none : (o : Byte32) (l : List Entry) → entered o l ≡ false → without o l ≡ l
-unfolding without keep entered
+unfolding without entered
 without-none o [] e = refl
 without-none o (x ∷ l) e = by (without-none o l) (has_hash o x) e
   where
@@ -193,7 +194,7 @@ module _ (s old new tx : List ℕ) {o h : Byte32} (eo : Ok o ≡ hash_of old) (e
       lent-on s (migrate_on (excluded_at s) old new tx) i (same_left s i b ∙ ap (leaving map_bytes s) (rw q at goes))
 
   pub migrate-done : {k : Byte32} {f : List ℕ} {a : After (List Entry)} → v.lost ≡ true → k ≡ h → f ≡ raw_field tx 3 → (length tx ≡ 0 → ⊥)
-      → a ≡ leaving map_bytes s (fitting (renew (takes (Rule.Migrate o h)) (entry_with k f) (keep (keeps (Rule.Migrate o h)) (excluded_at s)))) → a ≡ lent_map s (migrate_on (excluded_at s) old new tx)
+      → a ≡ leaving map_bytes s (fitting (renew (takes (Rule.Migrate o h)) (entry_with k f) (filter (keeps (Rule.Migrate o h)) (excluded_at s)))) → a ≡ lent_map s (migrate_on (excluded_at s) old new tx)
   unfolding keeps takes without
   migrate-done u ek ef z e =
       let i = told_good (Rule.Migrate o h) s ev in

@@ -23,7 +23,8 @@ use Rattle.transaction.specs.Tx.{raw_field, previous_output_of}
 use Rattle.transaction.proofs.TableLaws.{raw_3, transaction_0}
 use Rattle.out_points.specs.declared.{Byte32.Byte32, OutPoint.OutPoint}
 use Rattle.out_points.specs.OutPoints.{Fit, out_point_at}
-use Rattle.out_points.specs.Tables.{done, told, keep, renew}
+use Rattle.std.specs.List.{filter}
+use Rattle.out_points.specs.Tables.{done, told, renew}
 use Rattle.out_points.proofs.EqualLaws.{and_both}
 use Rattle.molecule.proofs.ItemsLaws.{bytes_drop, bytes_take}
 use Rattle.out_points.proofs.AgainLaws.{point-fits, item-bytes}
@@ -100,7 +101,7 @@ all_between P (e ∷ l) r x a p = (a.0, all_between P l r x a.1 p)
 
 module _ (rule : Rule) (s : List ℕ) (hash : Byte32) (f : List ℕ) {v : Survey} (ev : Ok v ≡ survey_of rule s) {n : ℕ} (en : n ≡ fix_count f) where
   abbrev after : List Entry
-  after = renew (takes rule) (entry_with hash f) (keep (keeps rule) (excluded_at s))
+  after = renew (takes rule) (entry_with hash f) (filter (keeps rule) (excluded_at s))
 
   abbrev A : List Entry
   A = ahead (keeps rule) (takes rule) (excluded_at s)

@@ -20,7 +20,8 @@ use Rattle.lists.proofs.SpanLaws.{span-on, span-end, span-whole}
 use Rattle.transaction.specs.Tx.{previous_output_of}
 use Rattle.out_points.specs.declared.{Byte32.Byte32}
 use Rattle.out_points.specs.OutPoints.{out_point_at, hash_bytes, point_bytes, bytes_of, point_list}
-use Rattle.out_points.specs.Tables.{keep, renew}
+use Rattle.std.specs.List.{filter}
+use Rattle.out_points.specs.Tables.{renew}
 use Rattle.out_points.proofs.PointLaws.{length-hash}
 use Rattle.out_points.proofs.ListLaws.{length-bytes}
 use Rattle.molecule.proofs.ItemsLaws.{bytes_drop, bytes_take}
@@ -248,7 +249,7 @@ module _ (rule : Rule) (s : List ℕ) {v : Survey} (ev : Ok v ≡ survey_of rule
       replace_room = omega (arith, length-gathered, map-long s (told_good rule s ev))
 
       pub replace_put : splice (splice s₁ v.place (entry_bytes (entry_with hash f) ++ take (4 + 48 * v.stays + 36 * v.points - v.place) (drop v.place s₁))) 0 (to_le 4 (v.stays + 1))
-          ≡ splice s 0 (map_bytes (renew (takes rule) (entry_with hash f) (keep (keeps rule) (excluded_at s))))
+          ≡ splice s 0 (map_bytes (renew (takes rule) (entry_with hash f) (filter (keeps rule) (excluded_at s))))
       unfolding map_bytes entries_bytes
       replace_put =
           let x = entry_with hash f in
@@ -271,7 +272,7 @@ module _ (rule : Rule) (s : List ℕ) {v : Survey} (ev : Ok v ≡ survey_of rule
           rw tail (ap₂ (λ (a : List ℕ) (k : ℕ). splice a k W) (t ∙ sym (splice-then s 4 bA bB room)) p
           ∙ splice-over (splice s 4 bA) (4 + length bA) W bB (omega (arith, splice-length s 4 bA (omega arith), sizes)) (omega arith)
           ∙ splice-then s 4 bA W (omega (arith, sizes))) in
-          let after : renew (takes rule) x (keep (keeps rule) (excluded_at s)) ≡ A ++ (x ∷ B) = renew-split (keeps rule) (takes rule) x (excluded_at s) in
+          let after : renew (takes rule) x (filter (keeps rule) (excluded_at s)) ≡ A ++ (x ∷ B) = renew-split (keeps rule) (takes rule) x (excluded_at s) in
           let count : length (A ++ (x ∷ B)) ≡ v.stays + 1 =
           length-append A (x ∷ B) ∙ omega (arith, told_stays rule s ev, ap length (stay-split (keeps rule) (takes rule) (excluded_at s)), length-append A B) in
           ap (λ (a : List ℕ). splice a 0 C) (inner ∙ ap (λ (k : ℕ). splice s k (bA ++ W)) (sym z))

@@ -9,9 +9,10 @@ use Rattle.std.proofs.Common.{Ok, Err, Result}
 use Rattle.error.specs.declared.{Refusal.Refusal}
 use Rattle.units.specs.declared.{Millis.Millis}
 use Rattle.molecule.specs.Write.{put_at}
-use Rattle.out_points.specs.Tables.{keep, Outcome, told, has_room}
+use Rattle.std.specs.List.{filter}
+use Rattle.out_points.specs.Tables.{Outcome, told, has_room}
 use Rattle.hold_records.specs.declared.{Hold.Hold, Held.Held, Rule.Rule, Taker.Taker}
-use Rattle.hold_records.specs.Rules.{is_kept, put_if}
+use Rattle.hold_records.specs.Inner.{is_kept, put_if}
 use Rattle.hold_records.specs.Holds.{records_of, outcome_on, cells_of, lock_held, unavailable, take_cells}
 use Rattle.table_bytes.specs.Lent.{After, leaving, lent_with, lent_with_two, lent_read, with_bytes}
 use Rattle.table_bytes.proofs.LentLaws.{with_is, two_is, only-is, leave_done, leave_refused}
@@ -36,7 +37,7 @@ module _ (s : List ℕ) (r : Result Held Refusal) {h : Held} (l : length s ≡ h
       → a ≡ leaving held_bytes s before → (a, b₁, b₂) ≡ lent_with_two held_bytes held_size s out₁ out₂ (take_cells (held_of s) picked spent taker time out₁ out₂)
   take-call picked spent taker time out₁ out₂ k b = two_is held_bytes held_size s out₁ out₂ (take_cells (held_of s) picked spent taker time out₁ out₂) l (rw e at k) b
 
-module _ (s : List ℕ) (time : Millis) (out : List ℕ) (k : Held) {b : Bool} {after : List ℕ} (l : length s ≡ held_size) (ek : records_of k ≡ keep (is_kept (Rule.Live time)) (records_of (held_of s)))
+module _ (s : List ℕ) (time : Millis) (out : List ℕ) (k : Held) {b : Bool} {after : List ℕ} (l : length s ≡ held_size) (ek : records_of k ≡ filter (is_kept (Rule.Live time)) (records_of (held_of s)))
     (eb : b ≡ has_room (cells_of (drop 0 (records_of k))) out) (eo : after ≡ put_if (cells_of (drop 0 (records_of k))) out) where
   pub lock-refused : b ≡ false → (told (with_bytes held_at) (Err Refusal.BufferTooShort) s, after) ≡ lent_with held_bytes held_size s out (lock_held (held_of s) time out)
   lock-refused t = with_is held_bytes held_size s out (lock_held (held_of s) time out) l (lock_short (held_of s) time out k ek eb eo t) (left-refused s (held_of s) Refusal.BufferTooShort)

@@ -14,10 +14,11 @@ use Rattle.molecule.specs.Molecule.{readable}
 use Rattle.transaction.specs.Ckb.{OutPoints}
 use Rattle.out_points.specs.OutPoints.{points}
 use Rattle.out_points.proofs.ListLaws.{length-points}
-use Rattle.out_points.specs.Tables.{keep, done, refused, has_room, written}
+use Rattle.std.specs.List.{filter}
+use Rattle.out_points.specs.Tables.{done, refused, has_room, with_list}
 use Rattle.hold_records.specs.declared.{Owner.Owner, Held.Held, Rule.Rule, Taker.Taker}
 use Rattle.hold_records.specs.Holds.{records_of, outcome_on, held_by, cells_of, at_most_256, hold_funding, lock_held, is_busy, firsts, unavailable, owner_for, take_cells}
-use Rattle.hold_records.specs.Rules.{is_kept, put_if}
+use Rattle.hold_records.specs.Inner.{is_kept, put_if}
 use Rattle.hold_records.proofs.LoopLaws.{recorded}
 use Rattle.pick_kinds.specs.Kinds.{is_among}
 use Rattle.picks.specs.Places.{take_lists, take_from}
@@ -30,7 +31,7 @@ module _ (h : Held) (holder : ℕ) (cells : List ℕ) {b : Bool} (eb : b ≡ rea
   unfolding hold_funding outcome_on number
   funding-unread t = rw (← eb, t)
 
-  module _ (t : b ≡ true) (k : Held) {n : ℕ} (ek : records_of k ≡ keep (is_kept (Rule.NotOf holder)) (records_of h)) (bk : k.count ≤ 256) (lk : length k.records ≡ 256) (en : n ≡ fix_count cells) where
+  module _ (t : b ≡ true) (k : Held) {n : ℕ} (ek : records_of k ≡ filter (is_kept (Rule.NotOf holder)) (records_of h)) (bk : k.count ≤ 256) (lk : length k.records ≡ 256) (en : n ≡ fix_count cells) where
     new_length : length (records_of k ++ map (held_by (Owner.Funding holder)) (points cells)) ≡ k.count + n
     new_length = simp (length-append, length-map) (omega (arith, length-points cells, recorded k lk bk, en))
 
@@ -48,9 +49,9 @@ module _ (h : Held) (holder : ℕ) (cells : List ℕ) {b : Bool} (eb : b ≡ rea
 
 -- ---- lock_held
 
-module _ (h : Held) (time : Millis) (out : List ℕ) (k : Held) {b : Bool} {o₁ : List ℕ} (ek : records_of k ≡ keep (is_kept (Rule.Live time)) (records_of h))
+module _ (h : Held) (time : Millis) (out : List ℕ) (k : Held) {b : Bool} {o₁ : List ℕ} (ek : records_of k ≡ filter (is_kept (Rule.Live time)) (records_of h))
     (eb : b ≡ has_room (cells_of (drop 0 (records_of k))) out) (eo : o₁ ≡ put_if (cells_of (drop 0 (records_of k))) out) where
-  unlock : cond b (done (records_of k), written (cells_of (records_of k)) out) (refused 13 h, out) ≡ lock_held h time out
+  unlock : cond b (done (records_of k), with_list (cells_of (records_of k)) out) (refused 13 h, out) ≡ lock_held h time out
   unfolding lock_held is_kept
   unlock = rw (eb, ek)
 
@@ -74,10 +75,10 @@ module _ (h : Held) (picked spent : List ℕ) (time : Millis) (out : List ℕ) {
     unfolding unavailable answered number
     named_unspent t = rw (← ea, ta, ← eb, t)
 
-    module _ (tb : b ≡ true) (k : Held) {c : Bool} {o : List ℕ} (ek : records_of k ≡ keep (is_kept (Rule.Live time)) (records_of h))
+    module _ (tb : b ≡ true) (k : Held) {c : Bool} {o : List ℕ} (ek : records_of k ≡ filter (is_kept (Rule.Live time)) (records_of h))
         (ec : c ≡ has_room (firsts (is_busy (records_of k) (points spent)) [] (points picked)) out)
         (eo : o ≡ put_if (firsts (is_busy (records_of k) (points spent)) [] (points picked)) out) where
-      named : cond c (0, written (firsts (is_busy (records_of k) (points spent)) [] (points picked)) out) (13, out) ≡ unavailable h picked spent time out
+      named : cond c (0, with_list (firsts (is_busy (records_of k) (points spent)) [] (points picked)) out) (13, out) ≡ unavailable h picked spent time out
       unfolding unavailable is_kept
       named = rw (← ea, ta, ← eb, tb, ec, ek)
 
@@ -101,7 +102,7 @@ module _ (h : Held) (picked spent : List ℕ) (taker : Taker) (time : Millis) (o
     unfolding take_cells outcome_on number
     take_unspent t = rw (← ea, ta, ← eb, t)
 
-    pub take-live : (k : Held) {owner : Owner} (o : Result Held Refusal) {b₁ b₂ : List ℕ} → b ≡ true → records_of k ≡ keep (is_kept (Rule.Live time)) (records_of h) → owner ≡ owner_for taker time
+    pub take-live : (k : Held) {owner : Owner} (o : Result Held Refusal) {b₁ b₂ : List ℕ} → b ≡ true → records_of k ≡ filter (is_kept (Rule.Live time)) (records_of h) → owner ≡ owner_for taker time
         → ((x : Held) → (outcome_on x o, b₁, b₂) ≡ take_from x (records_of k) (cells_of (records_of k)) (points picked) (points spent) owner out₁ out₂) → (outcome_on h o, b₁, b₂) ≡ take_cells h picked spent taker time out₁ out₂
     unfolding take_cells take_from take_lists is_among is_busy is_kept
     take-live k o tb ek eo e = e h ∙ rw (← ea, ta, ← eb, tb, ek, eo)

@@ -7,7 +7,7 @@ ghost use Rattle.std.specs.Prelude.{◌≡◌, ◌++◌, map, ◌+◌, ◌-◌, 
 ghost use Rattle.error.specs.Refusal.{answered};
 ghost use Rattle.molecule.specs.Layout.{fix_count};
 ghost use Rattle.out_points.specs.OutPoints.{points};
-ghost use Rattle.out_points.specs.Tables.{keep};
+ghost use Rattle.std.specs.List.{filter};
 ghost use Rattle.hold_records.specs.declared.{Owner.Owner, Held.Held};
 ghost use Rattle.hold_records.specs.Holds.{records_of, outcome_on, held_by, hold_funding, lock_held, unavailable, owner_for, take_cells};
 

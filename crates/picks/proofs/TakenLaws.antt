@@ -15,10 +15,10 @@ use Rattle.out_points.specs.declared.{OutPoint.OutPoint}
 use Rattle.out_points.specs.OutPoints.{has, point_of, points, point_list}
 use Rattle.out_points.proofs.ListLaws.{length_list}
 use Rattle.out_points.proofs.EqualLaws.{and_both}
-use Rattle.out_points.specs.Tables.{Outcome, done, refused, has_room, written}
+use Rattle.out_points.specs.Tables.{Outcome, done, refused, has_room, with_list}
 use Rattle.hold_records.specs.declared.{Owner.Owner, Hold.Hold, Held.Held}
 use Rattle.hold_records.specs.Holds.{records_of, outcome_on, cells_of, firsts, others, held_by}
-use Rattle.hold_records.specs.Rules.{put_if}
+use Rattle.hold_records.specs.Inner.{put_if}
 use Rattle.hold_records.proofs.LoopLaws.{stands}
 use Rattle.hold_records.proofs.WriteLaws.{room_yes, put_yes}
 use Rattle.pick_kinds.specs.declared.{Kind.Kind}
@@ -154,7 +154,7 @@ module _ (h k : Held) (picked : List ℕ) (kinds : List Kind) (owner : Owner) (o
       cond (has_room T out₁)
       (cond (has_room U out₂)
       (cond (leb (length (records_of k) + length T) 256)
-      (done (records_of k ++ map (held_by owner) T), written T out₁, written U out₂)
+      (done (records_of k ++ map (held_by owner) T), with_list T out₁, with_list U out₂)
       (refused 14 h, out₁, out₂))
       (refused 13 h, out₁, out₂))
       (refused 13 h, out₁, out₂)
@@ -192,7 +192,7 @@ module _ (h k : Held) (picked : List ℕ) (kinds : List Kind) (owner : Owner) (o
       room₂ : 4 + 36 * (n - c) ≤ min (length out₂) 133116
       room₂ = both_second (4 + 36 * c) (min (length out₁) 133116) (4 + 36 * (n - c)) (min (length out₂) 133116) er fit
 
-      fits : cond (leb (length (records_of k) + length T) 256) (done (records_of k ++ map (held_by owner) T), written T out₁, written U out₂) (refused 14 h, out₁, out₂) ≡ take_lists h (records_of k) (free_of picked kinds) (left_of picked kinds) owner out₁ out₂
+      fits : cond (leb (length (records_of k) + length T) 256) (done (records_of k ++ map (held_by owner) T), with_list T out₁, with_list U out₂) (refused 14 h, out₁, out₂) ≡ take_lists h (records_of k) (free_of picked kinds) (left_of picked kinds) owner out₁ out₂
       unfolding end has_room
       fits =
           let a = room₁ in
@@ -207,12 +207,12 @@ module _ (h k : Held) (picked : List ℕ) (kinds : List Kind) (owner : Owner) (o
         unfolding outcome_on number
         take-full s = rw (lt-leb (length (records_of k) + length T) 256 (omega (arith, all_long))) at fits
 
-        pub take_done : {b₁ b₂ : List ℕ} → c ≤ 256 - from → b₁ ≡ put_if (cells_of (drop from (records_of g))) out₁ → b₂ ≡ written (left_of picked kinds) out₂
+        pub take_done : {b₁ b₂ : List ℕ} → c ≤ 256 - from → b₁ ≡ put_if (cells_of (drop from (records_of g))) out₁ → b₂ ≡ with_list (left_of picked kinds) out₂
             → (outcome_on h (Ok g), b₁, b₂) ≡ take_lists h (records_of k) (free_of picked kinds) (left_of picked kinds) owner out₁ out₂
         unfolding outcome_on
         take_done {b₁} {b₂} s e₁ e₂ =
             let v : outcome_on h (Ok g) ≡ done (records_of k ++ map (held_by owner) T) = ap done (t.added (omega arith)) in
-            let v₁ : b₁ ≡ written T out₁ = e₁ ∙ ap (λ (q : List OutPoint). put_if q out₁) (taken-cells t ef s) ∙ put_yes T out₁ (room_yes T out₁ (sym T-long) room₁) in
+            let v₁ : b₁ ≡ with_list T out₁ = e₁ ∙ ap (λ (q : List OutPoint). put_if q out₁) (taken-cells t ef s) ∙ put_yes T out₁ (room_yes T out₁ (sym T-long) room₁) in
             rw (v, v₁, e₂) (rw (le-leb (length (records_of k) + length T) 256 (omega (arith, all_long))) at fits)
 
 -- more picks than two lists hold
@@ -239,7 +239,7 @@ take_many h k cells picked spent owner out₁ out₂ {n} en m =
     ap₂ (λ (x y : List OutPoint). length x + length y) (firsts-select f (point_of picked) (fix_count picked)) (others-select f (point_of picked) (fix_count picked))
     ∙ both-from (is_first f (point_of picked)) (is_other f (point_of picked)) (point_of picked) (λ j. refl) 0 (fix_count picked) in
     neither (has_room l out₁) (has_room r out₂)
-    (cond (leb (length (records_of k) + length l) 256) (done (records_of k ++ map (held_by owner) l), written l out₁, written r out₂) (refused 14 h, out₁, out₂))
+    (cond (leb (length (records_of k) + length l) 256) (done (records_of k ++ map (held_by owner) l), with_list l out₁, with_list r out₂) (refused 14 h, out₁, out₂))
     (refused 13 h, out₁, out₂)
     (over l r out₁ out₂ (omega arith))
 

@@ -3,7 +3,7 @@ use Rattle.std.specs.Prelude.{◌≡◌, ℕ, ◌+◌, ◌≤◌, min, Bool, tru
 use Rattle.molecule.specs.Layout.{fix_count}
 use Rattle.out_points.specs.declared.{OutPoint.OutPoint}
 use Rattle.out_points.specs.OutPoints.{point_of}
-use Rattle.out_points.specs.Tables.{Outcome, done, refused, check, has_room, written}
+use Rattle.out_points.specs.Tables.{Outcome, done, refused, check, has_room, with_list}
 use Rattle.hold_records.specs.declared.{Owner.Owner, Hold.Hold, Held.Held}
 use Rattle.hold_records.specs.Holds.{records_of, held_by, firsts, others}
 use Rattle.pick_kinds.specs.declared.{Kind.Kind}
@@ -42,7 +42,7 @@ take_lists h left taken rest owner out₁ out₂ =
     check (has_room taken out₁) (refused 13 h, out₁, out₂)
     (check (has_room rest out₂) (refused 13 h, out₁, out₂)
     (check (leb (length left + length taken) 256) (refused 14 h, out₁, out₂)
-    (done (left ++ map (held_by owner) taken), written taken out₁, written rest out₂)))
+    (done (left ++ map (held_by owner) taken), with_list taken out₁, with_list rest out₂)))
 
 -- `take` of readable lists, from the records left, whose cells are `cells`
 unfoldable pub take_from : Held → List Hold → List OutPoint → List OutPoint → List OutPoint → Owner → List ℕ → List ℕ → Outcome Held (List Hold) × List ℕ × List ℕ

@@ -16,7 +16,8 @@ use Rattle.out_points.specs.declared.{Byte32.Byte32, OutPoint.OutPoint}
 use Rattle.out_points.specs.OutPoints.{Fit, byte32_at, eq_point, has, points}
 use Rattle.error.specs.declared.{Refusal.Refusal}
 use Rattle.error.specs.Refusal.{number, answered}
-use Rattle.out_points.specs.Tables.{keep, renew, done, refused, told, has_room, written}
+use Rattle.std.specs.List.{filter}
+use Rattle.out_points.specs.Tables.{renew, done, refused, told, has_room, with_list}
 use Rattle.out_points.proofs.AgainLaws.{written_back}
 use Rattle.table_bytes.specs.Lent.{After, leaving, with_bytes}
 use Rattle.exclusion_entries.specs.Exclusions.{Entry, Ruling, has_hash, committed_at, commit_on, without, remove_on, is_recent, truncated, truncate_on, excluded, apply_on, pending, fitting, entering, add_on, entered, migrate_on}
@@ -146,17 +147,17 @@ module _ (P : List Entry → Type 0) where
 abbrev Small : List Entry → Type 0
 Small l = (length l ≤ 64) × (length (excluded l) ≤ 512)
 
-sifted : (f : Entry → Bool) (l : List Entry) → (length (keep f l) ≤ length l) × (length (excluded (keep f l)) ≤ length (excluded l))
-unfolding keep excluded
+sifted : (f : Entry → Bool) (l : List Entry) → (length (filter f l) ≤ length l) × (length (excluded (filter f l)) ≤ length (excluded l))
+unfolding excluded
 sifted f [] = (omega arith, omega arith)
 sifted f (e ∷ l) = by (f e) (sifted f l)
   where
-    by : (b : Bool) → (length (keep f l) ≤ length l) × (length (excluded (keep f l)) ≤ length (excluded l))
-        → (length (cond b (e ∷ keep f l) (keep f l)) ≤ suc (length l)) × (length (excluded (cond b (e ∷ keep f l) (keep f l))) ≤ length (e.points ++ excluded l))
-    by true (p, q) = (omega (arith, p), omega (arith, q, length-append e.points (excluded (keep f l)), length-append e.points (excluded l)))
+    by : (b : Bool) → (length (filter f l) ≤ length l) × (length (excluded (filter f l)) ≤ length (excluded l))
+        → (length (cond b (e ∷ filter f l) (filter f l)) ≤ suc (length l)) × (length (excluded (cond b (e ∷ filter f l) (filter f l))) ≤ length (e.points ++ excluded l))
+    by true (p, q) = (omega (arith, p), omega (arith, q, length-append e.points (excluded (filter f l)), length-append e.points (excluded l)))
     by false (p, q) = (omega (arith, p), omega (arith, q, length-append e.points (excluded l)))
 
-sifted_small : (f : Entry → Bool) (l : List Entry) → Small l → Small (keep f l)
+sifted_small : (f : Entry → Bool) (l : List Entry) → Small l → Small (filter f l)
 sifted_small f l (p, q) = let (a, b) = sifted f l in (omega (arith, a, p), omega (arith, b, q))
 
 marked : (hash : Byte32) (block : BlockNumber) (e : Entry) → (committed_at hash block e).points ≡ e.points
@@ -224,13 +225,12 @@ others_same s t g (run.next r c) = let e = others_same s _ g r in other_left c (
 
 -- ---- an entry stands until a call ends it
 
-stands-keep : (x : Entry) (f : Entry → Bool) (l : List Entry) → f x ≡ true → Stands x l → Stands x (keep f l)
-unfolding keep
-stands-keep x f l h (here k) = rw h (here (keep f k))
+stands-keep : (x : Entry) (f : Entry → Bool) (l : List Entry) → f x ≡ true → Stands x l → Stands x (filter f l)
+stands-keep x f l h (here k) = rw h (here (filter f k))
 stands-keep x f l h (there y k s) = by (f y) (stands-keep x f k h s)
   where
-    by : (b : Bool) → Stands x (keep f k) → Stands x (cond b (y ∷ keep f k) (keep f k))
-    by true s = there y (keep f k) s
+    by : (b : Bool) → Stands x (filter f k) → Stands x (cond b (y ∷ filter f k) (filter f k))
+    by true s = there y (filter f k) s
     by false s = s
 
 stands-renew : (x : Entry) (f : Entry → Bool) (e : Entry) (l : List Entry) → f x ≡ false → Stands x l → Stands x (renew f e l)
@@ -282,9 +282,9 @@ stands_step x {s} (run.migrate r old new tx e) h i =
     checked (Stands x) (eqb (length old) 32) 3 _ (checked (Stands x) (eqb (length new) 32) 3 _ (by (entered (byte32_at old 0) (excluded_at s)) (has_hash (byte32_at old 0) x) refl h))
   where
     by : (b d : Bool) → has_hash (byte32_at old 0) x ≡ d → cond b (cond d true (replaces new tx x)) false ≡ false
-        → Fine (Stands x) (cond b (entering (keep (λ e. not (has_hash (byte32_at old 0) e)) (excluded_at s)) (byte32_at new 0) tx) (done (excluded_at s)))
+        → Fine (Stands x) (cond b (entering (filter (λ e. not (has_hash (byte32_at old 0) e)) (excluded_at s)) (byte32_at new 0) tx) (done (excluded_at s)))
     by true true g k = absurd (false≢true (sym k))
-    by true false g k = stands_enters x (keep (λ e. not (has_hash (byte32_at old 0) e)) (excluded_at s)) new tx k (stands-keep x (λ (y : Entry). not (has_hash (byte32_at old 0) y)) (excluded_at s) (rw g) i)
+    by true false g k = stands_enters x (filter (λ e. not (has_hash (byte32_at old 0) e)) (excluded_at s)) new tx k (stands-keep x (λ (y : Entry). not (has_hash (byte32_at old 0) y)) (excluded_at s) (rw g) i)
     by false d g k = i
 
 stands-call : (x : Entry) {s t : List ℕ} (c : Called s t) → outlives x c ≡ true → Stands x (excluded_at s) → Stands x (excluded_at t)
@@ -329,12 +329,12 @@ excluded-fit [] a = tt
 excluded-fit (e ∷ l) a = fit_append e.points (excluded l) a.0.points-fit (excluded-fit l a.1)
 
 -- an `apply` that is done writes all of them
-applied : (t out after : List ℕ) → (answered {T = Unit {0}} (Ok tt), after) ≡ lent_list t out (apply_on (excluded_at t) out) → (is_map t ≡ true) × (after ≡ written (excluded (excluded_at t)) out)
+applied : (t out after : List ℕ) → (answered {T = Unit {0}} (Ok tt), after) ≡ lent_list t out (apply_on (excluded_at t) out) → (is_map t ≡ true) × (after ≡ with_list (excluded (excluded_at t)) out)
 unfolding answered number lent_list apply_on
 applied t out after e = by (is_map t) (has_room (excluded (excluded_at t)) out) refl e
   where
-    by : (a b : Bool) → is_map t ≡ a → ◌≡◌ {A = ℕ × List ℕ} (0, after) (cond a (cond b (0, written (excluded (excluded_at t)) out) (13, out)) (3, out))
-        → (is_map t ≡ true) × (after ≡ written (excluded (excluded_at t)) out)
+    by : (a b : Bool) → is_map t ≡ a → ◌≡◌ {A = ℕ × List ℕ} (0, after) (cond a (cond b (0, with_list (excluded (excluded_at t)) out) (13, out)) (3, out))
+        → (is_map t ≡ true) × (after ≡ with_list (excluded (excluded_at t)) out)
     by true true g f = (g, ap (λ (q : ℕ × List ℕ). q.1) f)
     by true false g f = absurd (let z : ◌≡◌ {A = ℕ} 0 13 = ap (λ (q : ℕ × List ℕ). q.0) f in omega arith)
     by false b g f = absurd (let z : ◌≡◌ {A = ℕ} 0 3 = ap (λ (q : ℕ × List ℕ). q.0) f in omega arith)

@@ -10,7 +10,8 @@ use lib.ListN.{length, replicate}
 use Rattle.units.specs.declared.BlockNumber.{BlockNumber}
 use Rattle.out_points.specs.declared.{Byte32.Byte32}
 use Rattle.out_points.specs.OutPoints.{eq_hash, eq_point, byte32_at}
-use Rattle.out_points.specs.Tables.{keep, renew, done}
+use Rattle.std.specs.List.{filter}
+use Rattle.out_points.specs.Tables.{renew, done}
 use Rattle.out_points.proofs.EqualLaws.{and_both, hash-same, point_refl}
 use Rattle.exclusion_entries.specs.Exclusions.{Entry, has_hash, committed_at, commit_on, without, remove_on, is_recent, truncated, truncate_on, pending, entering, add_on, entered, migrate_on}
 use Rattle.exclusion_entries.specs.Entries.{excluded_at}
@@ -28,12 +29,12 @@ unfolding has_hash
 hash-is h k e f = ap (λ (x : Byte32). eq_hash x h) (hash-same e.hash k f)
 
 module _ (h : Byte32) where
-  keep_fewer : (f : Entry → Bool) (l : List Entry) → entries_of h (keep f l) ≤ entries_of h l
-  unfolding entries_of keep
+  keep_fewer : (f : Entry → Bool) (l : List Entry) → entries_of h (filter f l) ≤ entries_of h l
+  unfolding entries_of
   keep_fewer f [] = omega arith
   keep_fewer f (e ∷ l) = by (f e) (has_hash h e) refl (keep_fewer f l)
     where
-      by : (t u : Bool) → has_hash h e ≡ u → entries_of h (keep f l) ≤ entries_of h l → entries_of h (cond t (e ∷ keep f l) (keep f l)) ≤ cond u (suc (entries_of h l)) (entries_of h l)
+      by : (t u : Bool) → has_hash h e ≡ u → entries_of h (filter f l) ≤ entries_of h l → entries_of h (cond t (e ∷ filter f l) (filter f l)) ≤ cond u (suc (entries_of h l)) (entries_of h l)
       by true true g m = rw g (omega (arith, m))
       by true false g m = rw g m
       by false true g m = omega (arith, m)
@@ -73,7 +74,7 @@ renew-same k x (e ∷ l) f = by (has_hash k e) refl (renew-same k x l f)
     by true g m = rw f (omega arith)
     by false g m = rw g m
 
-keep_single : (f : Entry → Bool) (l : List Entry) → Single l → Single (keep f l)
+keep_single : (f : Entry → Bool) (l : List Entry) → Single l → Single (filter f l)
 keep_single f l s h = let a = keep_fewer h f l in let b = s h in omega arith
 
 renew_single : (k : Byte32) (x : Entry) (l : List Entry) → has_hash k x ≡ true → Single l → Single (renew (has_hash k) x l)

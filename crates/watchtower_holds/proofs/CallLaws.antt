@@ -11,7 +11,8 @@ use Rattle.units.specs.Units.{later}
 use Rattle.molecule.specs.Molecule.{readable}
 use Rattle.transaction.specs.Ckb.{OutPoints}
 use Rattle.out_points.specs.OutPoints.{points}
-use Rattle.out_points.specs.Tables.{keep, done}
+use Rattle.std.specs.List.{filter}
+use Rattle.out_points.specs.Tables.{done}
 use Rattle.hold_records.specs.declared.{Hold.Hold, Held.Held}
 use Rattle.hold_records.specs.Holds.{records_of, outcome_on, at_most_256, is_unnamed, renew_all, release_for_watchtower, hold_for_watchtower}
 
@@ -22,7 +23,7 @@ module _ (h : Held) (cells : List ℕ) {b : Bool} (eb : b ≡ readable OutPoints
   unfolding release_for_watchtower outcome_on number
   release-unread t = rw (← eb, t)
 
-  pub release-done : (g : Held) → b ≡ true → records_of g ≡ keep (is_unnamed (points cells)) (records_of h) → outcome_on h (Ok g) ≡ release_for_watchtower h cells
+  pub release-done : (g : Held) → b ≡ true → records_of g ≡ filter (is_unnamed (points cells)) (records_of h) → outcome_on h (Ok g) ≡ release_for_watchtower h cells
   unfolding release_for_watchtower outcome_on
   release-done g t eg = ap done eg ∙ rw (← eb, t)
 

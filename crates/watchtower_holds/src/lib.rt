@@ -4,7 +4,7 @@
 
 ghost use Rattle.std.specs.Prelude.{◌≡◌, [], ◌+◌, ◌-◌, ◌*◌, ◌<◌, ◌≤◌, min, not, false, length, get_or, set, IfOk};
 ghost use Rattle.out_points.specs.OutPoints.{points, slot_of};
-ghost use Rattle.out_points.specs.Tables.{keep};
+ghost use Rattle.std.specs.List.{filter};
 ghost use Rattle.hold_records.specs.declared.{Owner.Owner, Held.Held};
 ghost use Rattle.hold_records.specs.Holds.{records_of, outcome_on, is_unnamed, is_tower_on, renew_all, at_most_256, release_for_watchtower, hold_for_watchtower};
 ghost use Rattle.watchtower_holds.specs.Places.{place_of, noted, Hints, marked, Marks};
@@ -222,7 +222,7 @@ fn is_unmarked(marks: &[bool], at: usize) -> bool
 // The records without the watchtower's on `cells`.
 fn without(h: Held, cells: &[u8], hints: &[u8]) -> Held
     requires { Hints hints.now h.records (min h.count 256) }
-    ensures result_value { records_of result ≡ keep (is_unnamed (points cells.now)) (records_of h) }
+    ensures result_value { records_of result ≡ filter (is_unnamed (points cells.now)) (records_of h) }
     ensures count_bound { result.count ≤ 256 }
 {
     let mut marks = [false; 256];
