@@ -1,10 +1,11 @@
 -- Holds on cells (docs/RULES.md, "Holds and exclusions"): a table means the list of its records, and each call is a definition on such lists: what it leaves, or
 -- its refusal. A refused call leaves the table and the lent buffers as they were.
-use Rattle.std.specs.Prelude.{ℕ, ◌+◌, Bool, true, false, not, cond, List, [], ◌∷◌, ◌++◌, map}
+use Rattle.std.specs.Prelude.{ℕ, ◌+◌, Bool, true, false, not, cond, List, [], ◌∷◌, ◌++◌, map, Result}
 use Rattle.std.specs.List.{filter}
 use lib.{Dec.leb, Dec.eqb, ListN.length, ListN.take, ListN.replicate}
 use Rattle.units.specs.{declared.Millis.Millis, Units.later, Units.is_before}
-use Rattle.error.specs.Outcome.{Outcome, fine, check, ◌>>=◌, ◌>>◌}
+use Rattle.error.specs.Outcome.{Outcome, fine, check, ◌>>=◌, ◌>>◌, told_by}
+use Rattle.error.specs.declared.{Refusal.Refusal}
 use Rattle.molecule.specs.Molecule.{readable}
 use Rattle.transaction.specs.Ckb.{OutPoints}
 use Rattle.out_points.specs.{declared.Byte32.Byte32, declared.OutPoint.OutPoint, OutPoints.eq_point, OutPoints.has, OutPoints.points}
@@ -14,6 +15,10 @@ use Rattle.hold_records.specs.declared.{Owner.Owner, Hold.Hold, Held.Held, Taker
 -- the records that stand: the first `count`, and all of the array where `count` is beyond it
 unfoldable pub records_of : Held → List Hold
 records_of h = take h.count h.records
+
+-- a call's answer with the records that stand in the table that it returns
+abbrev pub told : Result Held Refusal → Outcome (List Hold)
+told = told_by records_of
 
 -- "A hold record is a funding holder with an out point, or a watchtower out point with an end in milliseconds"
 abbrev pub held_by : Owner → OutPoint → Hold
@@ -136,27 +141,29 @@ take_these left taken rest owner out₁ out₂ = do
   check 14 (leb (length left + length taken) 256)
   fine (record { records = left ++ map (held_by owner) taken; taken = taken; rest = rest })
 
-unfoldable pub take_free : List Hold → List OutPoint → List OutPoint → Owner → List ℕ → List ℕ → Outcome Taken
-take_free left picks spent owner out₁ out₂ =
-    let free : OutPoint → Bool = λ p. not (is_busy left spent p) in
-    take_these left (firsts free [] picks) (others free [] picks) owner out₁ out₂
+unfoldable pub take_free : List Hold → List ℕ → List ℕ → Owner → List ℕ → List ℕ → Outcome Taken
+take_free left picked spent owner out₁ out₂ =
+    let free : OutPoint → Bool = λ p. not (is_busy left (points spent) p) in
+    take_these left (firsts free [] (points picked)) (others free [] (points picked)) owner out₁ out₂
 
 unfoldable pub take_cells : List Hold → List ℕ → List ℕ → Taker → Millis → List ℕ → List ℕ → Outcome Taken
 take_cells l picked spent taker now out₁ out₂ = do
   -- a list unreadable
   check 3 (readable OutPoints picked)
   check 3 (readable OutPoints spent)
-  take_free (filter (is_live now) l) (points picked) (points spent) (owner_for taker now) out₁ out₂
+  take_free (filter (is_live now) l) picked spent (owner_for taker now) out₁ out₂
 
--- ---- what each call leaves: the records that then stand, and the lent buffers
+-- ---- the records that stand after a call that is lent buffers, and the buffers
 
-abbrev pub after_lock : Outcome (List Hold) → List ℕ → Outcome (List Hold) × List ℕ
-after_lock o out = (o, writes cells_of o out)
+abbrev pub after_lock : (List ℕ → Outcome (List Hold)) → List ℕ → Outcome (List Hold) × List ℕ
+after_lock call out = (call out, writes cells_of (call out) out)
 
 abbrev pub records_after : Outcome Taken → Outcome (List Hold)
 records_after o = do
   t ← o
   fine t.records
 
-abbrev pub after_take : Outcome Taken → List ℕ → List ℕ → Outcome (List Hold) × List ℕ × List ℕ
-after_take o out₁ out₂ = (records_after o, writes (λ t. t.taken) o out₁, writes (λ t. t.rest) o out₂)
+abbrev pub after_take : (List ℕ → List ℕ → Outcome Taken) → List ℕ → List ℕ → Outcome (List Hold) × List ℕ × List ℕ
+after_take call out₁ out₂ =
+    let o = call out₁ out₂ in
+    (records_after o, writes (λ t. t.taken) o out₁, writes (λ t. t.rest) o out₂)

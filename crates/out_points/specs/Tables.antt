@@ -1,7 +1,7 @@
 -- What the tables of cells share (docs/RULES.md, "Holds and exclusions"): holds (crate hold_records) and excluded transactions (crate exclusion_entries).
 use Rattle.std.specs.Prelude.{ℕ, min, Bool, cond, List, [], ◌∷◌, ◌++◌}
 use lib.{Dec.leb, ListN.length, ListN.drop}
-use Rattle.error.specs.Outcome.{Outcome, leaves}
+use Rattle.error.specs.Outcome.{Outcome, number_of, leaves}
 use Rattle.out_points.specs.{declared.OutPoint.OutPoint, OutPoints.point_list}
 
 -- "New records go last; a renewed watchtower record or hash keeps its place": x in the place of the first element that passes the test, or last
@@ -19,3 +19,7 @@ with_list l out = point_list l ++ drop (length (point_list l)) out
 -- the buffer after a call with this outcome, of which it writes the list f
 abbrev pub writes : {A : Type 0} → (A → List OutPoint) → Outcome A → List ℕ → List ℕ
 writes f o out = leaves o (λ x. with_list (f x) out) out
+
+-- of a call that only writes a list: the number that it answers, and the buffer
+abbrev pub after_list : (List ℕ → Outcome (List OutPoint)) → List ℕ → ℕ × List ℕ
+after_list call out = (number_of (call out), writes (λ l. l) (call out) out)

@@ -6,8 +6,7 @@ ghost use Rattle.std.specs.Prelude.{◌≡◌, [], ◌+◌, ◌-◌, ◌*◌, �
 ghost use Rattle.out_points.specs.OutPoints.{points, slot_of};
 ghost use Rattle.std.specs.List.{filter};
 ghost use Rattle.hold_records.specs.declared.{Owner.Owner, Held.Held};
-ghost use Rattle.error.specs.Outcome.{told_by};
-ghost use Rattle.hold_records.specs.Holds.{records_of, is_unnamed, is_tower_on, renew_all, at_most_256, release_for_watchtower, hold_for_watchtower};
+ghost use Rattle.hold_records.specs.Holds.{records_of, told, is_unnamed, is_tower_on, renew_all, at_most_256, release_for_watchtower, hold_for_watchtower};
 ghost use Rattle.watchtower_holds.specs.Inner.{tower_place, noted, Hints, mark_at, ReleaseMarks};
 
 use arithmetic::little_endian;
@@ -135,7 +134,7 @@ fn counted(count: usize, at: usize) -> usize
 // looked at only where a slot has more than one.
 fn renew_from(from: Held, cells: &[u8], end: Millis, hints: &mut [u8]) -> Result<Held, Refusal>
     requires { (from.count ≤ 256) × Hints hints.old from.records (min from.count 256) }
-    ensures held_value { told_by records_of result ≡ at_most_256 (renew_all end (records_of from) (points cells.now)) }
+    ensures held_value { told result ≡ at_most_256 (renew_all end (records_of from) (points cells.now)) }
     ensures count_bound { IfOk result (λ g. g.count ≤ 256) }
 {
     let n = molecule::fix_count(cells) as usize;
@@ -172,7 +171,7 @@ fn renew_from(from: Held, cells: &[u8], end: Millis, hints: &mut [u8]) -> Result
 }
 
 fn renew_all(h: Held, cells: &[u8], end: Millis) -> Result<Held, Refusal>
-    ensures held_value { told_by records_of result ≡ at_most_256 (renew_all end (records_of h) (points cells.now)) }
+    ensures held_value { told result ≡ at_most_256 (renew_all end (records_of h) (points cells.now)) }
     ensures count_bound { IfOk result (λ g. g.count ≤ 256) }
 {
     let g = trimmed(h);
@@ -244,7 +243,7 @@ fn without(h: Held, cells: &[u8], hints: &[u8]) -> Held
 
 // The cells of a transaction that the watchtower could not send are free again.
 pub fn release_for_watchtower(held: Held, cells: &[u8]) -> Result<Held, Refusal>
-    ensures held_value { told_by records_of result ≡ release_for_watchtower (records_of held) cells.now }
+    ensures held_value { told result ≡ release_for_watchtower (records_of held) cells.now }
     ensures count_bound { IfOk result (λ g. g.count ≤ 256) }
 {
     if !transaction::is_out_points(cells) {
@@ -257,7 +256,7 @@ pub fn release_for_watchtower(held: Held, cells: &[u8]) -> Result<Held, Refusal>
 
 // The cells of a transaction that the watchtower sent are held until `WATCHTOWER_HOLD_MS` after `time`.
 pub fn hold_for_watchtower(held: Held, cells: &[u8], time: Millis) -> Result<Held, Refusal>
-    ensures held_value { told_by records_of result ≡ hold_for_watchtower (records_of held) cells.now time }
+    ensures held_value { told result ≡ hold_for_watchtower (records_of held) cells.now time }
     ensures count_bound { IfOk result (λ g. g.count ≤ 256) }
 {
     if !transaction::is_out_points(cells) {
