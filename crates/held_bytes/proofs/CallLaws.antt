@@ -30,9 +30,6 @@ module _ (s : List ℕ) where
   pub left-refused : (why : Refusal) → Leaves held_table s (answered {T = Unit {0}} (Err why)) s (told (Err why))
   left-refused why = leave_refused held_table s why refl
 
-  pub left_err : {a : Result (Unit {0}) Refusal} {r : Result Held Refusal} {why : Refusal} → a ≡ Err why → r ≡ Err why → Leaves held_table s (answered a) s (told r)
-  left_err {a} {r} {why} e f = rw (e, f) (left-refused why)
-
   module _ {A : Type 0} (o : Outcome A) where
     pub held-on : length s ≡ held_size → on_table held_table s o ≡ o
     held-on l = sized-on held_size held_at held_bytes s o l

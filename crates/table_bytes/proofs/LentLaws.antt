@@ -26,11 +26,11 @@ module _ {T M : Type 0} (F : Table T M) (s : T) where
   -- a refusal leaves what was lent
   pub leave_refused : (why : Refusal) {o : Outcome M} → o ≡ refusal why → Leaves F s (answered {T = Unit {0}} (Err why)) s o
   unfolding answered number_of
-  leave_refused why e = rw e (record { answer = refl; table = refl; meaning = refl })
+  leave_refused why e = rw e
 
   pub leave_done : (u : Unit {0}) {t : T} {m : M} {o : Outcome M} → o ≡ fine m → F.means t ≡ m → t ≡ F.put s t m → Leaves F s (answered (Ok u)) t o
   unfolding answered number_of
-  leave_done u e h k = rw e (record { answer = refl; table = k; meaning = h })
+  leave_done u {t} e h k = rw (e, h, ← k)
 
 -- bytes that are a table by their length
 module _ {M A : Type 0} (k : ℕ) (means : List ℕ → M) (bytes : M → List ℕ) (s : List ℕ) (o : Outcome A) where

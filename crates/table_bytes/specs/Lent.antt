@@ -22,7 +22,5 @@ on_table F s o = do
   o
 
 -- a call with this outcome answers the number n, and leaves t of s: s itself if it is refused
-pub record Leaves {T M : Type 0} (F : Table T M) (s : T) (n : ℕ) (t : T) (o : Outcome M) : Type 0 where
-  pub answer : n ≡ number_of o
-  pub table : t ≡ leaves o (F.put s t) s
-  pub meaning : F.means t ≡ leaves o (λ m. m) (F.means s)
+abbrev pub Leaves : {T M : Type 0} → Table T M → T → ℕ → T → Outcome M → Type 0
+Leaves {T} {M} F s n t o = ◌≡◌ {A = ℕ × T × M} (n, t, F.means t) (number_of o, leaves o (F.put s t) s, leaves o (λ m. m) (F.means s))
