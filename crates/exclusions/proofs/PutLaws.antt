@@ -26,10 +26,10 @@ use Rattle.out_points.proofs.PointLaws.{length-hash}
 use Rattle.out_points.proofs.ListLaws.{length-bytes}
 use Rattle.molecule.proofs.ItemsLaws.{bytes_drop, bytes_take}
 use Rattle.out_points.proofs.AgainLaws.{point_again}
-use Rattle.exclusion_entries.specs.Exclusions.{Entry}
+use Rattle.exclusion_entries.specs.Exclusions.{MapEntry}
 use Rattle.exclusion_entries.specs.declared.{Rule.Rule, Survey.Survey}
-use Rattle.exclusion_entries.specs.Entries.{kind_of, block_of, state_bytes, entry_bytes, entries_bytes, map_bytes, excluded_at}
-use Rattle.exclusion_entries.specs.Survey.{keeps, takes, stay, ahead, behind, survey_of}
+use Rattle.exclusion_entries.specs.Entries.{state_kind, block_of, state_bytes, entry_bytes, entries_bytes, map_bytes, excluded_at}
+use Rattle.exclusion_entries.specs.Inner.{keeps, takes, stay, ahead, behind, survey_of}
 use Rattle.exclusion_entries.proofs.EntryLaws.{length-entry, entries-size, bytes-join}
 use Rattle.exclusion_entries.proofs.MapLaws.{map-long, map-few, map-count, map-points}
 use Rattle.exclusion_entries.proofs.SpliceLaws.{splice-none, splice-then, splice-under, splice-over, part-splice}
@@ -47,7 +47,7 @@ length_head h n = simp (length-append, length-hash, length-to_le)
 module _ (out : List ℕ) (at : ℕ) (h : Byte32) (f : List ℕ) (r : at + 48 ≤ length out) {n : ℕ} (en : n ≡ fix_count f) {o₁ o₂ o₃ : List ℕ} {n₁ n₂ n₃ n₄ : ℕ} (e₁ : o₁ ≡ put_at out at (hash_bytes h)) (f₁ : n₁ ≡ put_end out at (hash_bytes h))
     (e₂ : o₂ ≡ put_at o₁ n₁ (to_le 4 0)) (f₂ : n₂ ≡ put_end o₁ n₁ (to_le 4 0)) (e₃ : o₃ ≡ put_at o₂ n₂ (to_le 8 0)) (f₃ : n₃ ≡ put_end o₂ n₂ (to_le 8 0)) (f₄ : n₄ ≡ put_end o₃ n₃ (to_le 4 n)) where
   pub head_put : {o₄ : List ℕ} → o₄ ≡ put_at o₃ n₃ (to_le 4 n) → Put out at (head_bytes h (fix_count f)) o₄ n₄
-  unfolding head_bytes state_bytes kind_of block_of
+  unfolding head_bytes state_bytes state_kind block_of
   head_put e₄ =
       let a = length-hash h in
       let b = length-to_le 4 0 in
@@ -207,13 +207,13 @@ module _ (s : List ℕ) (v : Survey) (hash : Byte32) (f : List ℕ) {n : ℕ} (e
 -- ---- the whole table: the entries that stay stand together in s₁
 
 module _ (rule : Rule) (s : List ℕ) {v : Survey} (ev : Ok v ≡ survey_of rule s) where
-  abbrev stays : List Entry
+  abbrev stays : List MapEntry
   stays = stay (keeps rule) (takes rule) false (excluded_at s)
 
-  abbrev A : List Entry
+  abbrev A : List MapEntry
   A = ahead (keeps rule) (takes rule) (excluded_at s)
 
-  abbrev B : List Entry
+  abbrev B : List MapEntry
   B = behind (keeps rule) (takes rule) (excluded_at s)
 
   parts : entries_bytes stays ≡ entries_bytes A ++ entries_bytes B
@@ -278,4 +278,4 @@ module _ (rule : Rule) (s : List ℕ) {v : Survey} (ev : Ok v ≡ survey_of rule
           ap (λ (a : List ℕ). splice a 0 C) (inner ∙ ap (λ (k : ℕ). splice s k (bA ++ W)) (sym z))
           ∙ splice-under s 0 C (bA ++ W) (omega (arith, length-append bA W, sizes))
           ∙ ap₂ (λ (k : ℕ) (a : List ℕ). splice s 0 (to_le 4 k ++ a)) (sym count) (sym (bytes-join A (x ∷ B)))
-          ∙ ap (λ (a : List Entry). splice s 0 (to_le 4 (length a) ++ entries_bytes a)) (sym after)
+          ∙ ap (λ (a : List MapEntry). splice s 0 (to_le 4 (length a) ++ entries_bytes a)) (sym after)

@@ -8,7 +8,7 @@ ghost use Rattle.molecule.specs.Write.{splice};
 ghost use Rattle.std.specs.List.{filter};
 ghost use Rattle.out_points.specs.Tables.{renew};
 ghost use Rattle.exclusion_entries.specs.Entries.{entry_bytes, entries_bytes, map_bytes, size_of, excluded_at};
-ghost use Rattle.exclusion_entries.specs.Survey.{keeps, takes, stay};
+ghost use Rattle.exclusion_entries.specs.Inner.{keeps, takes, stay};
 ghost use Rattle.exclusions.specs.Steps.{gives, sift_one, sift_one_bytes, entry_with};
 ghost use Rattle.exclusions.specs.Found.{Found, end_of};
 

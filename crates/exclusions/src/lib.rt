@@ -8,7 +8,7 @@ ghost use Rattle.out_points.specs.Tables.{told, renew};
 ghost use Rattle.exclusion_entries.specs.Exclusions.{remove_on, truncate_on, fitting, add_on, migrate_on};
 ghost use Rattle.table_bytes.specs.Lent.{leaving, with_bytes};
 ghost use Rattle.exclusion_entries.specs.Entries.{map_bytes, excluded_at};
-ghost use Rattle.exclusion_entries.specs.Survey.{keeps, takes};
+ghost use Rattle.exclusion_entries.specs.Inner.{keeps, takes};
 ghost use Rattle.exclusion_entries.specs.LentMap.{lent_map, lent_tx};
 ghost use Rattle.exclusions.specs.Steps.{entry_with};
 ghost use Rattle.exclusions.specs.Found.{Found};
