@@ -20,8 +20,8 @@ use Rattle.out_points.proofs.ListLaws.{length-points, length_list}
 use Rattle.molecule.proofs.ItemsLaws.{bytes_drop}
 use Rattle.molecule.proofs.LayoutLaws.{fix_count-word, fix_count-below}
 use Rattle.out_points.proofs.AgainLaws.{word_again, bytes_again, list_before, word_back, num_fits, points-fit, count_fits, behind}
-use Rattle.exclusion_entries.specs.Exclusions.{Entry, excluded}
-use Rattle.exclusion_entries.specs.Entries.{kind_of, block_of, state_bytes, entry_bytes, entries_bytes, FitEntry, state_of, entry_of, size_of, entries_in, is_entry, are_entries}
+use Rattle.exclusion_entries.specs.Exclusions.{MapEntry, excluded}
+use Rattle.exclusion_entries.specs.Entries.{state_kind, block_of, state_bytes, entry_bytes, entries_bytes, FitEntry, state_of, entry_of, size_of, entries_in, is_entry, are_entries}
 
 -- ---- one entry
 
@@ -41,12 +41,12 @@ pub points-count : (x : List ℕ) → size_of x ≤ length x → length (entry_o
 unfolding entry_of
 points-count x h = length-points (drop 44 x) ∙ count-is x h
 
-pub length-entry : (e : Entry) → length (entry_bytes e) ≡ 48 + 36 * length e.points
+pub length-entry : (e : MapEntry) → length (entry_bytes e) ≡ 48 + 36 * length e.points
 unfolding entry_bytes state_bytes
 length-entry e = simp (length-append, length-hash, length-to_le, length_list) (omega arith)
 
 state_again : (x : List ℕ) → is_entry x ≡ true → state_bytes (state_of (u32_at x 32) (u64_at x 36)) ≡ to_le 4 (u32_at x 32) ++ to_le 8 (u64_at x 36)
-unfolding is_entry state_bytes state_of kind_of block_of
+unfolding is_entry state_bytes state_of state_kind block_of
 state_again x h = by (eqb (u32_at x 32) 0) refl h
   where
     by : (t : Bool) → eqb (u32_at x 32) 0 ≡ t → cond t (eqb (u64_at x 36) 0) (eqb (u32_at x 32) 1) ≡ true
@@ -104,49 +104,49 @@ entry-fits x b = record {
     by false = num_fits 8 x 36 b
 
 -- what is read of an entry that was written, whatever bytes follow
-kind_back : (e : Entry) (z : List ℕ) → u32_at (entry_bytes e ++ z) 32 ≡ kind_of e.committed
-unfolding entry_bytes state_bytes kind_of
+kind_back : (e : MapEntry) (z : List ℕ) → u32_at (entry_bytes e ++ z) 32 ≡ state_kind e.committed
+unfolding entry_bytes state_bytes state_kind
 kind_back e z =
     let N = to_le 8 (block_of e.committed) in
-    ap (λ (x : List ℕ). u32_at x 32) (simp append_assoc) ∙ word_back 4 (kind_of e.committed) (hash_bytes e.hash) (N ++ (point_list e.points ++ z)) 32 (length-hash e.hash) (fits e.committed)
+    ap (λ (x : List ℕ). u32_at x 32) (simp append_assoc) ∙ word_back 4 (state_kind e.committed) (hash_bytes e.hash) (N ++ (point_list e.points ++ z)) 32 (length-hash e.hash) (fits e.committed)
   where
-    fits : (c : Option BlockNumber) → kind_of c < 256 ^ 4
+    fits : (c : Option BlockNumber) → state_kind c < 256 ^ 4
     fits none = omega arith
     fits (some b) = omega arith
 
-block_back : (e : Entry) (z : List ℕ) → block_of e.committed < 2 ^ 64 → u64_at (entry_bytes e ++ z) 36 ≡ block_of e.committed
+block_back : (e : MapEntry) (z : List ℕ) → block_of e.committed < 2 ^ 64 → u64_at (entry_bytes e ++ z) 36 ≡ block_of e.committed
 unfolding entry_bytes state_bytes
 block_back e z h =
-    let K = to_le 4 (kind_of e.committed) in
+    let K = to_le 4 (state_kind e.committed) in
     ap (λ (x : List ℕ). u64_at x 36) (simp append_assoc)
     ∙ word_back 8 (block_of e.committed) (hash_bytes e.hash ++ K) (point_list e.points ++ z) 36 (simp (length-append, length-hash, length-to_le)) h
 
-count-back : (e : Entry) (z : List ℕ) → length e.points < 2 ^ 32 → u32_at (entry_bytes e ++ z) 44 ≡ length e.points
+count-back : (e : MapEntry) (z : List ℕ) → length e.points < 2 ^ 32 → u32_at (entry_bytes e ++ z) 44 ≡ length e.points
 unfolding entry_bytes state_bytes point_list
 count-back e z h =
-    let K = to_le 4 (kind_of e.committed) in
+    let K = to_le 4 (state_kind e.committed) in
     let N = to_le 8 (block_of e.committed) in
     ap (λ (x : List ℕ). u32_at x 44) (simp append_assoc)
     ∙ word_back 4 (length e.points) (hash_bytes e.hash ++ K ++ N) (bytes_of e.points ++ z) 44 (simp (length-append, length-hash, length-to_le)) h
 
-entry-is : (e : Entry) (z : List ℕ) → is_entry (entry_bytes e ++ z) ≡ true
-unfolding is_entry kind_of block_of
+entry-is : (e : MapEntry) (z : List ℕ) → is_entry (entry_bytes e ++ z) ≡ true
+unfolding is_entry state_kind block_of
 entry-is e z = by e.committed (kind_back e z) (block_back e z)
   where
-    by : (c : Option BlockNumber) → u32_at (entry_bytes e ++ z) 32 ≡ kind_of c → (block_of c < 2 ^ 64 → u64_at (entry_bytes e ++ z) 36 ≡ block_of c)
+    by : (c : Option BlockNumber) → u32_at (entry_bytes e ++ z) 32 ≡ state_kind c → (block_of c < 2 ^ 64 → u64_at (entry_bytes e ++ z) 36 ≡ block_of c)
         → cond (eqb (u32_at (entry_bytes e ++ z) 32) 0) (eqb (u64_at (entry_bytes e ++ z) 36) 0) (eqb (u32_at (entry_bytes e ++ z) 32) 1) ≡ true
     by none k b = rw (k, b (omega arith))
     by (some n) k b = rw k
 
 -- and where its numbers fit, all of it
-pub entry-back : (e : Entry) (z : List ℕ) → FitEntry e → entry_of (entry_bytes e ++ z) ≡ e
-unfolding entry_of entry_bytes state_bytes state_of kind_of block_of hash_bytes byte32_at
+pub entry-back : (e : MapEntry) (z : List ℕ) → FitEntry e → entry_of (entry_bytes e ++ z) ≡ e
+unfolding entry_of entry_bytes state_bytes state_of state_kind block_of hash_bytes byte32_at
 entry-back e z f =
     let A = to_le 8 e.hash.a in
     let B = to_le 8 e.hash.b in
     let C = to_le 8 e.hash.c in
     let D = to_le 8 e.hash.d in
-    let K = to_le 4 (kind_of e.committed) in
+    let K = to_le 4 (state_kind e.committed) in
     let N = to_le 8 (block_of e.committed) in
     let P = point_list e.points in
     let s = A ++ B ++ C ++ D ++ (K ++ N) ++ P ++ z in
@@ -159,7 +159,7 @@ entry-back e z f =
     ap (λ (x : List ℕ). points (drop 44 x)) g ∙ ap points (behind (A ++ B ++ C ++ D ++ K ++ N) (P ++ z) 44 (simp (length-append, length-to_le))) ∙ list_before e.points z f.count_fits f.points-fit in
     rw (ea, eb, ec, ed, kind_back e z, block_back e z f.block_fits, ep) (ap (λ (c : Option BlockNumber). record { hash = e.hash; committed = c; points = e.points }) (state_back e.committed))
   where
-    state_back : (c : Option BlockNumber) → state_of (kind_of c) (block_of c) ≡ c
+    state_back : (c : Option BlockNumber) → state_of (state_kind c) (block_of c) ≡ c
     state_back none = refl
     state_back (some b) = refl
 
@@ -175,7 +175,7 @@ unfolding entries_in
 entries_fit zero x b = tt
 entries_fit (suc n) x b = (entry-fits x b, entries_fit n (drop (size_of x) x) (bytes_drop (size_of x) x b))
 
-pub entries-back : (l : List Entry) (z : List ℕ) → All FitEntry l → entries_in (length l) (entries_bytes l ++ z) ≡ l
+pub entries-back : (l : List MapEntry) (z : List ℕ) → All FitEntry l → entries_in (length l) (entries_bytes l ++ z) ≡ l
 unfolding entries_in entries_bytes
 entries-back [] z f = refl
 entries-back (e ∷ l) z f =
@@ -184,10 +184,10 @@ entries-back (e ∷ l) z f =
     let c : size_of s ≡ length (entry_bytes e) = ap (λ (n : ℕ). 48 + 36 * n) (count-back e (entries_bytes l ++ z) f.0.count_fits) ∙ sym (length-entry e) in
     let d : drop (size_of s) s ≡ entries_bytes l ++ z = ap (λ (n : ℕ). drop n s) c ∙ behind (entry_bytes e) (entries_bytes l ++ z) (length (entry_bytes e)) refl in
     ap (λ (x : List ℕ). entry_of x ∷ entries_in (length l) (drop (size_of x) x)) (append_assoc (entry_bytes e) (entries_bytes l) z)
-    ∙ ap₂ (λ (a : Entry) (r : List Entry). a ∷ r) h (ap (entries_in (length l)) d ∙ entries-back l z f.1)
+    ∙ ap₂ (λ (a : MapEntry) (r : List MapEntry). a ∷ r) h (ap (entries_in (length l)) d ∙ entries-back l z f.1)
 
 -- with at most m out points in all they have the form
-pub entries_are : (l : List Entry) (m : ℕ) (z : List ℕ) → length (excluded l) ≤ m → m < 2 ^ 32 → are_entries (length l) m (entries_bytes l ++ z) ≡ true
+pub entries_are : (l : List MapEntry) (m : ℕ) (z : List ℕ) → length (excluded l) ≤ m → m < 2 ^ 32 → are_entries (length l) m (entries_bytes l ++ z) ≡ true
 unfolding are_entries entries_bytes excluded
 entries_are [] m z h k = refl
 entries_are (e ∷ l) m z h k =
@@ -237,7 +237,7 @@ entries_again (suc n) m x b k h =
     sym (take-append-drop (size_of x) x) ∙ ap₂ (λ (a c : List ℕ). a ++ c) (sym w) (r ∙ ap (λ (a : List ℕ). R ++ a) d) ∙ sym (append_assoc E R (drop (length (E ++ R)) x))
 
 -- so many bytes
-pub entries-size : (l : List Entry) → length (entries_bytes l) ≡ 48 * length l + 36 * length (excluded l)
+pub entries-size : (l : List MapEntry) → length (entries_bytes l) ≡ 48 * length l + 36 * length (excluded l)
 unfolding entries_bytes excluded
 entries-size [] = refl
 entries-size (e ∷ l) = simp length-append (omega (arith, length-entry e, entries-size l, length-append e.points (excluded l)))
@@ -250,7 +250,7 @@ points_most (suc n) m x k h =
     let r = points_most n (m - u32_at x 44) (drop (size_of x) x) (rest_are n m x k) (rw (length-drop (size_of x) x) (omega arith)) in
     simp length-append (omega (arith, points-count x (omega arith)))
 
-pub bytes-join : (l r : List Entry) → entries_bytes (l ++ r) ≡ entries_bytes l ++ entries_bytes r
+pub bytes-join : (l r : List MapEntry) → entries_bytes (l ++ r) ≡ entries_bytes l ++ entries_bytes r
 unfolding entries_bytes
 bytes-join [] r = refl
 bytes-join (e ∷ l) r = ap (λ (x : List ℕ). entry_bytes e ++ x) (bytes-join l r) ∙ sym (append_assoc (entry_bytes e) (entries_bytes l) (entries_bytes r))

@@ -6,46 +6,54 @@ use mathlib.Core.List.{List, [], ◌∷◌}
 use Rattle.std.specs.Prelude.{Result, Ok, Err}
 use lib.{Dec.eqb, ListN.length}
 use Rattle.error.specs.declared.{Refusal.Refusal}
-use Rattle.error.specs.Refusal.{number}
+use Rattle.error.specs.Refusal.{number, values, answered}
 use Rattle.out_points.specs.{declared.Byte32.Byte32, OutPoints.byte32_at}
-use Rattle.out_points.specs.Tables.{refused, told, keep}
-use Rattle.table_bytes.specs.Lent.{After, leaving, with_bytes}
+use Rattle.std.specs.List.{filter}
+use Rattle.error.specs.Outcome.{Outcome, refused, check, check_with, ◌>>◌, refusal}
+use Rattle.table_bytes.specs.Lent.{on_table, Leaves}
+use Rattle.table_bytes.proofs.LentLaws.{on_good, on_bad, leave_refused}
 use Rattle.exclusion_entries.specs.declared.{Rule.Rule}
-use Rattle.exclusion_entries.specs.Exclusions.{Entry, Ruling}
-use Rattle.exclusion_entries.specs.Entries.{map_bytes, excluded_at, is_map}
-use Rattle.exclusion_entries.specs.Survey.{stay, survey_of}
-use Rattle.exclusion_entries.specs.LentMap.{lent_map, hash_of}
+use Rattle.exclusion_entries.specs.Exclusions.{MapEntry}
+use Rattle.exclusion_entries.specs.Entries.{is_map}
+use Rattle.exclusion_entries.specs.Inner.{stay, survey_of, hash_of}
+use Rattle.exclusion_entries.specs.Calls.{map_table}
 use Rattle.exclusion_entries.proofs.StayLaws.{told_bad}
 
-module _ (s : List ℕ) (o : Ruling) where
-  pub lent_bad : (rule : Rule) {e : Refusal} → Err e ≡ survey_of rule s → told (with_bytes excluded_at) (Err e) s ≡ lent_map s o
-  unfolding lent_map told number
-  lent_bad rule h = let (n, k) = told_bad rule s h in rw (n, k)
+module _ (s : List ℕ) {A : Type 0} (o : Outcome A) where
+  -- bytes that are no map
+  pub off_map : (rule : Rule) {e : Refusal} → Err e ≡ survey_of rule s → on_table map_table s o ≡ refusal e
+  unfolding number values
+  off_map rule h = let (n, k) = told_bad rule s h in on_bad map_table s o n ∙ rw k
 
-  -- what a rule refuses with the number of bytes that are no map is refused so of any bytes
-  pub lent_unread : o ≡ refused 3 tt → refused 3 s ≡ lent_map s o
-  unfolding lent_map leaving
-  lent_unread e = rw e (by (is_map s))
+  pub on_map : is_map s ≡ true → on_table map_table s o ≡ o
+  on_map = on_good map_table s o
+
+  -- what is refused with the number of bytes that are no map is refused so of any bytes
+  pub unread_map : o ≡ refused 3 [] → on_table map_table s o ≡ refused 3 []
+  unfolding on_table check check_with ◌>>◌
+  unread_map e = rw e (by (is_map s))
     where
-      by : (b : Bool) → ◌≡◌ {A = After (List Entry)} (refused 3 s) (cond b (refused 3 s) (refused 3 s))
+      by : (b : Bool) → ◌≡◌ {A = Outcome A} (check 3 b >> refused 3 []) (refused 3 [])
       by true = refl
       by false = refl
 
-  pub lent-on : {a : After (List Entry)} → is_map s ≡ true → a ≡ leaving map_bytes s o → a ≡ lent_map s o
-  unfolding lent_map
-  lent-on g e = e ∙ rw g
+pub lent_bad : (s : List ℕ) (o : Outcome (List MapEntry)) (rule : Rule) {e : Refusal} → Err e ≡ survey_of rule s → Leaves map_table s (answered {T = Unit {0}} (Err e)) s (on_table map_table s o)
+lent_bad s o rule h = leave_refused map_table s _ (off_map s o rule h)
+
+pub lent_unread : (s : List ℕ) (o : Outcome (List MapEntry)) {e : Refusal} → e ≡ Refusal.LentBytesUnreadable → o ≡ refused 3 [] → Leaves map_table s (answered {T = Unit {0}} (Err e)) s (on_table map_table s o)
+unfolding number values
+lent_unread s o k e = rw k (leave_refused map_table s Refusal.LentBytesUnreadable (unread_map s o e))
 
 -- by a rule that takes none, the entries that stay are those that are kept
-pub stay-keep : (f p : Entry → Bool) → ((e : Entry) → p e ≡ false) → (l : List Entry) → stay f p false l ≡ keep f l
-unfolding stay keep
+pub stay-keep : (f p : MapEntry → Bool) → ((e : MapEntry) → p e ≡ false) → (l : List MapEntry) → stay f p false l ≡ filter f l
+unfolding stay
 stay-keep f p n [] = refl
 stay-keep f p n (e ∷ l) = rw (n e, stay-keep f p n l)
 
 -- by one that keeps all, all stay
-pub keep_all : (f : Entry → Bool) → ((e : Entry) → f e ≡ true) → (l : List Entry) → keep f l ≡ l
-unfolding keep
+pub keep_all : (f : MapEntry → Bool) → ((e : MapEntry) → f e ≡ true) → (l : List MapEntry) → filter f l ≡ l
 keep_all f n [] = refl
-keep_all f n (e ∷ l) = rw (n e) (ap (λ (r : List Entry). e ∷ r) (keep_all f n l))
+keep_all f n (e ∷ l) = rw (n e) (ap (λ (r : List MapEntry). e ∷ r) (keep_all f n l))
 
 -- ---- a hash that is lent
 

@@ -15,7 +15,7 @@ use Rattle.molecule.specs.Write.{splice, put_at}
 use Rattle.molecule.proofs.WriteLaws.{put_yes, splice_zero}
 use Rattle.molecule.proofs.ItemsLaws.{bytes_drop}
 use Rattle.out_points.proofs.AgainLaws.{word_again, word_back, behind}
-use Rattle.exclusion_entries.specs.Exclusions.{Entry, excluded}
+use Rattle.exclusion_entries.specs.Exclusions.{MapEntry, excluded}
 use Rattle.exclusion_entries.specs.Entries.{entry_bytes, entries_bytes, map_bytes, FitEntry, entry_of, size_of, entries_in, excluded_at, are_entries, map_size, is_map}
 use Rattle.exclusion_entries.proofs.EntryLaws.{length-entry, points-count, entries-long, entries_fit, entries-back, entries_are, first-room, rest_are, entries_again, entries-size, points_most}
 use Rattle.exclusion_entries.proofs.SpliceLaws.{splice-same}
@@ -108,11 +108,11 @@ pub map-fits : (s : List ℕ) → AllBytes s → All FitEntry (excluded_at s)
 unfolding excluded_at
 map-fits s b = entries_fit (u32_at s 0) (drop 4 s) (bytes_drop 4 s b)
 
-pub map-size : (l : List Entry) → length (map_bytes l) ≡ 4 + 48 * length l + 36 * length (excluded l)
+pub map-size : (l : List MapEntry) → length (map_bytes l) ≡ 4 + 48 * length l + 36 * length (excluded l)
 unfolding map_bytes
 map-size l = omega (arith, length-append (to_le 4 (length l)) (entries_bytes l), length-to_le 4 (length l), entries-size l)
 
-module _ (l : List Entry) (z : List ℕ) where
+module _ (l : List MapEntry) (z : List ℕ) where
   count-back : length l < 2 ^ 32 → u32_at (map_bytes l ++ z) 0 ≡ length l
   unfolding map_bytes
   count-back h = ap (λ (x : List ℕ). u32_at x 0) (append_assoc (to_le 4 (length l)) (entries_bytes l) z) ∙ word_back 4 (length l) [] (entries_bytes l ++ z) 0 refl h
@@ -131,7 +131,7 @@ module _ (l : List Entry) (z : List ℕ) where
       rw (eq-eqb (length (map_bytes l ++ z)) map_size n, count-back (omega arith), le-leb (length l) 64 h, rest_back) (entries_are l 512 z k (omega arith))
 
 -- a table of at most so many entries and out points, put where one was
-pub put_is : (s : List ℕ) (l : List Entry) → is_map s ≡ true → length l ≤ 64 → length (excluded l) ≤ 512 → is_map (put_at s 0 (map_bytes l)) ≡ true
+pub put_is : (s : List ℕ) (l : List MapEntry) → is_map s ≡ true → length l ≤ 64 → length (excluded l) ≤ 512 → is_map (put_at s 0 (map_bytes l)) ≡ true
 put_is s l g h k =
     let n = map-size l in
     let x = map_bytes l ++ drop (length (map_bytes l)) s in
@@ -139,7 +139,7 @@ put_is s l g h k =
     let d = length-append (map_bytes l) (drop (length (map_bytes l)) s) in
     ap is_map e ∙ map_is l (drop (length (map_bytes l)) s) h k (omega (arith, length-drop (length (map_bytes l)) s, map-long s g))
 
-pub splice-back : (s : List ℕ) (l : List Entry) {o : List ℕ} → length l < 2 ^ 32 → All FitEntry l → o ≡ splice s 0 (map_bytes l) → excluded_at o ≡ l
+pub splice-back : (s : List ℕ) (l : List MapEntry) {o : List ℕ} → length l < 2 ^ 32 → All FitEntry l → o ≡ splice s 0 (map_bytes l) → excluded_at o ≡ l
 splice-back s l h f e = ap excluded_at (e ∙ splice_zero s (map_bytes l)) ∙ map_back l (drop (length (map_bytes l)) s) h f
 
 -- all zeros are the empty table

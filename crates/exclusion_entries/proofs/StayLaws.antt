@@ -8,41 +8,42 @@ use Rattle.std.specs.Prelude.{Result, Ok, Err}
 use lib.ListN.{length, take, drop, length-append}
 use Rattle.error.specs.declared.{Refusal.Refusal}
 use Rattle.molecule.specs.Partial.{All}
-use Rattle.out_points.specs.Tables.{keep, renew}
-use Rattle.exclusion_entries.specs.Exclusions.{Entry, excluded}
+use Rattle.std.specs.List.{filter}
+use Rattle.out_points.specs.Tables.{renew}
+use Rattle.exclusion_entries.specs.Exclusions.{MapEntry, excluded}
 use Rattle.exclusion_entries.specs.declared.{Rule.Rule, Survey.Survey}
 use Rattle.exclusion_entries.specs.Entries.{entry_bytes, entries_bytes, excluded_at, is_map}
-use Rattle.exclusion_entries.specs.Survey.{keeps, takes, stay, ahead, behind, front, loses, lost_one, took_one, stayed, turned, sweep, start, survey_of}
+use Rattle.exclusion_entries.specs.Inner.{keeps, takes, stay, ahead, behind, front, loses, lost_one, took_one, stayed, turned, sweep, start, survey_of}
 use Rattle.exclusion_entries.proofs.EntryLaws.{length-entry}
 use Rattle.exclusion_entries.proofs.MapLaws.{map-few, map-count, map-points}
 
-module _ (f p : Entry → Bool) where
-  pub stay-kept : (l : List Entry) → stay f p true l ≡ keep f l
-  unfolding stay keep
+module _ (f p : MapEntry → Bool) where
+  pub stay-kept : (l : List MapEntry) → stay f p true l ≡ filter f l
+  unfolding stay
   stay-kept [] = refl
   stay-kept (e ∷ l) = rw (stay-kept l)
 
-  pub stay-split : (l : List Entry) → stay f p false l ≡ ahead f p l ++ behind f p l
+  pub stay-split : (l : List MapEntry) → stay f p false l ≡ ahead f p l ++ behind f p l
   unfolding stay ahead behind
   stay-split [] = refl
   stay-split (e ∷ l) = by (stay-split l) (f e) (p e)
     where
-      by : stay f p false l ≡ ahead f p l ++ behind f p l → (a b : Bool) → cond a (cond b (stay f p true l) (e ∷ stay f p false l)) (stay f p false l) ≡ cond a (cond b [] (e ∷ ahead f p l)) (ahead f p l) ++ cond a (cond b (keep f l) (behind f p l)) (behind f p l)
+      by : stay f p false l ≡ ahead f p l ++ behind f p l → (a b : Bool) → cond a (cond b (stay f p true l) (e ∷ stay f p false l)) (stay f p false l) ≡ cond a (cond b [] (e ∷ ahead f p l)) (ahead f p l) ++ cond a (cond b (filter f l) (behind f p l)) (behind f p l)
       by s true true = stay-kept l
-      by s true false = ap (λ (r : List Entry). e ∷ r) s
+      by s true false = ap (λ (r : List MapEntry). e ∷ r) s
       by s false b = s
 
-  pub renew-split : (x : Entry) (l : List Entry) → renew p x (keep f l) ≡ ahead f p l ++ (x ∷ behind f p l)
-  unfolding renew keep ahead behind
+  pub renew-split : (x : MapEntry) (l : List MapEntry) → renew p x (filter f l) ≡ ahead f p l ++ (x ∷ behind f p l)
+  unfolding renew ahead behind
   renew-split x [] = refl
   renew-split x (e ∷ l) = by (renew-split x l) (f e) (p e) refl
     where
-      by : renew p x (keep f l) ≡ ahead f p l ++ (x ∷ behind f p l) → (a b : Bool) → p e ≡ b → renew p x (cond a (e ∷ keep f l) (keep f l)) ≡ cond a (cond b [] (e ∷ ahead f p l)) (ahead f p l) ++ (x ∷ cond a (cond b (keep f l) (behind f p l)) (behind f p l))
+      by : renew p x (filter f l) ≡ ahead f p l ++ (x ∷ behind f p l) → (a b : Bool) → p e ≡ b → renew p x (cond a (e ∷ filter f l) (filter f l)) ≡ cond a (cond b [] (e ∷ ahead f p l)) (ahead f p l) ++ (x ∷ cond a (cond b (filter f l) (behind f p l)) (behind f p l))
       by s true true k = rw k
-      by s true false k = rw k (ap (λ (r : List Entry). e ∷ r) s)
+      by s true false k = rw k (ap (λ (r : List MapEntry). e ∷ r) s)
       by s false b k = s
 
-  pub stay-front : (l : List Entry) → stay f p false l ≡ front f p l ++ stay f p false (drop (length (front f p l)) l)
+  pub stay-front : (l : List MapEntry) → stay f p false l ≡ front f p l ++ stay f p false (drop (length (front f p l)) l)
   unfolding stay front
   stay-front [] = refl
   stay-front (e ∷ l) = by (stay-front l) (f e) (p e) refl refl
@@ -50,20 +51,20 @@ module _ (f p : Entry → Bool) where
       by : stay f p false l ≡ front f p l ++ stay f p false (drop (length (front f p l)) l) → (a b : Bool) → f e ≡ a → p e ≡ b
           → cond a (cond b (stay f p true l) (e ∷ stay f p false l)) (stay f p false l) ≡ cond a (cond b [] (e ∷ front f p l)) [] ++ stay f p false (drop (length (cond a (cond b [] (e ∷ front f p l)) [])) (e ∷ l))
       by s true true g h = rw (g, h)
-      by s true false g h = ap (λ (r : List Entry). e ∷ r) s
+      by s true false g h = ap (λ (r : List MapEntry). e ∷ r) s
       by s false b g h = rw g
 
-  pub front-is : (l : List Entry) → front f p l ≡ take (length (front f p l)) l
+  pub front-is : (l : List MapEntry) → front f p l ≡ take (length (front f p l)) l
   unfolding front
   front-is [] = refl
   front-is (e ∷ l) = by (front-is l) (f e) (p e)
     where
       by : front f p l ≡ take (length (front f p l)) l → (a b : Bool) → cond a (cond b [] (e ∷ front f p l)) [] ≡ take (length (cond a (cond b [] (e ∷ front f p l)) [])) (e ∷ l)
       by s true true = refl
-      by s true false = ap (λ (r : List Entry). e ∷ r) s
+      by s true false = ap (λ (r : List MapEntry). e ∷ r) s
       by s false b = refl
 
-  pub stay-size : (taken : Bool) (l : List Entry) → length (entries_bytes (stay f p taken l)) ≤ length (entries_bytes l)
+  pub stay-size : (taken : Bool) (l : List MapEntry) → length (entries_bytes (stay f p taken l)) ≤ length (entries_bytes l)
   unfolding stay entries_bytes
   stay-size taken [] = omega arith
   stay-size taken (e ∷ l) = by (stay-size true l) (stay-size taken l) (f e) (cond taken false (p e))
@@ -73,7 +74,7 @@ module _ (f p : Entry → Bool) where
       by r s true false = omega (arith, length-append (entry_bytes e) (entries_bytes l), length-append (entry_bytes e) (entries_bytes (stay f p taken l)))
       by r s false b = omega (arith, length-append (entry_bytes e) (entries_bytes l))
 
-  stay-few : (taken : Bool) (l : List Entry) → length (stay f p taken l) ≤ length l
+  stay-few : (taken : Bool) (l : List MapEntry) → length (stay f p taken l) ≤ length l
   unfolding stay
   stay-few taken [] = omega arith
   stay-few taken (e ∷ l) = by (stay-few true l) (stay-few taken l) (f e) (cond taken false (p e))
@@ -83,7 +84,7 @@ module _ (f p : Entry → Bool) where
       by r s true false = omega arith
       by r s false b = omega arith
 
-  stay-points : (taken : Bool) (l : List Entry) → length (excluded (stay f p taken l)) ≤ length (excluded l)
+  stay-points : (taken : Bool) (l : List MapEntry) → length (excluded (stay f p taken l)) ≤ length (excluded l)
   unfolding stay excluded
   stay-points taken [] = omega arith
   stay-points taken (e ∷ l) = by (stay-points true l) (stay-points taken l) (f e) (cond taken false (p e))
@@ -94,7 +95,7 @@ module _ (f p : Entry → Bool) where
       by r s true false = omega (arith, length-append e.points (excluded l), length-append e.points (excluded (stay f p taken l)))
       by r s false b = omega (arith, length-append e.points (excluded l))
 
-  pub stay_all : (P : Entry → Type 0) (taken : Bool) (l : List Entry) → All P l → All P (stay f p taken l)
+  pub stay_all : (P : MapEntry → Type 0) (taken : Bool) (l : List MapEntry) → All P l → All P (stay f p taken l)
   unfolding stay
   stay_all P taken [] a = tt
   stay_all P taken (e ∷ l) a = by (stay_all P true l a.1) (stay_all P taken l a.1) (f e) (cond taken false (p e))
@@ -106,7 +107,7 @@ module _ (f p : Entry → Bool) where
 
   -- ---- the numbers
 
-  pub record Tells (v u : Survey) (l : List Entry) : Type 0 where
+  pub record Tells (v u : Survey) (l : List MapEntry) : Type 0 where
     pub lost_told : u.lost ≡ cond v.lost true (loses f p l)
     pub stays_told : u.stays ≡ v.stays + length (stay f p v.taken l)
     pub points-told : u.points ≡ v.points + length (excluded (stay f p v.taken l))
@@ -115,7 +116,7 @@ module _ (f p : Entry → Bool) where
     pub index-told : u.index ≡ v.index + cond v.taken 0 (cond v.lost 0 (length (front f p l)))
 
   -- the first entry is not kept, is taken, stays: the rest tells all
-  module _ (e : Entry) (l : List Entry) (stays points place from index : ℕ) (u : Survey) where
+  module _ (e : MapEntry) (l : List MapEntry) (stays points place from index : ℕ) (u : Survey) where
     abbrev now : Bool → Bool → Survey
     now lost taken = record { lost = lost; taken = taken; stays = stays; points = points; place = place; from = from; index = index }
 
@@ -209,7 +210,7 @@ module _ (f p : Entry → Bool) where
       index-told = rw (k, h refl) (omega (arith, t.index-told));
     }
 
-  pub sweep_tells : (v : Survey) (l : List Entry) → Tells v (sweep f p v l) l
+  pub sweep_tells : (v : Survey) (l : List MapEntry) → Tells v (sweep f p v l) l
   unfolding sweep stay loses ahead front entries_bytes excluded turned
   sweep_tells v [] = record {
     lost_told = by v.lost;

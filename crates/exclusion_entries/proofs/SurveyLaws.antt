@@ -17,7 +17,7 @@ use Rattle.out_points.specs.OutPoints.{eq_hash, byte32_at}
 use Rattle.exclusion_entries.specs.Exclusions.{has_hash}
 use Rattle.exclusion_entries.specs.declared.{Rule.Rule, Words.Words, Survey.Survey}
 use Rattle.exclusion_entries.specs.Entries.{entry_of, size_of, entries_in, excluded_at, is_entry, are_entries, map_size, is_map}
-use Rattle.exclusion_entries.specs.Survey.{Small, keeps, takes, lost_one, took_one, stayed, turned, sweep, start, words_of, may_touch, survey_of}
+use Rattle.exclusion_entries.specs.Inner.{Small, keeps, takes, lost_one, took_one, stayed, turned, sweep, start, words_of, may_touch, survey_of}
 use Rattle.exclusion_entries.proofs.EntryLaws.{points-count}
 
 -- ---- an entry that the rule does not touch

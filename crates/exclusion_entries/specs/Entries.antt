@@ -6,34 +6,34 @@ use Rattle.arithmetic.specs.LittleEndian.{to_le, u32_at, u64_at}
 use Rattle.units.specs.declared.{BlockNumber.BlockNumber}
 use Rattle.molecule.specs.Partial.{All}
 use Rattle.out_points.specs.OutPoints.{Fit, byte32_at, points, hash_bytes, point_list}
-use Rattle.exclusion_entries.specs.Exclusions.{Entry}
+use Rattle.exclusion_entries.specs.Exclusions.{MapEntry}
 
 -- ---- written: the hash (32), the kind (4), the block (8), the list of the out points
 
 -- kind 0 is a pending transaction, whose block is 0, and 1 a committed one
-unfoldable pub kind_of : Option BlockNumber → ℕ
-kind_of none = 0
-kind_of (some b) = 1
+unfoldable pub state_kind : Option BlockNumber → ℕ
+state_kind none = 0
+state_kind (some b) = 1
 
 unfoldable pub block_of : Option BlockNumber → ℕ
 block_of none = 0
 block_of (some b) = b.0
 
 unfoldable pub state_bytes : Option BlockNumber → List ℕ
-state_bytes c = to_le 4 (kind_of c) ++ to_le 8 (block_of c)
+state_bytes c = to_le 4 (state_kind c) ++ to_le 8 (block_of c)
 
-unfoldable pub entry_bytes : Entry → List ℕ
+unfoldable pub entry_bytes : MapEntry → List ℕ
 entry_bytes e = hash_bytes e.hash ++ state_bytes e.committed ++ point_list e.points
 
-unfoldable pub entries_bytes : List Entry → List ℕ
+unfoldable pub entries_bytes : List MapEntry → List ℕ
 entries_bytes [] = []
 entries_bytes (e ∷ l) = entry_bytes e ++ entries_bytes l
 
-unfoldable pub map_bytes : List Entry → List ℕ
+unfoldable pub map_bytes : List MapEntry → List ℕ
 map_bytes l = to_le 4 (length l) ++ entries_bytes l
 
 -- its numbers fit their types, as in every entry that bytes hold
-pub record FitEntry (e : Entry) : Type 0 where
+pub record FitEntry (e : MapEntry) : Type 0 where
   pub a_fits : e.hash.a < 2 ^ 64
   pub b_fits : e.hash.b < 2 ^ 64
   pub c_fits : e.hash.c < 2 ^ 64
@@ -47,19 +47,19 @@ pub record FitEntry (e : Entry) : Type 0 where
 unfoldable pub state_of : ℕ → ℕ → Option BlockNumber
 state_of kind block = cond (eqb kind 0) none (some (record { 0 = block }))
 
-unfoldable pub entry_of : List ℕ → Entry
+unfoldable pub entry_of : List ℕ → MapEntry
 entry_of x = record { hash = byte32_at x 0; committed = state_of (u32_at x 32) (u64_at x 36); points = points (drop 44 x) }
 
 -- how many bytes it has
 abbrev pub size_of : List ℕ → ℕ
 size_of x = 48 + 36 * u32_at x 44
 
-unfoldable pub entries_in : ℕ → List ℕ → List Entry
+unfoldable pub entries_in : ℕ → List ℕ → List MapEntry
 entries_in zero x = []
 entries_in (suc n) x = entry_of x ∷ entries_in n (drop (size_of x) x)
 
 -- the entries of a lent table
-unfoldable pub excluded_at : List ℕ → List Entry
+unfoldable pub excluded_at : List ℕ → List MapEntry
 excluded_at s = entries_in (u32_at s 0) (drop 4 s)
 
 -- ---- which bytes are a table

@@ -1,4 +1,4 @@
+pub mod Calls
 pub mod Entries
 pub mod Exclusions
-pub mod LentMap
-pub mod Survey
+pub mod Inner

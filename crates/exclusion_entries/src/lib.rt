@@ -6,8 +6,7 @@ ghost use Rattle.std.specs.Prelude.{◌≡◌, ◌+◌, ◌*◌};
 ghost use Rattle.arithmetic.specs.LittleEndian.{u32_at};
 ghost use Rattle.exclusion_entries.specs.Exclusions.{has_hash, is_recent};
 ghost use Rattle.exclusion_entries.specs.Entries.{entry_of, is_entry};
-ghost use Rattle.exclusion_entries.specs.LentMap.{hash_of};
-ghost use Rattle.exclusion_entries.specs.Survey.{Small, keeps, takes, stayed, turned, start, words_of, may_touch, survey_of};
+ghost use Rattle.exclusion_entries.specs.Inner.{Small, keeps, takes, stayed, turned, start, words_of, may_touch, survey_of, hash_of};
 
 use arithmetic::little_endian;
 use error::Refusal;
@@ -109,7 +108,7 @@ fn is_recent(x: &[u8], tip: BlockNumber) -> bool
 }
 
 // Whether the call keeps it.
-#[tactic(auto, unfolding(crate::specs::Survey::keeps))]
+#[tactic(auto, unfolding(crate::specs::Inner::keeps))]
 pub fn keeps(rule: Rule, x: &[u8]) -> bool
     ensures { result ≡ keeps rule (entry_of x.now) }
 {
@@ -121,7 +120,7 @@ pub fn keeps(rule: Rule, x: &[u8]) -> bool
 }
 
 // Whether a new entry may take its place.
-#[tactic(auto, unfolding(crate::specs::Survey::takes))]
+#[tactic(auto, unfolding(crate::specs::Inner::takes))]
 pub fn takes(rule: Rule, x: &[u8]) -> bool
     ensures { result ≡ takes rule (entry_of x.now) }
 {
@@ -134,7 +133,7 @@ pub fn takes(rule: Rule, x: &[u8]) -> bool
 // ---- a hash that is lent
 
 // The hash that the bytes are. No TryFrom: the refusal is the one that the calls on the map give, and not one of the type.
-#[tactic(auto, unfolding(crate::specs::LentMap::hash_of))]
+#[tactic(auto, unfolding(crate::specs::Inner::hash_of))]
 pub fn hash_of(s: &[u8]) -> Result<Byte32, Refusal>
     ensures { result ≡ hash_of s.now }
 {
@@ -147,7 +146,7 @@ pub fn hash_of(s: &[u8]) -> Result<Byte32, Refusal>
 // ---- the pass
 
 // Before the first entry.
-#[tactic(auto, unfolding(crate::specs::Survey::start))]
+#[tactic(auto, unfolding(crate::specs::Inner::start))]
 fn start() -> Survey
     ensures { result ≡ start }
 {
@@ -163,7 +162,7 @@ fn start() -> Survey
 }
 
 // After an entry that stays, with n out points.
-#[tactic(auto, unfolding(crate::specs::Survey::stayed))]
+#[tactic(auto, unfolding(crate::specs::Inner::stayed))]
 fn stayed(v: Survey, n: u32) -> Survey
     requires { Small n v }
     ensures { result ≡ stayed n v }
@@ -185,7 +184,7 @@ fn stayed(v: Survey, n: u32) -> Survey
 }
 
 // The first words of the hashes that the rule goes by, if it goes by hashes.
-#[tactic(auto, unfolding(crate::specs::Survey::words_of))]
+#[tactic(auto, unfolding(crate::specs::Inner::words_of))]
 fn words_of(rule: Rule) -> Option<Words>
     ensures { result ≡ words_of rule }
 {
@@ -199,7 +198,7 @@ fn words_of(rule: Rule) -> Option<Words>
 }
 
 // Whether the rule may touch the entry at the start of x.
-#[tactic(auto, unfolding(crate::specs::Survey::may_touch))]
+#[tactic(auto, unfolding(crate::specs::Inner::may_touch))]
 fn may_touch(words: Option<Words>, x: &[u8]) -> bool
     ensures { result ≡ may_touch words x.now }
 {
@@ -213,7 +212,7 @@ fn may_touch(words: Option<Words>, x: &[u8]) -> bool
 }
 
 // After the entry at the start of x, that the rule may touch.
-#[tactic(auto, unfolding(crate::specs::Survey::turned, crate::specs::Survey::lost_one, crate::specs::Survey::took_one))]
+#[tactic(auto, unfolding(crate::specs::Inner::turned, crate::specs::Inner::lost_one, crate::specs::Inner::took_one))]
 fn touched(v: Survey, rule: Rule, x: &[u8]) -> Survey
     requires { Small (u32_at x.now 44) v }
     ensures { result ≡ turned (keeps rule (entry_of x.now)) (takes rule (entry_of x.now)) (u32_at x.now 44) v }

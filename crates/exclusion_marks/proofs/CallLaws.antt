@@ -18,13 +18,13 @@ use Rattle.molecule.specs.Write.{splice, put_at}
 use Rattle.molecule.proofs.WriteLaws.{put_yes, splice_zero, splice-length}
 use Rattle.out_points.specs.declared.{Byte32.Byte32}
 use Rattle.out_points.specs.OutPoints.{bytes_of, point_list}
-use Rattle.out_points.specs.Tables.{done, told, has_room, written}
+use Rattle.out_points.specs.Tables.{done, told, has_room, with_list}
 use Rattle.out_points.proofs.ListLaws.{length_list, length-bytes}
 use Rattle.table_bytes.specs.Lent.{leaving, with_bytes}
 use Rattle.exclusion_entries.specs.declared.{Rule.Rule, Survey.Survey}
-use Rattle.exclusion_entries.specs.Exclusions.{Entry, committed_at, commit_on, excluded, apply_on}
+use Rattle.exclusion_entries.specs.Exclusions.{MapEntry, committed_at, commit_on, excluded, apply_on}
 use Rattle.exclusion_entries.specs.Entries.{map_bytes, excluded_at, is_map}
-use Rattle.exclusion_entries.specs.Survey.{keeps, takes, stay, survey_of}
+use Rattle.exclusion_entries.specs.Inner.{keeps, takes, stay, survey_of}
 use Rattle.exclusion_entries.specs.LentMap.{lent_map, lent_list, hash_of}
 use Rattle.exclusion_entries.proofs.LentLaws.{lent_unread, lent-on, stay-keep, keep_all, hash_bad, hash_good}
 use Rattle.exclusion_entries.proofs.SpliceLaws.{splice-under}
@@ -42,7 +42,7 @@ unfolding told leaving with_bytes commit_on
 commit-done s hash rule block ev eh m e =
     let (n, k) = hash_good hash eh in
     lent-on s (commit_on (excluded_at s) hash block) (told_good rule s ev)
-    (rw (n, ← k) (ap₂ (λ (l : List Entry) (x : List ℕ). done (l, x)) m e))
+    (rw (n, ← k) (ap₂ (λ (l : List MapEntry) (x : List ℕ). done (l, x)) m e))
 
 -- ---- apply
 
@@ -62,7 +62,7 @@ module _ (s out : List ℕ) {v : Survey} (ev : Ok v ≡ survey_of Rule.All s) wh
   all = stay-keep (keeps Rule.All) (takes Rule.All) (λ e. refl) (excluded_at s) ∙ keep_all (keeps Rule.All) (λ e. refl) (excluded_at s)
 
   counted : v.points ≡ length (excluded (excluded_at s))
-  counted = told-points Rule.All s ev ∙ ap (λ (l : List Entry). length (excluded l)) all
+  counted = told-points Rule.All s ev ∙ ap (λ (l : List MapEntry). length (excluded l)) all
 
   list_length : length (point_list (excluded (excluded_at s))) ≡ 4 + 36 * v.points
   list_length = length_list (excluded (excluded_at s)) ∙ ap (λ (k : ℕ). 4 + 36 * k) (sym counted)
@@ -76,7 +76,7 @@ module _ (s out : List ℕ) {v : Survey} (ev : Ok v ≡ survey_of Rule.All s) wh
 
   pub apply-done : {o₁ o₂ : List ℕ} → 4 + 36 * v.points ≤ min (length out) 133116 → o₁ ≡ splice out 4 (bytes_of (excluded (excluded_at s))) → o₂ ≡ put_at o₁ 0 (to_le 4 v.points)
       → (answered {T = Unit {0}} (Ok tt), o₂) ≡ lent_list s out (apply_on (excluded_at s) out)
-  unfolding lent_list apply_on answered has_room written point_list
+  unfolding lent_list apply_on answered has_room with_list point_list
   apply-done {o₁} {o₂} h e₁ e₂ =
       let ps = excluded (excluded_at s) in
       let C = to_le 4 v.points in

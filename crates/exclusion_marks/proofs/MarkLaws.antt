@@ -21,8 +21,8 @@ use Rattle.out_points.proofs.PointLaws.{length-hash}
 use Rattle.out_points.proofs.EqualLaws.{hash-same}
 use Rattle.molecule.proofs.ItemsLaws.{bytes_drop}
 use Rattle.out_points.proofs.AgainLaws.{word_again}
-use Rattle.exclusion_entries.specs.Exclusions.{Entry, has_hash, committed_at}
-use Rattle.exclusion_entries.specs.Entries.{kind_of, block_of, state_bytes, entry_bytes, entries_bytes, map_bytes, FitEntry, entry_of, size_of, entries_in, excluded_at, are_entries, map_size, is_map}
+use Rattle.exclusion_entries.specs.Exclusions.{MapEntry, has_hash, committed_at}
+use Rattle.exclusion_entries.specs.Entries.{state_kind, block_of, state_bytes, entry_bytes, entries_bytes, map_bytes, FitEntry, entry_of, size_of, entries_in, excluded_at, are_entries, map_size, is_map}
 use Rattle.exclusion_entries.proofs.EntryLaws.{from-here, entry_again, points-count, length-entry, first-is, first-room, rest_are, entries-long, entries-size, points_most}
 use Rattle.exclusion_entries.proofs.MapLaws.{map-long, map-few, map_are, map-count, map-points, map-fits, splice-back}
 use Rattle.exclusion_entries.proofs.SpliceLaws.{splice-none, drop-splice, splice-same, splice-then}
@@ -46,7 +46,7 @@ module _ (s : List ℕ) (at : ℕ) (hash : Byte32) (block : BlockNumber) {x : Li
 
   pub mark_put : {o₁ o₂ : List ℕ} {n₁ : ℕ} → not b ≡ false → at + size_of (drop at s) ≤ length s → o₁ ≡ put_at s (at + 32) (to_le 4 1) → n₁ ≡ put_end s (at + 32) (to_le 4 1) → o₂ ≡ put_at o₁ n₁ (to_le 8 block.0)
       → o₂ ≡ commit_one_bytes hash block at s
-  unfolding commit_one_bytes state_bytes kind_of block_of
+  unfolding commit_one_bytes state_bytes state_kind block_of
   mark_put {o₁} {o₂} {n₁} h r e₁ f₁ e₂ =
       let e = mark_next in
       let k₁ = length-to_le 4 1 in
@@ -62,7 +62,7 @@ unfolding state_bytes
 length_state c = simp (length-append, length-to_le)
 
 -- with what follows it, it is the bytes that stand there, and the new state
-module _ (s : List ℕ) (at : ℕ) (hash : Byte32) (block : BlockNumber) (e : Entry) (W : List ℕ) (stands : take (length (entry_bytes e)) (drop at s) ≡ entry_bytes e) (r : at + length (entry_bytes e) + length W ≤ length s) where
+module _ (s : List ℕ) (at : ℕ) (hash : Byte32) (block : BlockNumber) (e : MapEntry) (W : List ℕ) (stands : take (length (entry_bytes e)) (drop at s) ≡ entry_bytes e) (r : at + length (entry_bytes e) + length W ≤ length s) where
   marked_other : splice s (at + length (entry_bytes e)) W ≡ splice s at (entry_bytes e ++ W)
   marked_other = ap (λ (t : List ℕ). splice t (at + length (entry_bytes e)) W) (sym (splice-same s at (entry_bytes e) stands)) ∙ splice-then s at (entry_bytes e) W r
 
@@ -130,7 +130,7 @@ mark_start hash block s {n} b g e =
       made = rw z;
     }
 
-marked-size : (hash : Byte32) (block : BlockNumber) (l : List Entry) → length (entries_bytes (map (committed_at hash block) l)) ≡ length (entries_bytes l)
+marked-size : (hash : Byte32) (block : BlockNumber) (l : List MapEntry) → length (entries_bytes (map (committed_at hash block) l)) ≡ length (entries_bytes l)
 unfolding entries_bytes committed_at
 marked-size hash block [] = refl
 marked-size hash block (e ∷ l) = by (marked-size hash block l) (has_hash hash e)
@@ -228,7 +228,7 @@ record FitHash (h : Byte32) : Type 0 where
   c_fits : h.c < 2 ^ 64
   d_fits : h.d < 2 ^ 64
 
-all_marked : (hash : Byte32) (block : BlockNumber) (l : List Entry) → FitHash hash → block.0 < 2 ^ 64 → All FitEntry l → All FitEntry (map (committed_at hash block) l)
+all_marked : (hash : Byte32) (block : BlockNumber) (l : List MapEntry) → FitHash hash → block.0 < 2 ^ 64 → All FitEntry l → All FitEntry (map (committed_at hash block) l)
 unfolding committed_at block_of
 all_marked hash block [] h b a = tt
 all_marked hash block (e ∷ l) h b a = (by (has_hash hash e) a.0, all_marked hash block l h b a.1)

@@ -19,12 +19,13 @@ use Rattle.transaction.specs.Ckb.{Transaction}
 use Rattle.transaction.specs.Tx.{raw_field}
 use Rattle.out_points.specs.declared.{Byte32.Byte32}
 use Rattle.out_points.specs.OutPoints.{byte32_at}
-use Rattle.out_points.specs.Tables.{done, refused, told, keep, renew}
-use Rattle.exclusion_entries.specs.Exclusions.{Entry, Ruling, has_hash, without, remove_on, truncated, truncate_on, pending, fitting, entering, add_on, entered, migrate_on}
+use Rattle.std.specs.List.{filter}
+use Rattle.out_points.specs.Tables.{done, refused, told, renew}
+use Rattle.exclusion_entries.specs.Exclusions.{MapEntry, Ruling, has_hash, without, remove_on, truncated, truncate_on, pending, fitting, entering, add_on, entered, migrate_on}
 use Rattle.table_bytes.specs.Lent.{After, leaving, with_bytes}
 use Rattle.exclusion_entries.specs.declared.{Rule.Rule, Survey.Survey}
 use Rattle.exclusion_entries.specs.Entries.{map_bytes, FitEntry, excluded_at, is_map}
-use Rattle.exclusion_entries.specs.Survey.{keeps, takes, stay, loses, survey_of}
+use Rattle.exclusion_entries.specs.Inner.{keeps, takes, stay, loses, survey_of}
 use Rattle.exclusion_entries.proofs.EntryLaws.{entries-size}
 use Rattle.exclusion_entries.proofs.MapLaws.{map-long, map-few, map-count, map-points, map_same, map-fits, map-size, splice-back}
 use Rattle.exclusion_entries.proofs.StayLaws.{stay-size, stay_all, told_lost, told_good}
@@ -39,7 +40,7 @@ module _ (s tx : List ℕ) (o : Ruling) {r : Bool} (er : r ≡ readable (option 
   unfolding lent_tx told number
   tx_bad h = rw (← er, not-true r h)
 
-  pub tx_read : {a : After (List Entry)} → not r ≡ false → a ≡ lent_map s o → a ≡ lent_tx tx s o
+  pub tx_read : {a : After (List MapEntry)} → not r ≡ false → a ≡ lent_map s o → a ≡ lent_tx tx s o
   unfolding lent_tx
   tx_read h e = e ∙ rw (← er, not-false r h)
 
@@ -64,13 +65,13 @@ kept-left rule s {o} g b e =
     let few : length K < 2 ^ 32 = omega (arith, entries-size K, entries-size L, map-count s g, map-few s g, map-points s g) in
     let room : 0 + length (map_bytes K) ≤ length s = omega (arith, map-size K, entries-size K, entries-size L, map-count s g, map-few s g, map-points s g, map-long s g) in
     let means : excluded_at o ≡ K = splice-back s K few (stay_all (keeps rule) (takes rule) FitEntry false L (map-fits s b)) e in
-    ap₂ (λ (l : List Entry) (x : List ℕ). done (l, x)) means (e ∙ sym (put_yes s 0 (map_bytes K) room))
+    ap₂ (λ (l : List MapEntry) (x : List ℕ). done (l, x)) means (e ∙ sym (put_yes s 0 (map_bytes K) room))
 
-stay-removed : (h : Byte32) (l : List Entry) → stay (keeps (Rule.Remove h)) (takes (Rule.Remove h)) false l ≡ without h l
+stay-removed : (h : Byte32) (l : List MapEntry) → stay (keeps (Rule.Remove h)) (takes (Rule.Remove h)) false l ≡ without h l
 unfolding keeps takes without
 stay-removed h l = stay-keep (keeps (Rule.Remove h)) (takes (Rule.Remove h)) (λ e. refl) l
 
-stay-truncated : (tip : BlockNumber) (l : List Entry) → stay (keeps (Rule.Truncate tip)) (takes (Rule.Truncate tip)) false l ≡ truncated tip l
+stay-truncated : (tip : BlockNumber) (l : List MapEntry) → stay (keeps (Rule.Truncate tip)) (takes (Rule.Truncate tip)) false l ≡ truncated tip l
 unfolding keeps takes truncated
 stay-truncated tip l = stay-keep (keeps (Rule.Truncate tip)) (takes (Rule.Truncate tip)) (λ e. refl) l
 
@@ -81,9 +82,9 @@ added-is : {k h : Byte32} (tx : List ℕ) {f : List ℕ} → k ≡ h → f ≡ r
 unfolding entry_with spent_by spent_at pending
 added-is tx ek ef = rw (ek, ef)
 
-entering-some : (l : List Entry) {k h : Byte32} (tx : List ℕ) {f : List ℕ} → k ≡ h → f ≡ raw_field tx 3 → (length tx ≡ 0 → ⊥) → fitting (renew (has_hash h) (entry_with k f) l) ≡ entering l h tx
+entering-some : (l : List MapEntry) {k h : Byte32} (tx : List ℕ) {f : List ℕ} → k ≡ h → f ≡ raw_field tx 3 → (length tx ≡ 0 → ⊥) → fitting (renew (has_hash h) (entry_with k f) l) ≡ entering l h tx
 unfolding entering
-entering-some l {k} {h} tx ek ef z = rw (ne_eqb (length tx) 0 z) (ap (λ (x : Entry). fitting (renew (has_hash h) x l)) (added-is tx ek ef))
+entering-some l {k} {h} tx ek ef z = rw (ne_eqb (length tx) 0 z) (ap (λ (x : MapEntry). fitting (renew (has_hash h) x l)) (added-is tx ek ef))
 
 pub add_bad : (s hash tx : List ℕ) {e : Refusal} → Err e ≡ hash_of hash → told (with_bytes excluded_at) (Err e) s ≡ lent_map s (add_on (excluded_at s) hash tx)
 unfolding told add_on number
@@ -100,13 +101,13 @@ module _ (s hash tx : List ℕ) {h : Byte32} (eh : Ok h ≡ hash_of hash) where
       let i = told_good rule s ev in
       lent-on s (add_on (excluded_at s) hash tx) i (same_left s i b ∙ ap (leaving map_bytes s) (sym (rw (eq-eqb (length tx) 0 z)) ∙ enters))
 
-  pub add_done : {k : Byte32} {f : List ℕ} {v : Survey} {a : After (List Entry)} → Ok v ≡ survey_of (Rule.Enter h) s → k ≡ h → f ≡ raw_field tx 3 → (length tx ≡ 0 → ⊥)
-      → a ≡ leaving map_bytes s (fitting (renew (takes (Rule.Enter h)) (entry_with k f) (keep (keeps (Rule.Enter h)) (excluded_at s)))) → a ≡ lent_map s (add_on (excluded_at s) hash tx)
+  pub add_done : {k : Byte32} {f : List ℕ} {v : Survey} {a : After (List MapEntry)} → Ok v ≡ survey_of (Rule.Enter h) s → k ≡ h → f ≡ raw_field tx 3 → (length tx ≡ 0 → ⊥)
+      → a ≡ leaving map_bytes s (fitting (renew (takes (Rule.Enter h)) (entry_with k f) (filter (keeps (Rule.Enter h)) (excluded_at s)))) → a ≡ lent_map s (add_on (excluded_at s) hash tx)
   unfolding keeps takes
   add_done {k} {f} ev ek ef z e =
       lent-on s (add_on (excluded_at s) hash tx) (told_good (Rule.Enter h) s ev)
       (e ∙ ap (leaving map_bytes s)
-      (ap (λ (l : List Entry). fitting (renew (has_hash h) (entry_with k f) l)) (keep_all (λ e. true) (λ e. refl) (excluded_at s)) ∙ entering-some (excluded_at s) tx ek ef z ∙ enters))
+      (ap (λ (l : List MapEntry). fitting (renew (has_hash h) (entry_with k f) l)) (keep_all (λ e. true) (λ e. refl) (excluded_at s)) ∙ entering-some (excluded_at s) tx ek ef z ∙ enters))
 
 -- ---- remove, truncate
 
@@ -128,11 +129,11 @@ pub truncate-done : (s : List ℕ) (tip : BlockNumber) {v : Survey} {o : List �
 unfolding truncate_on
 truncate-done s tip ev b e =
     let i = told_good (Rule.Truncate tip) s ev in
-    lent-on s (truncate_on (excluded_at s) tip) i (kept-left (Rule.Truncate tip) s i b e ∙ ap (λ (l : List Entry). leaving {T = Unit {0}} map_bytes s (done l)) (stay-truncated tip (excluded_at s)))
+    lent-on s (truncate_on (excluded_at s) tip) i (kept-left (Rule.Truncate tip) s i b e ∙ ap (λ (l : List MapEntry). leaving {T = Unit {0}} map_bytes s (done l)) (stay-truncated tip (excluded_at s)))
 
 -- ---- migrate
 
-lost_entered : (o h : Byte32) (l : List Entry) → loses (keeps (Rule.Migrate o h)) (takes (Rule.Migrate o h)) l ≡ entered o l
+lost_entered : (o h : Byte32) (l : List MapEntry) → loses (keeps (Rule.Migrate o h)) (takes (Rule.Migrate o h)) l ≡ entered o l
 unfolding loses keeps entered
 lost_entered o h [] = refl
 lost_entered o h (e ∷ l) = by (lost_entered o h l) (has_hash o e)
@@ -142,14 +143,14 @@ lost_entered o h (e ∷ l) = by (lost_entered o h l) (has_hash o e)
     by r false = r
 
 -- of an unknown hash nothing goes
-without-none : (o : Byte32) (l : List Entry) → entered o l ≡ false → without o l ≡ l
-unfolding without keep entered
+without-none : (o : Byte32) (l : List MapEntry) → entered o l ≡ false → without o l ≡ l
+unfolding without entered
 without-none o [] e = refl
 without-none o (x ∷ l) e = by (without-none o l) (has_hash o x) e
   where
     by : (entered o l ≡ false → without o l ≡ l) → (t : Bool) → cond t true (entered o l) ≡ false → cond (not t) (x ∷ without o l) (without o l) ≡ x ∷ l
     by r true f = absurd (let z : ◌≡◌ {A = ℕ} 0 1 = cc in omega arith)
-    by r false f = ap (λ (k : List Entry). x ∷ k) (r f)
+    by r false f = ap (λ (k : List MapEntry). x ∷ k) (r f)
 
 pub migrate_bad_old : (s old new tx : List ℕ) {e : Refusal} → Err e ≡ hash_of old → told (with_bytes excluded_at) (Err e) s ≡ lent_map s (migrate_on (excluded_at s) old new tx)
 unfolding told migrate_on number
@@ -165,7 +166,7 @@ migrate_bad_new s old new tx h = let (n, k) = hash_bad new h in rw k (lent_unrea
     by false = refl
 
 -- by none, the old one is removed
-moved_none : (l : List Entry) (old new tx : List ℕ) {h : Byte32} → Ok h ≡ hash_of new → length tx ≡ 0 → remove_on l old ≡ migrate_on l old new tx
+moved_none : (l : List MapEntry) (old new tx : List ℕ) {h : Byte32} → Ok h ≡ hash_of new → length tx ≡ 0 → remove_on l old ≡ migrate_on l old new tx
 unfolding remove_on migrate_on entering
 moved_none l old new tx eh z =
     let (n, k) = hash_good new eh in
@@ -175,7 +176,7 @@ moved_none l old new tx eh z =
     by true k = rw k
     by false k = rw k (ap done (without-none (byte32_at old 0) l k))
 
-pub none_done : (s old new tx : List ℕ) {h : Byte32} {a : After (List Entry)} → Ok h ≡ hash_of new → length tx ≡ 0 → a ≡ lent_map s (remove_on (excluded_at s) old) → a ≡ lent_map s (migrate_on (excluded_at s) old new tx)
+pub none_done : (s old new tx : List ℕ) {h : Byte32} {a : After (List MapEntry)} → Ok h ≡ hash_of new → length tx ≡ 0 → a ≡ lent_map s (remove_on (excluded_at s) old) → a ≡ lent_map s (migrate_on (excluded_at s) old new tx)
 none_done s old new tx eh z e = e ∙ ap (lent_map s) (moved_none (excluded_at s) old new tx eh z)
 
 module _ (s old new tx : List ℕ) {o h : Byte32} (eo : Ok o ≡ hash_of old) (eh : Ok h ≡ hash_of new) {v : Survey} (ev : Ok v ≡ survey_of (Rule.Migrate o h) s) where
@@ -192,8 +193,8 @@ module _ (s old new tx : List ℕ) {o h : Byte32} (eo : Ok o ≡ hash_of old) (e
       let q : entered o (excluded_at s) ≡ false = sym is-entered ∙ u in
       lent-on s (migrate_on (excluded_at s) old new tx) i (same_left s i b ∙ ap (leaving map_bytes s) (rw q at goes))
 
-  pub migrate-done : {k : Byte32} {f : List ℕ} {a : After (List Entry)} → v.lost ≡ true → k ≡ h → f ≡ raw_field tx 3 → (length tx ≡ 0 → ⊥)
-      → a ≡ leaving map_bytes s (fitting (renew (takes (Rule.Migrate o h)) (entry_with k f) (keep (keeps (Rule.Migrate o h)) (excluded_at s)))) → a ≡ lent_map s (migrate_on (excluded_at s) old new tx)
+  pub migrate-done : {k : Byte32} {f : List ℕ} {a : After (List MapEntry)} → v.lost ≡ true → k ≡ h → f ≡ raw_field tx 3 → (length tx ≡ 0 → ⊥)
+      → a ≡ leaving map_bytes s (fitting (renew (takes (Rule.Migrate o h)) (entry_with k f) (filter (keeps (Rule.Migrate o h)) (excluded_at s)))) → a ≡ lent_map s (migrate_on (excluded_at s) old new tx)
   unfolding keeps takes without
   migrate-done u ek ef z e =
       let i = told_good (Rule.Migrate o h) s ev in

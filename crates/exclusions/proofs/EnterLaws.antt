@@ -23,15 +23,16 @@ use Rattle.transaction.specs.Tx.{raw_field, previous_output_of}
 use Rattle.transaction.proofs.TableLaws.{raw_3, transaction_0}
 use Rattle.out_points.specs.declared.{Byte32.Byte32, OutPoint.OutPoint}
 use Rattle.out_points.specs.OutPoints.{Fit, out_point_at}
-use Rattle.out_points.specs.Tables.{done, told, keep, renew}
+use Rattle.std.specs.List.{filter}
+use Rattle.out_points.specs.Tables.{done, told, renew}
 use Rattle.out_points.proofs.EqualLaws.{and_both}
 use Rattle.molecule.proofs.ItemsLaws.{bytes_drop, bytes_take}
 use Rattle.out_points.proofs.AgainLaws.{point-fits, item-bytes}
-use Rattle.exclusion_entries.specs.Exclusions.{Entry, excluded, fitting}
+use Rattle.exclusion_entries.specs.Exclusions.{MapEntry, excluded, fitting}
 use Rattle.table_bytes.specs.Lent.{leaving, with_bytes}
 use Rattle.exclusion_entries.specs.declared.{Rule.Rule, Survey.Survey}
 use Rattle.exclusion_entries.specs.Entries.{block_of, map_bytes, FitEntry, excluded_at}
-use Rattle.exclusion_entries.specs.Survey.{keeps, takes, stay, ahead, behind, survey_of}
+use Rattle.exclusion_entries.specs.Inner.{keeps, takes, stay, ahead, behind, survey_of}
 use Rattle.exclusion_entries.proofs.MapLaws.{map-long, map-fits, map-size, splice-back}
 use Rattle.exclusion_entries.proofs.StayLaws.{stay-split, stay_all, renew-split, told_good, told_stays, told-points}
 use Rattle.exclusions.specs.Steps.{spent_at, spent_by, entry_with}
@@ -89,23 +90,23 @@ module _ (hash : Byte32) (f : List ℕ) (b : AllBytes f) (fa : hash.a < 2 ^ 64) 
 
 -- ---- the table with the new entry
 
-excluded-join : (l r : List Entry) → excluded (l ++ r) ≡ excluded l ++ excluded r
+excluded-join : (l r : List MapEntry) → excluded (l ++ r) ≡ excluded l ++ excluded r
 unfolding excluded
 excluded-join [] r = refl
 excluded-join (e ∷ l) r = ap (λ (x : List OutPoint). e.points ++ x) (excluded-join l r) ∙ sym (append_assoc e.points (excluded l) (excluded r))
 
-all_between : (P : Entry → Type 0) (l r : List Entry) (x : Entry) → All P (l ++ r) → P x → All P (l ++ (x ∷ r))
+all_between : (P : MapEntry → Type 0) (l r : List MapEntry) (x : MapEntry) → All P (l ++ r) → P x → All P (l ++ (x ∷ r))
 all_between P [] r x a p = (p, a)
 all_between P (e ∷ l) r x a p = (a.0, all_between P l r x a.1 p)
 
 module _ (rule : Rule) (s : List ℕ) (hash : Byte32) (f : List ℕ) {v : Survey} (ev : Ok v ≡ survey_of rule s) {n : ℕ} (en : n ≡ fix_count f) where
-  abbrev after : List Entry
-  after = renew (takes rule) (entry_with hash f) (keep (keeps rule) (excluded_at s))
+  abbrev after : List MapEntry
+  after = renew (takes rule) (entry_with hash f) (filter (keeps rule) (excluded_at s))
 
-  abbrev A : List Entry
+  abbrev A : List MapEntry
   A = ahead (keeps rule) (takes rule) (excluded_at s)
 
-  abbrev B : List Entry
+  abbrev B : List MapEntry
   B = behind (keeps rule) (takes rule) (excluded_at s)
 
   after_is : after ≡ A ++ (entry_with hash f ∷ B)
@@ -123,8 +124,8 @@ module _ (rule : Rule) (s : List ℕ) (hash : Byte32) (f : List ℕ) {v : Survey
       let x = entry_with hash f in
       let z : length (excluded (A ++ (x ∷ B))) ≡ length (excluded A) + (length x.points + length (excluded B)) =
       ap length (excluded-join A (x ∷ B)) ∙ length-append (excluded A) (x.points ++ excluded B) ∙ ap (λ (k : ℕ). length (excluded A) + k) (length-append x.points (excluded B)) in
-      let y : v.points ≡ length (excluded A) + length (excluded B) = told-points rule s ev ∙ ap (λ (l : List Entry). length (excluded l)) split ∙ ap length (excluded-join A B) ∙ length-append (excluded A) (excluded B) in
-      ap (λ (l : List Entry). length (excluded l)) after_is ∙ z ∙ omega (arith, entry-count hash f)
+      let y : v.points ≡ length (excluded A) + length (excluded B) = told-points rule s ev ∙ ap (λ (l : List MapEntry). length (excluded l)) split ∙ ap length (excluded-join A B) ∙ length-append (excluded A) (excluded B) in
+      ap (λ (l : List MapEntry). length (excluded l)) after_is ∙ z ∙ omega (arith, entry-count hash f)
 
   pub enter_many : 64 ≤ v.stays → told (with_bytes excluded_at) (Err Refusal.TooManyExclusions) s ≡ leaving map_bytes s (fitting after)
   unfolding told number leaving fitting
@@ -144,4 +145,4 @@ module _ (rule : Rule) (s : List ℕ) (hash : Byte32) (f : List ℕ) {v : Survey
         let fits : All FitEntry (A ++ B) = rw split at (stay_all (keeps rule) (takes rule) FitEntry false (excluded_at s) (map-fits s b)) in
         let all : All FitEntry after = rw after_is (all_between FitEntry A B (entry_with hash f) fits (entry-fits hash f bt fa fb fc fd (omega arith))) in
         let means : excluded_at o ≡ after = splice-back s after (omega (arith, after-count)) all eo in
-        rw (le-leb (length after) 64 (omega (arith, after-count)), le-leb (length (excluded after)) 512 (omega (arith, after-points))) (ap₂ (λ (l : List Entry) (x : List ℕ). done (l, x)) means put)
+        rw (le-leb (length after) 64 (omega (arith, after-count)), le-leb (length (excluded after)) 512 (omega (arith, after-points))) (ap₂ (λ (l : List MapEntry) (x : List ℕ). done (l, x)) means put)

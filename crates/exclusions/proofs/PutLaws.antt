@@ -20,15 +20,16 @@ use Rattle.lists.proofs.SpanLaws.{span-on, span-end, span-whole}
 use Rattle.transaction.specs.Tx.{previous_output_of}
 use Rattle.out_points.specs.declared.{Byte32.Byte32}
 use Rattle.out_points.specs.OutPoints.{out_point_at, hash_bytes, point_bytes, bytes_of, point_list}
-use Rattle.out_points.specs.Tables.{keep, renew}
+use Rattle.std.specs.List.{filter}
+use Rattle.out_points.specs.Tables.{renew}
 use Rattle.out_points.proofs.PointLaws.{length-hash}
 use Rattle.out_points.proofs.ListLaws.{length-bytes}
 use Rattle.molecule.proofs.ItemsLaws.{bytes_drop, bytes_take}
 use Rattle.out_points.proofs.AgainLaws.{point_again}
-use Rattle.exclusion_entries.specs.Exclusions.{Entry}
+use Rattle.exclusion_entries.specs.Exclusions.{MapEntry}
 use Rattle.exclusion_entries.specs.declared.{Rule.Rule, Survey.Survey}
-use Rattle.exclusion_entries.specs.Entries.{kind_of, block_of, state_bytes, entry_bytes, entries_bytes, map_bytes, excluded_at}
-use Rattle.exclusion_entries.specs.Survey.{keeps, takes, stay, ahead, behind, survey_of}
+use Rattle.exclusion_entries.specs.Entries.{state_kind, block_of, state_bytes, entry_bytes, entries_bytes, map_bytes, excluded_at}
+use Rattle.exclusion_entries.specs.Inner.{keeps, takes, stay, ahead, behind, survey_of}
 use Rattle.exclusion_entries.proofs.EntryLaws.{length-entry, entries-size, bytes-join}
 use Rattle.exclusion_entries.proofs.MapLaws.{map-long, map-few, map-count, map-points}
 use Rattle.exclusion_entries.proofs.SpliceLaws.{splice-none, splice-then, splice-under, splice-over, part-splice}
@@ -46,7 +47,7 @@ length_head h n = simp (length-append, length-hash, length-to_le)
 module _ (out : List ℕ) (at : ℕ) (h : Byte32) (f : List ℕ) (r : at + 48 ≤ length out) {n : ℕ} (en : n ≡ fix_count f) {o₁ o₂ o₃ : List ℕ} {n₁ n₂ n₃ n₄ : ℕ} (e₁ : o₁ ≡ put_at out at (hash_bytes h)) (f₁ : n₁ ≡ put_end out at (hash_bytes h))
     (e₂ : o₂ ≡ put_at o₁ n₁ (to_le 4 0)) (f₂ : n₂ ≡ put_end o₁ n₁ (to_le 4 0)) (e₃ : o₃ ≡ put_at o₂ n₂ (to_le 8 0)) (f₃ : n₃ ≡ put_end o₂ n₂ (to_le 8 0)) (f₄ : n₄ ≡ put_end o₃ n₃ (to_le 4 n)) where
   pub head_put : {o₄ : List ℕ} → o₄ ≡ put_at o₃ n₃ (to_le 4 n) → Put out at (head_bytes h (fix_count f)) o₄ n₄
-  unfolding head_bytes state_bytes kind_of block_of
+  unfolding head_bytes state_bytes state_kind block_of
   head_put e₄ =
       let a = length-hash h in
       let b = length-to_le 4 0 in
@@ -206,13 +207,13 @@ module _ (s : List ℕ) (v : Survey) (hash : Byte32) (f : List ℕ) {n : ℕ} (e
 -- ---- the whole table: the entries that stay stand together in s₁
 
 module _ (rule : Rule) (s : List ℕ) {v : Survey} (ev : Ok v ≡ survey_of rule s) where
-  abbrev stays : List Entry
+  abbrev stays : List MapEntry
   stays = stay (keeps rule) (takes rule) false (excluded_at s)
 
-  abbrev A : List Entry
+  abbrev A : List MapEntry
   A = ahead (keeps rule) (takes rule) (excluded_at s)
 
-  abbrev B : List Entry
+  abbrev B : List MapEntry
   B = behind (keeps rule) (takes rule) (excluded_at s)
 
   parts : entries_bytes stays ≡ entries_bytes A ++ entries_bytes B
@@ -248,7 +249,7 @@ module _ (rule : Rule) (s : List ℕ) {v : Survey} (ev : Ok v ≡ survey_of rule
       replace_room = omega (arith, length-gathered, map-long s (told_good rule s ev))
 
       pub replace_put : splice (splice s₁ v.place (entry_bytes (entry_with hash f) ++ take (4 + 48 * v.stays + 36 * v.points - v.place) (drop v.place s₁))) 0 (to_le 4 (v.stays + 1))
-          ≡ splice s 0 (map_bytes (renew (takes rule) (entry_with hash f) (keep (keeps rule) (excluded_at s))))
+          ≡ splice s 0 (map_bytes (renew (takes rule) (entry_with hash f) (filter (keeps rule) (excluded_at s))))
       unfolding map_bytes entries_bytes
       replace_put =
           let x = entry_with hash f in
@@ -271,10 +272,10 @@ module _ (rule : Rule) (s : List ℕ) {v : Survey} (ev : Ok v ≡ survey_of rule
           rw tail (ap₂ (λ (a : List ℕ) (k : ℕ). splice a k W) (t ∙ sym (splice-then s 4 bA bB room)) p
           ∙ splice-over (splice s 4 bA) (4 + length bA) W bB (omega (arith, splice-length s 4 bA (omega arith), sizes)) (omega arith)
           ∙ splice-then s 4 bA W (omega (arith, sizes))) in
-          let after : renew (takes rule) x (keep (keeps rule) (excluded_at s)) ≡ A ++ (x ∷ B) = renew-split (keeps rule) (takes rule) x (excluded_at s) in
+          let after : renew (takes rule) x (filter (keeps rule) (excluded_at s)) ≡ A ++ (x ∷ B) = renew-split (keeps rule) (takes rule) x (excluded_at s) in
           let count : length (A ++ (x ∷ B)) ≡ v.stays + 1 =
           length-append A (x ∷ B) ∙ omega (arith, told_stays rule s ev, ap length (stay-split (keeps rule) (takes rule) (excluded_at s)), length-append A B) in
           ap (λ (a : List ℕ). splice a 0 C) (inner ∙ ap (λ (k : ℕ). splice s k (bA ++ W)) (sym z))
           ∙ splice-under s 0 C (bA ++ W) (omega (arith, length-append bA W, sizes))
           ∙ ap₂ (λ (k : ℕ) (a : List ℕ). splice s 0 (to_le 4 k ++ a)) (sym count) (sym (bytes-join A (x ∷ B)))
-          ∙ ap (λ (a : List Entry). splice s 0 (to_le 4 (length a) ++ entries_bytes a)) (sym after)
+          ∙ ap (λ (a : List MapEntry). splice s 0 (to_le 4 (length a) ++ entries_bytes a)) (sym after)

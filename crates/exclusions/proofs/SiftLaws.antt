@@ -13,10 +13,10 @@ use Rattle.molecule.specs.Layout.{part, word}
 use Rattle.molecule.specs.Write.{splice}
 use Rattle.molecule.proofs.WriteLaws.{splice-length}
 use Rattle.molecule.proofs.ItemsLaws.{bytes_drop}
-use Rattle.exclusion_entries.specs.Exclusions.{Entry}
+use Rattle.exclusion_entries.specs.Exclusions.{MapEntry}
 use Rattle.exclusion_entries.specs.declared.{Rule.Rule, Survey.Survey}
 use Rattle.exclusion_entries.specs.Entries.{entry_bytes, entries_bytes, entry_of, size_of, entries_in, excluded_at, are_entries, map_size}
-use Rattle.exclusion_entries.specs.Survey.{keeps, takes, stay, front, survey_of}
+use Rattle.exclusion_entries.specs.Inner.{keeps, takes, stay, front, survey_of}
 use Rattle.exclusion_entries.proofs.EntryLaws.{from-here, entry_again, first-is, first-room, rest_are, entries-size, points_most, entries-long, bytes-join}
 use Rattle.exclusion_entries.proofs.MapLaws.{map-long, map-few, map_are, map_again, Cut, cut}
 use Rattle.exclusion_entries.proofs.SpliceLaws.{splice-none, drop-splice, splice-same, splice-then}
@@ -107,7 +107,7 @@ module _ {rule : Rule} {s₀ : List ℕ} {n : ℕ} {s : List ℕ} {c : Sift} {i 
 
     -- after the entry, by what becomes of it
     module _ (d : Sift) (o : List ℕ) where
-      abbrev rest : List Entry
+      abbrev rest : List MapEntry
       rest = entries_in (n - (i + 1)) (drop (size_of x) x)
 
       beyond : drop (size_of x) x ≡ drop (c.at + size_of x) s₀
@@ -193,7 +193,7 @@ module _ (rule : Rule) (s : List ℕ) {v : Survey} {n : ℕ} (b : AllBytes s) (e
       let index : v.index ≡ k = told-index rule s e in
       let lk : k ≤ m = let z = ap length (front-is f p L) in omega (arith, length-take k L, entries-long m x) in
       let c : Cut m 512 x k = cut k m 512 x lk (map_are s g) (rw (length-drop 4 s) (omega arith)) in
-      let size : c.size ≡ length B = c.sized ∙ ap (λ (t : List Entry). length (entries_bytes t)) (sym (front-is f p L)) in
+      let size : c.size ≡ length B = c.sized ∙ ap (λ (t : List MapEntry). length (entries_bytes t)) (sym (front-is f p L)) in
       let here : v.from ≡ 4 + c.size = omega arith in
       let beyond : drop c.size x ≡ drop v.from s = drop-drop c.size 4 s ∙ ap (λ (i : ℕ). drop i s) (sym here) in
       let z : n - v.index ≡ m - k = omega arith in
@@ -202,7 +202,7 @@ module _ (rule : Rule) (s : List ℕ) {v : Survey} {n : ℕ} (b : AllBytes s) (e
       let W = entries_bytes (stay f p false D) in
       let rest : entries_in (n - v.index) (drop v.from s) ≡ D = ap₂ entries_in z (sym beyond) ∙ c.rest in
       let parts : entries_bytes (stay f p false L) ≡ B ++ W = ap entries_bytes (stay-front f p L) ∙ bytes-join F (stay f p false D) in
-      let whole : entries_bytes L ≡ B ++ entries_bytes D = ap entries_bytes (sym (take-append-drop k L) ∙ ap (λ (t : List Entry). t ++ D) (sym (front-is f p L))) ∙ bytes-join F D in
+      let whole : entries_bytes L ≡ B ++ entries_bytes D = ap entries_bytes (sym (take-append-drop k L) ∙ ap (λ (t : List MapEntry). t ++ D) (sym (front-is f p L))) ∙ bytes-join F D in
       let Z = drop (length (entries_bytes L)) x in
       let stands : take (length B) x ≡ B =
       ap (take (length B)) (map_again s g b ∙ ap (λ (t : List ℕ). t ++ Z) whole ∙ append_assoc B (entries_bytes D) Z) ∙ take_at B (entries_bytes D ++ Z) (length B) refl in
@@ -218,7 +218,7 @@ module _ (rule : Rule) (s : List ℕ) {v : Survey} {n : ℕ} (b : AllBytes s) (e
         reads = rw (z, ← beyond) c.reads;
         unread = refl;
         made =
-            ap₂ (λ (i : ℕ) (t : List Entry). splice s i (entries_bytes (stay f p false t))) from rest
+            ap₂ (λ (i : ℕ) (t : List MapEntry). splice s i (entries_bytes (stay f p false t))) from rest
             ∙ ap (λ (t : List ℕ). splice t (4 + length B) W) (sym (splice-same s 4 B stands))
             ∙ splice-then s 4 B W most
             ∙ ap (splice s 4) (sym parts);

@@ -1,6 +1,6 @@
 -- A pass over a map, with its rule.
 use Rattle.std.specs.Prelude.{◌≡◌, ℕ, ◌+◌, ◌*◌, List, Ok}
-use Rattle.exclusion_entries.specs.Survey.{survey_of}
+use Rattle.exclusion_entries.specs.Inner.{survey_of}
 use Rattle.exclusions.specs.declared.{changes.Pass.Pass}
 
 -- the bytes are a map, and this is what the pass finds there

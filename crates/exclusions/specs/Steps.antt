@@ -8,9 +8,9 @@ use Rattle.transaction.specs.Tx.{previous_output_of}
 use Rattle.out_points.specs.declared.{Byte32.Byte32, OutPoint.OutPoint}
 use Rattle.out_points.specs.OutPoints.{out_point_at, hash_bytes}
 use Rattle.exclusion_entries.specs.declared.{Rule.Rule}
-use Rattle.exclusion_entries.specs.Exclusions.{Entry}
+use Rattle.exclusion_entries.specs.Exclusions.{MapEntry}
 use Rattle.exclusion_entries.specs.Entries.{state_bytes, entry_of, size_of}
-use Rattle.exclusion_entries.specs.Survey.{keeps, takes}
+use Rattle.exclusion_entries.specs.Inner.{keeps, takes}
 use Rattle.exclusions.specs.declared.{changes.Sift.Sift}
 
 -- entries that stay are moved together: where the pass is after an entry of so many bytes that is kept or gives its place, and the bytes then
@@ -45,5 +45,5 @@ unfoldable pub spent_by : List ℕ → List OutPoint
 spent_by inputs = map spent_at (fix_items 44 inputs)
 
 -- the entry of a transaction with this hash and these inputs
-unfoldable pub entry_with : Byte32 → List ℕ → Entry
+unfoldable pub entry_with : Byte32 → List ℕ → MapEntry
 entry_with h inputs = record { hash = h; committed = none; points = spent_by inputs }

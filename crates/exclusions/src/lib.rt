@@ -3,11 +3,12 @@
 #![tactic(auto, using(crate::proofs::Ways::ways))]
 
 ghost use Rattle.std.specs.Prelude.{◌≡◌};
-ghost use Rattle.out_points.specs.Tables.{told, keep, renew};
+ghost use Rattle.std.specs.List.{filter};
+ghost use Rattle.out_points.specs.Tables.{told, renew};
 ghost use Rattle.exclusion_entries.specs.Exclusions.{remove_on, truncate_on, fitting, add_on, migrate_on};
 ghost use Rattle.table_bytes.specs.Lent.{leaving, with_bytes};
 ghost use Rattle.exclusion_entries.specs.Entries.{map_bytes, excluded_at};
-ghost use Rattle.exclusion_entries.specs.Survey.{keeps, takes};
+ghost use Rattle.exclusion_entries.specs.Inner.{keeps, takes};
 ghost use Rattle.exclusion_entries.specs.LentMap.{lent_map, lent_tx};
 ghost use Rattle.exclusions.specs.Steps.{entry_with};
 ghost use Rattle.exclusions.specs.Found.{Found};
@@ -25,7 +26,7 @@ mod entry;
 // Adds an entry to the table that the pass leaves, where there is room.
 fn enter(map: &mut [u8], pass: Pass, added: NewEntry<'_>) -> Answer
     requires { Found pass map.old }
-    ensures { told (with_bytes excluded_at) result map.new ≡ leaving map_bytes map.old (fitting (renew (takes pass.rule) (entry_with added.entry.hash added.entry.inputs.now) (keep (keeps pass.rule) (excluded_at map.old)))) }
+    ensures { told (with_bytes excluded_at) result map.new ≡ leaving map_bytes map.old (fitting (renew (takes pass.rule) (entry_with added.entry.hash added.entry.inputs.now) (filter (keeps pass.rule) (excluded_at map.old)))) }
 {
     are_bytes(map);
     are_bytes(added.inputs);

@@ -25,7 +25,7 @@ use Rattle.table_bytes.specs.Places.{FitPlace, place_of, places, places_bytes}
 use Rattle.table_bytes.proofs.AgainLaws.{count_zero}
 use Rattle.table_bytes.proofs.LoopLaws.{Reading, read_end, Putting, put_end_lem, put_fit, put_long}
 use Rattle.table_bytes.proofs.TableLaws.{table_short, table-room, table_put, records-back, records_put, records_again}
-use Rattle.held_bytes.specs.HeldBytes.{held_size, owner_of, hold_of, held_of, held_at, kind_of, number_of, place_for, held_bytes}
+use Rattle.held_bytes.specs.HeldBytes.{held_size, owner_of, hold_of, held_of, held_at, owner_kind, owner_number, place_for, held_bytes}
 
 -- ---- one record
 
@@ -39,11 +39,11 @@ hold-tower p n = rw (ne_eqb p.kind 0 n)
 
 module _ (r : Hold) where
   pub place-funding : {n : ℕ} → r.owner ≡ Owner.Funding n → ◌≡◌ {A = Place} (record { point = r.point; kind = 0; number = n }) (place_for r)
-  unfolding place_for kind_of number_of
+  unfolding place_for owner_kind owner_number
   place-funding e = rw e
 
   pub place-tower : {t : Millis} → r.owner ≡ Owner.Watchtower t → ◌≡◌ {A = Place} (record { point = r.point; kind = 1; number = t.0 }) (place_for r)
-  unfolding place_for kind_of number_of
+  unfolding place_for owner_kind owner_number
   place-tower e = rw e
 
   pub fit-funding : {n : ℕ} → Fit r.point → n < 2 ^ 64 → FitPlace (record { point = r.point; kind = 0; number = n })
@@ -53,10 +53,10 @@ module _ (r : Hold) where
   fit-tower f b = record { point-fits = f; kind_fits = omega arith; number_fits = b }
 
 same-hold : (r : Hold) → hold_of (place_for r) ≡ r
-unfolding hold_of owner_of place_for kind_of number_of
+unfolding hold_of owner_of place_for owner_kind owner_number
 same-hold r = ap (λ (o : Owner). record { point = r.point; owner = o }) (by r.owner)
   where
-    by : (o : Owner) → owner_of (kind_of o) (number_of o) ≡ o
+    by : (o : Owner) → owner_of (owner_kind o) (owner_number o) ≡ o
     by (Owner.Funding n) = refl
     by (Owner.Watchtower t) = refl
 
@@ -140,11 +140,11 @@ unfolding held_at held_of records_of held_bytes
 held_back l z h f = records-back hold_of place_for same-hold l z 256 h (omega arith) f
 
 -- and a table in bytes, written again, means the same
-owner_fits : (k n : ℕ) → n < 2 ^ 64 → (kind_of (owner_of k n) < 2 ^ 32) × (number_of (owner_of k n) < 2 ^ 64)
-unfolding owner_of kind_of number_of
+owner_fits : (k n : ℕ) → n < 2 ^ 64 → (owner_kind (owner_of k n) < 2 ^ 32) × (owner_number (owner_of k n) < 2 ^ 64)
+unfolding owner_of owner_kind owner_number
 owner_fits k n b = by (eqb k 0)
   where
-    by : (t : Bool) → (kind_of (cond t (Owner.Funding n) (Owner.Watchtower (record { 0 = n }))) < 2 ^ 32) × (number_of (cond t (Owner.Funding n) (Owner.Watchtower (record { 0 = n }))) < 2 ^ 64)
+    by : (t : Bool) → (owner_kind (cond t (Owner.Funding n) (Owner.Watchtower (record { 0 = n }))) < 2 ^ 32) × (owner_number (cond t (Owner.Funding n) (Owner.Watchtower (record { 0 = n }))) < 2 ^ 64)
     by true = (omega arith, b)
     by false = (omega arith, b)
 

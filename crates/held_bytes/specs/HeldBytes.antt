@@ -1,10 +1,11 @@
 -- The table of holds in bytes: what lent bytes mean, and the bytes of a list of records.
-use Rattle.std.specs.Prelude.{ℕ, ◌+◌, ◌*◌, cond, List, map, eqb}
+use Rattle.std.specs.Prelude.{ℕ, ◌+◌, ◌*◌, cond, List, map, length, eqb}
 use Rattle.molecule.specs.Layout.{word}
 use Rattle.hold_records.specs.declared.{Owner.Owner, Hold.Hold, Held.Held}
 use Rattle.hold_records.specs.Holds.{records_of}
 use Rattle.table_bytes.specs.declared.{Place.Place}
 use Rattle.table_bytes.specs.Places.{places, table_bytes}
+use Rattle.table_bytes.specs.Lent.{Table, in_bytes}
 
 -- how many bytes a lent table has: the count, and 256 places
 abbrev pub held_size : ℕ
@@ -27,16 +28,20 @@ held_at s = records_of (held_of s)
 
 -- ---- written
 
-unfoldable pub kind_of : Owner → ℕ
-kind_of (Owner.Funding holder) = 0
-kind_of (Owner.Watchtower end) = 1
+unfoldable pub owner_kind : Owner → ℕ
+owner_kind (Owner.Funding holder) = 0
+owner_kind (Owner.Watchtower end) = 1
 
-unfoldable pub number_of : Owner → ℕ
-number_of (Owner.Funding holder) = holder
-number_of (Owner.Watchtower end) = end.0
+unfoldable pub owner_number : Owner → ℕ
+owner_number (Owner.Funding holder) = holder
+owner_number (Owner.Watchtower end) = end.0
 
 unfoldable pub place_for : Hold → Place
-place_for r = record { point = r.point; kind = kind_of r.owner; number = number_of r.owner }
+place_for r = record { point = r.point; kind = owner_kind r.owner; number = owner_number r.owner }
 
 unfoldable pub held_bytes : List Hold → List ℕ
 held_bytes l = table_bytes (map place_for l)
+
+-- the table as it is lent: any bytes of its length are one
+abbrev pub held_table : Table (List ℕ) (List Hold)
+held_table = in_bytes (λ s. eqb (length s) held_size) held_at held_bytes

@@ -1,12 +1,15 @@
 // The calls on a lent table of holds. A table of another length is refused before all else, and a refusal leaves its bytes and the buffers as they were. Parameters
 // stand one by one, as in the C functions of the calls: a struct would be made there for each single call.
+#![tactic(auto, using(crate::proofs::Ways::ways), unfolding(crate::specs::HeldBytes::held_at))]
+
 ghost use Rattle.std.specs.Prelude.{◌≡◌, List, length};
 ghost use Rattle.error.specs.Refusal.{answered};
-ghost use Rattle.out_points.specs.Tables.{Outcome, told};
+ghost use Rattle.error.specs.Outcome.{Outcome};
 ghost use Rattle.hold_records.specs.declared.{Hold.Hold, Held.Held};
-ghost use Rattle.hold_records.specs.Holds.{outcome_on, hold_funding, release_for_watchtower, hold_for_watchtower, lock_held, unavailable, take_cells};
-ghost use Rattle.table_bytes.specs.Lent.{leaving, lent_table, lent_with, lent_with_two, lent_read, with_bytes};
-ghost use Rattle.held_bytes.specs.HeldBytes.{held_size, held_of, held_at, held_bytes};
+ghost use Rattle.hold_records.specs.Holds.{told};
+ghost use Rattle.table_bytes.specs.Lent.{on_table, Leaves};
+ghost use Rattle.held_bytes.specs.HeldBytes.{held_size, held_of, held_table};
+ghost use Rattle.held_bytes.specs.Calls.{HoldsFunding, HoldsForWatchtower, ReleasesForWatchtower, LocksHeld, NamesUnavailable, TakesCells};
 
 use crate::HELD_BYTES;
 use error::{Answer, Refusal};
@@ -16,7 +19,7 @@ use units::Millis;
 // Writes the table that a call returned, if the call is done.
 fn leave(s: &mut [u8], r: Result<Held, Refusal>) -> Answer
     requires { length s.old ≡ held_size }
-    ensures { told (with_bytes held_at) result s.new ≡ leaving held_bytes s.old (outcome_on (held_of s.old) r) }
+    ensures { Leaves held_table s.old (answered result) s.new (told r) }
 {
     let h = r?;
     crate::write_held(h, s);
@@ -29,7 +32,7 @@ fn leave(s: &mut [u8], r: Result<Held, Refusal>) -> Answer
 #[inline(always)]
 fn on_table<F: FnOnce(Held) -> Result<Held, Refusal>>(s: &mut [u8], call: F) -> Answer
     requires { F.IsAlwaysCallable call }
-    ensures { (o : Outcome Held (List Hold)) → ((r : _) → F.post call (held_of s.old) r → outcome_on (held_of s.old) r ≡ o) → told (with_bytes held_at) result s.new ≡ lent_table held_bytes held_size s.old o }
+    ensures { (o : Outcome (List Hold)) → ((r : _) → F.post call (held_of s.old) r → told r ≡ o) → Leaves held_table s.old (answered result) s.new (on_table held_table s.old o) }
 {
     if s.len() != HELD_BYTES {
         return Err(Refusal::LentBytesUnreadable);
@@ -40,14 +43,14 @@ fn on_table<F: FnOnce(Held) -> Result<Held, Refusal>>(s: &mut [u8], call: F) -> 
 
 // The funding inputs that `holder` holds now, in place of the ones that it held before.
 pub fn hold_funding(held: &mut [u8], holder: u64, cells: &[u8]) -> Answer
-    ensures { told (with_bytes held_at) result held.new ≡ lent_table held_bytes held_size held.old (hold_funding (held_of held.old) holder cells.now) }
+    ensures { HoldsFunding held_table held.old (answered result) held.new holder cells.now }
 {
     on_table(held, |h| held_cells::hold_funding(h, holder, cells))
 }
 
 // The cells of a transaction that the watchtower sent are held from `time` on.
 pub fn hold_for_watchtower(held: &mut [u8], cells: &[u8], time: Millis) -> Answer
-    ensures { told (with_bytes held_at) result held.new ≡ lent_table held_bytes held_size held.old (hold_for_watchtower (held_of held.old) cells.now time) }
+    ensures { HoldsForWatchtower held_table held.old (answered result) held.new cells.now time }
 {
     on_table(
         held,
@@ -57,14 +60,14 @@ pub fn hold_for_watchtower(held: &mut [u8], cells: &[u8], time: Millis) -> Answe
 
 // The cells of a transaction that the watchtower could not send are free again.
 pub fn release_for_watchtower(held: &mut [u8], cells: &[u8]) -> Answer
-    ensures { told (with_bytes held_at) result held.new ≡ lent_table held_bytes held_size held.old (release_for_watchtower (held_of held.old) cells.now) }
+    ensures { ReleasesForWatchtower held_table held.old (answered result) held.new cells.now }
 {
     on_table(held, |h| watchtower_holds::release_for_watchtower(h, cells))
 }
 
 // Writes every cell that is held at `time`; watchtower records that have ended are dropped.
 pub fn lock_held(held: &mut [u8], time: Millis, out: &mut [u8]) -> Answer
-    ensures { (told (with_bytes held_at) result held.new, out.new) ≡ lent_with held_bytes held_size held.old out.old (lock_held (held_of held.old) time out.old) }
+    ensures { LocksHeld held_table held.old (answered result) held.new time out.old out.new }
 {
     if held.len() != HELD_BYTES {
         return Err(Refusal::LentBytesUnreadable);
@@ -78,7 +81,7 @@ pub fn lock_held(held: &mut [u8], time: Millis, out: &mut [u8]) -> Answer
 
 // The cells of `picked` that are held at `time` or in `spent`.
 pub fn unavailable(held: &[u8], picked: &[u8], spent: &[u8], time: Millis, out: &mut [u8]) -> Answer
-    ensures { (answered result, out.new) ≡ lent_read held_size held.now out.old (unavailable (held_of held.now) picked.now spent.now time out.old) }
+    ensures { NamesUnavailable held_table held.now (answered result) picked.now spent.now time out.old out.new }
 {
     if held.len() != HELD_BYTES {
         return Err(Refusal::LentBytesUnreadable);
@@ -97,7 +100,7 @@ pub fn take(
     taken: &mut [u8],
     refused: &mut [u8],
 ) -> Answer
-    ensures { (told (with_bytes held_at) result held.new, taken.new, refused.new) ≡ lent_with_two held_bytes held_size held.old taken.old refused.old (take_cells (held_of held.old) picked.now spent.now taker time taken.old refused.old) }
+    ensures { TakesCells held_table held.old (answered result) held.new picked.now spent.now taker time taken.old refused.old taken.new refused.new }
 {
     if held.len() != HELD_BYTES {
         return Err(Refusal::LentBytesUnreadable);

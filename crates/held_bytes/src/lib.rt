@@ -3,9 +3,9 @@
 
 ghost use Rattle.std.specs.Prelude.{◌≡◌, ◌≤◌, length};
 ghost use Rattle.molecule.specs.Write.{put_at};
-ghost use Rattle.out_points.specs.Tables.{keep};
+ghost use Rattle.std.specs.List.{filter};
 ghost use Rattle.hold_records.specs.Holds.{records_of};
-ghost use Rattle.hold_records.specs.Rules.{is_kept};
+ghost use Rattle.hold_records.specs.Inner.{is_kept};
 ghost use Rattle.table_bytes.specs.Places.{FitPlace};
 ghost use Rattle.held_bytes.specs.HeldBytes.{held_size, hold_of, place_for, held_of, held_at, held_bytes};
 
@@ -67,7 +67,7 @@ pub fn read_held(s: &[u8]) -> Held
 
 // The records of the lent table that `rule` keeps, in order: no other place is read.
 pub fn read_kept(s: &[u8], rule: Rule) -> Held
-    ensures result_value { records_of result ≡ keep (is_kept rule) (records_of (held_of s.now)) }
+    ensures result_value { records_of result ≡ filter (is_kept rule) (records_of (held_of s.now)) }
     ensures count_bound { result.count ≤ 256 }
 {
     let mut g = hold_records::empty();

@@ -7,9 +7,9 @@ ghost use Rattle.std.specs.Prelude.{◌≡◌, ◌++◌, map, ◌+◌, ◌-◌, 
 ghost use Rattle.error.specs.Refusal.{answered};
 ghost use Rattle.molecule.specs.Layout.{fix_count};
 ghost use Rattle.out_points.specs.OutPoints.{points};
-ghost use Rattle.out_points.specs.Tables.{keep};
+ghost use Rattle.out_points.specs.Tables.{after_list};
 ghost use Rattle.hold_records.specs.declared.{Owner.Owner, Held.Held};
-ghost use Rattle.hold_records.specs.Holds.{records_of, outcome_on, held_by, hold_funding, lock_held, unavailable, owner_for, take_cells};
+ghost use Rattle.hold_records.specs.Holds.{records_of, told, held_by, hold_funding, lock_held, unavailable, owner_for, take_cells, after_lock, after_take};
 
 use error::{Answer, Refusal};
 use hold_records::{Held, Hold, MOST_RECORDS, Owner, Rule, Taker};
@@ -49,7 +49,7 @@ fn owner_for(taker: Taker, time: Millis) -> Owner
 
 // The funding inputs that `holder` holds now, in place of the ones that it held before.
 pub fn hold_funding(held: Held, holder: u64, cells: &[u8]) -> Result<Held, Refusal>
-    ensures held_value { outcome_on held result ≡ hold_funding held holder cells.now }
+    ensures held_value { told result ≡ hold_funding (records_of held) holder cells.now }
     ensures count_bound { IfOk result (λ g. g.count ≤ 256) }
 {
     if !transaction::is_out_points(cells) {
@@ -66,7 +66,7 @@ pub fn hold_funding(held: Held, holder: u64, cells: &[u8]) -> Result<Held, Refus
 
 // Every cell that is held, for a collector to pick none of them. The watchtower's cells past their hold are let go first.
 pub fn lock_held(held: Held, time: Millis, out: &mut [u8]) -> Result<Held, Refusal>
-    ensures out_after { (outcome_on held result, out.new) ≡ lock_held held time out.old }
+    ensures out_after { (told result, out.new) ≡ after_lock (lock_held (records_of held) time) out.old }
     ensures count_bound { IfOk result (λ g. g.count ≤ 256) }
 {
     let left = hold_records::keep(held, Rule::Live(time));
@@ -78,7 +78,7 @@ pub fn lock_held(held: Held, time: Millis, out: &mut [u8]) -> Result<Held, Refus
 
 // The cells of `picked` that `take` would refuse at `time`, held or in `spent`, without holding any.
 pub fn unavailable(held: Held, picked: &[u8], spent: &[u8], time: Millis, out: &mut [u8]) -> Answer
-    ensures { (answered result, out.new) ≡ unavailable held picked.now spent.now time out.old }
+    ensures { (answered result, out.new) ≡ after_list (unavailable (records_of held) picked.now spent.now time) out.old }
 {
     if !transaction::is_out_points(picked) {
         return Err(Refusal::LentBytesUnreadable);
@@ -104,7 +104,7 @@ pub fn take(
     taken: &mut [u8],
     refused: &mut [u8],
 ) -> Result<Held, Refusal>
-    ensures refused_after { (outcome_on held result, taken.new, refused.new) ≡ take_cells held picked.now spent.now taker time taken.old refused.old }
+    ensures after { (told result, taken.new, refused.new) ≡ after_take (take_cells (records_of held) picked.now spent.now taker time) taken.old refused.old }
     ensures count_bound { IfOk result (λ g. g.count ≤ 256) }
 {
     if !transaction::is_out_points(picked) {

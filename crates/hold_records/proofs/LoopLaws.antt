@@ -7,7 +7,7 @@ use mathlib.Core.Bool.{Bool, true, false}
 use mathlib.Core.List.{[], ◌∷◌}
 use lib.ListN.{length, get_or, take, drop, set, replicate, length-set, length-take, drop_of_length-le}
 use lib.Seq.{drop-cons, get_or-take}
-use Rattle.out_points.specs.Tables.{keep}
+use Rattle.std.specs.List.{filter}
 use Rattle.hold_records.specs.declared.{Owner.Owner, Hold.Hold, Held.Held}
 use Rattle.hold_records.specs.Holds.{records_of, empty_table}
 use Rattle.hold_records.proofs.ListLaws.{take_used, keeps, drops}
@@ -40,11 +40,10 @@ pub record Keeping (f : Hold → Bool) (h g : Held) (n to i : ℕ) : Type 0 wher
   pub most : n ≡ min h.count 256
   pub long : length g.records ≡ 256
   pub whole : length h.records ≡ 256
-  pub kept : take to g.records ≡ keep f (take i h.records)
+  pub kept : take to g.records ≡ filter f (take i h.records)
 
 -- into any table g
 pub keep_into : (f : Hold → Bool) (h g : Held) {n : ℕ} → n ≡ min h.count 256 → length h.records ≡ 256 → length g.records ≡ 256 → Keeping f h g n 0 0
-unfolding keep
 keep_into f h g e w l = record { within = omega arith; behind = omega arith; most = e; long = l; whole = w; kept = refl }
 
 pub keep-none : (f : Hold → Bool) (h : Held) {n : ℕ} → n ≡ min h.count 256 → length h.records ≡ 256 → Keeping f h h n 0 0
@@ -81,7 +80,7 @@ module _ {f : Hold → Bool} {h g : Held} {n to i : ℕ} (k : Keeping f h g n to
         kept = drops f h.records g.records to i d (omega arith) k.kept (sym e ∙ t);
       }
 
-  pub keep-end : n ≤ i → records_of (record { records = g.records; count = to }) ≡ keep f (records_of h)
+  pub keep-end : n ≤ i → records_of (record { records = g.records; count = to }) ≡ filter f (records_of h)
   unfolding records_of
   keep-end l =
       let m = k.most in

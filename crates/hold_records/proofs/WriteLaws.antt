@@ -18,9 +18,9 @@ use Rattle.out_points.proofs.PointLaws.{length-point}
 use Rattle.out_points.proofs.ListLaws.{length-bytes, length_list}
 use Rattle.out_points.proofs.AgainLaws.{list_before}
 use Rattle.hold_records.specs.declared.{Hold.Hold, Held.Held}
-use Rattle.out_points.specs.Tables.{has_room, written}
+use Rattle.out_points.specs.Tables.{has_room, with_list}
 use Rattle.hold_records.specs.Holds.{records_of, cells_of}
-use Rattle.hold_records.specs.Rules.{put_if}
+use Rattle.hold_records.specs.Inner.{put_if}
 use Rattle.hold_records.proofs.LoopLaws.{drop_record, drop-none}
 
 -- ---- of all the out points, those before `rest` are written
@@ -62,15 +62,15 @@ module _ {all : List OutPoint} {out₀ : List ℕ} {at₀ : ℕ} {out : List ℕ
 
 -- the count, then the out points
 pub list_written : (l : List OutPoint) (out : List ℕ) {o₁ o₂ : List ℕ} {n at a : ℕ} → n ≡ length l → 4 + 36 * length l ≤ length out
-    → o₁ ≡ put_at out 0 (to_le 4 n) → at ≡ put_end out 0 (to_le 4 n) → Put o₁ at (bytes_of l) o₂ a → o₂ ≡ written l out
-unfolding written point_list
+    → o₁ ≡ put_at out 0 (to_le 4 n) → at ≡ put_end out 0 (to_le 4 n) → Put o₁ at (bytes_of l) o₂ a → o₂ ≡ with_list l out
+unfolding with_list point_list
 list_written l out {o₁} {o₂} {n} {at} {a} en room e f p =
     let q = then (did (to_le 4 n) e f (omega (arith, length-to_le 4 n))) p in
     let r : Put out 0 (to_le 4 (length l) ++ bytes_of l) o₂ a = rw en at q in
     r.bytes ∙ splice_zero out (to_le 4 (length l) ++ bytes_of l)
 
 pub list_put : (l : List OutPoint) (out : List ℕ) {o₁ o₂ : List ℕ} {n at a : ℕ} → n ≡ length l → 4 + 36 * n ≤ length out
-    → o₁ ≡ put_at out 0 (to_le 4 n) → at ≡ put_end out 0 (to_le 4 n) → Put o₁ at (bytes_of l) o₂ a → o₂ ≡ written l out
+    → o₁ ≡ put_at out 0 (to_le 4 n) → at ≡ put_end out 0 (to_le 4 n) → Put o₁ at (bytes_of l) o₂ a → o₂ ≡ with_list l out
 list_put l out en room e f p = list_written l out en (omega arith) e f p
 
 -- there is room for the points behind the count
@@ -96,7 +96,7 @@ pub put_no : (l : List OutPoint) (out : List ℕ) → false ≡ has_room l out �
 unfolding put_if
 put_no l out e = rw (← e)
 
-pub put_yes : (l : List OutPoint) (out : List ℕ) → true ≡ has_room l out → put_if l out ≡ written l out
+pub put_yes : (l : List OutPoint) (out : List ℕ) → true ≡ has_room l out → put_if l out ≡ with_list l out
 unfolding put_if
 put_yes l out e = rw (← e)
 
@@ -170,7 +170,7 @@ module _ (h : Held) (from : ℕ) (out : List ℕ) {u n : ℕ} (eu : u ≡ min h.
 
       pub cells_listed : {o₂ : List ℕ} {a : ℕ} → Put o at (bytes_of (cells_of (drop from (records_of h)))) o₂ a → All Fit (cells_of (drop from (records_of h)))
           → (true ≡ true → points o₂ ≡ cells_of (drop from (records_of h)))
-      unfolding written
+      unfolding with_list
       cells_listed p fits _ =
           ap points (list_put (cells_of (drop from (records_of h))) out counted-cells (omega arith) e f p)
           ∙ list_before (cells_of (drop from (records_of h))) _ (omega (arith, counted-cells)) fits

@@ -1,2 +1,2 @@
 pub mod Holds
-pub mod Rules
+pub mod Inner

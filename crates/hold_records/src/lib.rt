@@ -1,12 +1,13 @@
 // Records of holds on cells, and what works on them alone: the table goes in by value and comes back by value.
-#![tactic(auto, using(crate::proofs::Ways::ways), unfolding(crate::specs::Holds::is_live, crate::specs::Holds::is_not_of, crate::specs::Holds::by_owner, crate::specs::Rules::is_kept))]
+#![tactic(auto, using(crate::proofs::Ways::ways), unfolding(crate::specs::Holds::is_live, crate::specs::Holds::is_not_of, crate::specs::Holds::by_owner, crate::specs::Inner::is_kept))]
 
 ghost use Rattle.std.specs.Prelude.{◌≡◌, true, false, [], ◌+◌, ◌-◌, ◌*◌, ◌≤◌, min, length, drop};
 ghost use Rattle.molecule.specs.Partial.{All};
 ghost use Rattle.molecule.specs.Write.{Put};
 ghost use Rattle.out_points.specs.OutPoints.{Fit, points, bytes_of};
-ghost use Rattle.out_points.specs.Tables.{keep, has_room};
-ghost use Rattle.hold_records.specs.Rules.{is_kept, put_if};
+ghost use Rattle.std.specs.List.{filter};
+ghost use Rattle.out_points.specs.Tables.{has_room};
+ghost use Rattle.hold_records.specs.Inner.{is_kept, put_if};
 ghost use Rattle.hold_records.specs.Holds.{records_of, cells_of, empty_table, is_not_of, is_live};
 
 use molecule::write;
@@ -109,7 +110,7 @@ pub fn kept(r: Hold, rule: Rule) -> bool
 
 // The records that `rule` keeps, in order.
 pub fn keep(h: Held, rule: Rule) -> Held
-    ensures result_value { records_of result ≡ keep (is_kept rule) (records_of h) }
+    ensures result_value { records_of result ≡ filter (is_kept rule) (records_of h) }
     ensures count_bound { result.count ≤ 256 }
 {
     let n = used(h.count);

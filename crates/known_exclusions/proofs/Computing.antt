@@ -3,13 +3,14 @@ use Rattle.units.specs.Units.{is_at_least}
 use Rattle.transaction.specs.Tx.{previous_output_of}
 use Rattle.molecule.specs.Write.{splice, put_at}
 use Rattle.out_points.specs.OutPoints.{eq_hash, byte32_at, out_point_at, point_of, hash_bytes, point_bytes, bytes_of, point_list}
-use Rattle.out_points.specs.Tables.{keep, renew, has_room, written}
+use Rattle.std.specs.List.{filter}
+use Rattle.out_points.specs.Tables.{renew, has_room, with_list}
 use Rattle.table_bytes.specs.Lent.{leaving}
 use Rattle.exclusion_entries.specs.Exclusions.{has_hash, committed_at, commit_on, without, remove_on, is_recent, truncated, truncate_on, excluded, apply_on, pending, fitting, entering, add_on, entered, migrate_on}
-use Rattle.exclusion_entries.specs.Entries.{kind_of, block_of, state_bytes, entry_bytes, entries_bytes, map_bytes, state_of, entry_of, entries_in, excluded_at, is_entry, are_entries, is_map}
+use Rattle.exclusion_entries.specs.Entries.{state_kind, block_of, state_bytes, entry_bytes, entries_bytes, map_bytes, state_of, entry_of, entries_in, excluded_at, is_entry, are_entries, is_map}
 use Rattle.exclusion_entries.specs.LentMap.{lent_map, lent_tx, lent_list}
 use Rattle.known_cases.proofs.Computing.{computing_updates}
 
 unfoldable pub computing : Unit {0}
-unfolding computing_updates is_at_least previous_output_of splice put_at eq_hash byte32_at out_point_at point_of hash_bytes point_bytes bytes_of point_list keep renew has_room written leaving has_hash committed_at commit_on without remove_on is_recent truncated truncate_on excluded apply_on pending fitting entering add_on entered migrate_on kind_of block_of state_bytes entry_bytes entries_bytes map_bytes state_of entry_of entries_in excluded_at is_entry are_entries is_map lent_map lent_tx lent_list
+unfolding computing_updates is_at_least previous_output_of splice put_at eq_hash byte32_at out_point_at point_of hash_bytes point_bytes bytes_of point_list renew has_room with_list leaving has_hash committed_at commit_on without remove_on is_recent truncated truncate_on excluded apply_on pending fitting entering add_on entered migrate_on state_kind block_of state_bytes entry_bytes entries_bytes map_bytes state_of entry_of entries_in excluded_at is_entry are_entries is_map lent_map lent_tx lent_list
 computing = tt

@@ -16,60 +16,60 @@ use Rattle.molecule.proofs.WriteLaws.{put_yes}
 use Rattle.transaction.specs.Ckb.{Transaction}
 use Rattle.out_points.specs.OutPoints.{Fit}
 use Rattle.table_bytes.specs.Lent.{After, leaving}
-use Rattle.exclusion_entries.specs.Exclusions.{Entry, Ruling, commit_on, remove_on, truncate_on, excluded, apply_on, add_on, migrate_on}
+use Rattle.exclusion_entries.specs.Exclusions.{MapEntry, Ruling, commit_on, remove_on, truncate_on, excluded, apply_on, add_on, migrate_on}
 use Rattle.exclusion_entries.specs.Entries.{block_of, map_bytes, FitEntry, excluded_at, is_map}
 use Rattle.exclusion_entries.proofs.MapLaws.{map-long, map-size, map-zeros, zeros_are, put_is, splice-back}
 use Rattle.exclusion_entries.specs.LentMap.{lent_map, lent_tx, left, lent_list}
 use Rattle.known_cases.specs.Cases.{point}
 use Rattle.known_exclusions.specs.Exclusions.{add, commit, remove, truncate, migrate, apply, leaves, zeros, lent, entry, pending_of, committed_of}
 
-pub record Holds (s : List ℕ) (l : List Entry) : Type 0 where
+pub record Holds (s : List ℕ) (l : List MapEntry) : Type 0 where
   pub form : is_map s ≡ true
   pub means : excluded_at s ≡ l
 
-module _ {s : List ℕ} {l : List Entry} (h : Holds s l) where
-  on : (o : List Entry → Ruling) → lent_map s (o (excluded_at s)) ≡ leaving map_bytes s (o l)
+module _ {s : List ℕ} {l : List MapEntry} (h : Holds s l) where
+  on : (o : List MapEntry → Ruling) → lent_map s (o (excluded_at s)) ≡ leaving map_bytes s (o l)
   unfolding lent_map
   on o = rw (h.form, h.means)
 
   -- with a transaction that can be read
-  on_tx : (o : List Entry → Ruling) (tx : List ℕ) → readable (option Transaction) tx ≡ true → lent_tx tx s (o (excluded_at s)) ≡ leaving map_bytes s (o l)
+  on_tx : (o : List MapEntry → Ruling) (tx : List ℕ) → readable (option Transaction) tx ≡ true → lent_tx tx s (o (excluded_at s)) ≡ leaving map_bytes s (o l)
   unfolding lent_tx
   on_tx o tx y = rw y (on o)
 
   pub add-on : (hash tx : List ℕ) → readable (option Transaction) tx ≡ true → add s hash tx ≡ leaving map_bytes s (add_on l hash tx)
-  add-on hash tx = on_tx (λ (k : List Entry). add_on k hash tx) tx
+  add-on hash tx = on_tx (λ (k : List MapEntry). add_on k hash tx) tx
 
   pub commit-on : (hash : List ℕ) (block : ℕ) → commit s hash block ≡ leaving map_bytes s (commit_on l hash (record { 0 = block }))
-  commit-on hash block = on (λ (k : List Entry). commit_on k hash (record { 0 = block }))
+  commit-on hash block = on (λ (k : List MapEntry). commit_on k hash (record { 0 = block }))
 
   pub remove-on : (hash : List ℕ) → remove s hash ≡ leaving map_bytes s (remove_on l hash)
-  remove-on hash = on (λ (k : List Entry). remove_on k hash)
+  remove-on hash = on (λ (k : List MapEntry). remove_on k hash)
 
   pub truncate-on : (tip : ℕ) → truncate s tip ≡ leaving map_bytes s (truncate_on l (record { 0 = tip }))
-  truncate-on tip = on (λ (k : List Entry). truncate_on k (record { 0 = tip }))
+  truncate-on tip = on (λ (k : List MapEntry). truncate_on k (record { 0 = tip }))
 
   pub migrate-on : (old new tx : List ℕ) → readable (option Transaction) tx ≡ true → migrate s old new tx ≡ leaving map_bytes s (migrate_on l old new tx)
-  migrate-on old new tx = on_tx (λ (k : List Entry). migrate_on k old new tx) tx
+  migrate-on old new tx = on_tx (λ (k : List MapEntry). migrate_on k old new tx) tx
 
   pub apply-on : (out : List ℕ) → apply s out ≡ apply_on l out
   unfolding lent_list
   apply-on out = rw (h.form, h.means)
 
-  pub put_holds : (k : List Entry) → length k ≤ 64 → length (excluded k) ≤ 512 → All FitEntry k → Holds (put_at s 0 (map_bytes k)) k
+  pub put_holds : (k : List MapEntry) → length k ≤ 64 → length (excluded k) ≤ 512 → All FitEntry k → Holds (put_at s 0 (map_bytes k)) k
   put_holds k a b f = record {
     form = put_is s k h.form a b;
     means = splice-back s k (omega arith) f (put_yes s 0 (map_bytes k) (omega (arith, map-size k, map-long s h.form)));
   }
 
   -- after a call that is done
-  pub left-holds : {o : After (List Entry)} (k : List Entry) → o ≡ leaves s k → length k ≤ 64 → length (excluded k) ≤ 512 → All FitEntry k → Holds (left o) k
-  left-holds k e a b f = subst (λ (x : After (List Entry)). Holds (left x) k) (sym e) (put_holds k a b f)
+  pub left-holds : {o : After (List MapEntry)} (k : List MapEntry) → o ≡ leaves s k → length k ≤ 64 → length (excluded k) ≤ 512 → All FitEntry k → Holds (left o) k
+  left-holds k e a b f = subst (λ (x : After (List MapEntry)). Holds (left x) k) (sym e) (put_holds k a b f)
 
 pub zeros-hold : Holds zeros []
 zeros-hold = record { form = zeros_are; means = map-zeros }
 
-pub lent-holds : (l : List Entry) → length l ≤ 64 → length (excluded l) ≤ 512 → All FitEntry l → Holds (lent l) l
+pub lent-holds : (l : List MapEntry) → length l ≤ 64 → length (excluded l) ≤ 512 → All FitEntry l → Holds (lent l) l
 lent-holds = put_holds zeros-hold
 
 -- ---- the numbers of the examples fit

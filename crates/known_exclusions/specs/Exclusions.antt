@@ -10,7 +10,7 @@ use Rattle.out_points.specs.declared.{Byte32.Byte32}
 use Rattle.out_points.specs.OutPoints.{points, point_list}
 use Rattle.out_points.specs.Tables.{done, refused}
 use Rattle.table_bytes.specs.Lent.{After}
-use Rattle.exclusion_entries.specs.Exclusions.{Entry, commit_on, remove_on, truncate_on, apply_on, add_on, migrate_on}
+use Rattle.exclusion_entries.specs.Exclusions.{MapEntry, commit_on, remove_on, truncate_on, apply_on, add_on, migrate_on}
 use Rattle.exclusion_entries.specs.Entries.{map_bytes, excluded_at}
 use Rattle.exclusion_entries.specs.LentMap.{lent_map, lent_tx, left, lent_list}
 use Rattle.known_cases.specs.Rows.{Row, ◌gives◌}
@@ -18,26 +18,26 @@ use Rattle.known_cases.specs.Cases.{bare, point}
 
 -- ---- the calls on bytes s
 
-abbrev pub add : List ℕ → List ℕ → List ℕ → After (List Entry)
+abbrev pub add : List ℕ → List ℕ → List ℕ → After (List MapEntry)
 add s hash tx = lent_tx tx s (add_on (excluded_at s) hash tx)
 
-abbrev pub commit : List ℕ → List ℕ → ℕ → After (List Entry)
+abbrev pub commit : List ℕ → List ℕ → ℕ → After (List MapEntry)
 commit s hash block = lent_map s (commit_on (excluded_at s) hash (record { 0 = block }))
 
-abbrev pub remove : List ℕ → List ℕ → After (List Entry)
+abbrev pub remove : List ℕ → List ℕ → After (List MapEntry)
 remove s hash = lent_map s (remove_on (excluded_at s) hash)
 
-abbrev pub truncate : List ℕ → ℕ → After (List Entry)
+abbrev pub truncate : List ℕ → ℕ → After (List MapEntry)
 truncate s tip = lent_map s (truncate_on (excluded_at s) (record { 0 = tip }))
 
-abbrev pub migrate : List ℕ → List ℕ → List ℕ → List ℕ → After (List Entry)
+abbrev pub migrate : List ℕ → List ℕ → List ℕ → List ℕ → After (List MapEntry)
 migrate s old new tx = lent_tx tx s (migrate_on (excluded_at s) old new tx)
 
 abbrev pub apply : List ℕ → List ℕ → ℕ × List ℕ
 apply s out = lent_list s out (apply_on (excluded_at s) out)
 
 -- done: these entries, put over the bytes s
-abbrev pub leaves : List ℕ → List Entry → After (List Entry)
+abbrev pub leaves : List ℕ → List MapEntry → After (List MapEntry)
 leaves s l = done (l, put_at s 0 (map_bytes l))
 
 -- ---- what the examples are built from
@@ -46,7 +46,7 @@ leaves s l = done (l, put_at s 0 (map_bytes l))
 abbrev pub zeros : List ℕ
 zeros = replicate 21508 0
 
-abbrev pub lent : List Entry → List ℕ
+abbrev pub lent : List MapEntry → List ℕ
 lent l = put_at zeros 0 (map_bytes l)
 
 -- a hash that is told by a number, as bytes and as an entry has it
@@ -57,38 +57,38 @@ abbrev pub hash_of : ℕ → Byte32
 hash_of n = record { a = n; b = 0; c = 0; d = 0 }
 
 -- the entry of `bare k`, which spends the first k out points, under the hash n; pending and committed
-abbrev pub entry : ℕ → Option BlockNumber → ℕ → Entry
+abbrev pub entry : ℕ → Option BlockNumber → ℕ → MapEntry
 entry n c k = record { hash = hash_of n; committed = c; points = span point 0 k }
 
-abbrev pub pending_of : ℕ → ℕ → Entry
+abbrev pub pending_of : ℕ → ℕ → MapEntry
 pending_of n k = entry n none k
 
-abbrev pub committed_of : ℕ → ℕ → ℕ → Entry
+abbrev pub committed_of : ℕ → ℕ → ℕ → MapEntry
 committed_of n block k = entry n (some (record { 0 = block })) k
 
 -- so many transactions, with no out points
-abbrev pub transactions : ℕ → List Entry
+abbrev pub transactions : ℕ → List MapEntry
 transactions n = span (λ i. pending_of i 0) 0 n
 
 -- the transaction 7, that spends two out points, entered; and committed at 100
-abbrev pub pending7 : List Entry
+abbrev pub pending7 : List MapEntry
 pending7 = pending_of 7 2 ∷ []
 
-abbrev pub committed7 : List Entry
+abbrev pub committed7 : List MapEntry
 committed7 = committed_of 7 100 2 ∷ []
 
 -- one transaction with one out point; two, the first committed
-abbrev pub one : List Entry
+abbrev pub one : List MapEntry
 one = pending_of 7 1 ∷ []
 
-abbrev pub two : List Entry
+abbrev pub two : List MapEntry
 two = committed_of 7 1 2 ∷ pending_of 5 1 ∷ []
 
 -- and a third; and two with one hash, in a map that no call made
-abbrev pub three : List Entry
+abbrev pub three : List MapEntry
 three = committed_of 7 1 2 ∷ pending_of 5 1 ∷ pending_of 6 0 ∷ []
 
-abbrev pub twice : List Entry
+abbrev pub twice : List MapEntry
 twice = pending_of 7 2 ∷ pending_of 5 1 ∷ pending_of 7 1 ∷ []
 
 -- bytes that are no map: of another length, with 65 entries, with 513 out points in one entry and in two, with an entry of the kind 2, with a block at a pending one
@@ -128,7 +128,7 @@ excluded_by tip = listed (apply (left (truncate (left (commit (left (add zeros (
 -- ---- the others
 
 -- bytes that are no map: 3, and they stay
-abbrev pub no_map : List (Row (After (List Entry)))
+abbrev pub no_map : List (Row (After (List MapEntry)))
 no_map =
     (add shorter [] (bare 2) gives refused 3 shorter)
     ∷ (add over64 (hash 7) (bare 2) gives refused 3 over64)
@@ -143,7 +143,7 @@ no_map =
     ∷ []
 
 -- a transaction that can't be read: 1 before all else; and of a map a hash of another length
-abbrev pub unread : List (Row (After (List Entry)))
+abbrev pub unread : List (Row (After (List MapEntry)))
 unread =
     (add [] [] unreadable gives refused 1 [])
     ∷ (add zeros [] unreadable gives refused 1 zeros)
@@ -159,7 +159,7 @@ unread =
     ∷ []
 
 -- 64 transactions and 512 out points, 65 and 513; a transaction that is entered again, or goes, leaves room
-abbrev pub full : List (Row (After (List Entry)))
+abbrev pub full : List (Row (After (List MapEntry)))
 full =
     (add (lent (transactions 63)) (hash 63) [] gives leaves (lent (transactions 63)) (transactions 63))
     ∷ (add (lent (transactions 63)) (hash 63) (bare 0) gives leaves (lent (transactions 63)) (transactions 64))
@@ -174,7 +174,7 @@ full =
     ∷ []
 
 -- what each call does to two or three entries
-abbrev pub works : List (Row (After (List Entry)))
+abbrev pub works : List (Row (After (List MapEntry)))
 works =
     -- entered again it is uncommitted, in its place; another goes last; the 68-byte transaction enters without out points
     (add (lent two) (hash 7) (bare 1) gives leaves (lent two) (pending_of 7 1 ∷ pending_of 5 1 ∷ []))
@@ -197,7 +197,7 @@ works =
     ∷ []
 
 -- where a hash stands twice, `add` means its first entry, and the others every one
-abbrev pub doubled : List (Row (After (List Entry)))
+abbrev pub doubled : List (Row (After (List MapEntry)))
 doubled =
     (add (lent twice) (hash 7) (bare 0) gives leaves (lent twice) (pending_of 7 0 ∷ pending_of 5 1 ∷ pending_of 7 1 ∷ []))
     ∷ (commit (lent twice) (hash 7) 9 gives leaves (lent twice) (committed_of 7 9 2 ∷ pending_of 5 1 ∷ committed_of 7 9 1 ∷ []))

@@ -14,7 +14,8 @@ use Rattle.molecule.proofs.HeaderLaws.{fixvec-readable}
 use Rattle.transaction.specs.Ckb.{OutPoint as OutPointForm, OutPoints}
 use Rattle.out_points.specs.declared.{OutPoint.OutPoint}
 use Rattle.out_points.specs.OutPoints.{Fit, points, point_list}
-use Rattle.out_points.specs.Tables.{Outcome, done, refused, keep, has_room, written}
+use Rattle.std.specs.List.{filter}
+use Rattle.out_points.specs.Tables.{Outcome, done, refused, has_room, with_list}
 use Rattle.out_points.proofs.ListLaws.{length-points, length_list}
 use Rattle.out_points.proofs.AgainLaws.{list_back}
 use Rattle.hold_records.specs.declared.{Hold.Hold, Held.Held, Taker.Taker}
@@ -63,10 +64,10 @@ is-spent = refl
 
 module _ (n : ℕ) (h : 4 + 36 * n < 2 ^ 32) (out₁ out₂ : List ℕ) where
   abbrev end : Bool → Bool → Outcome Held (List Hold) × List ℕ × List ℕ
-  end a b = cond a (cond b (done [], written [] out₁, written (replicate n A) out₂) (refused 13 (holds_of []), out₁, out₂)) (refused 13 (holds_of []), out₁, out₂)
+  end a b = cond a (cond b (done [], with_list [] out₁, with_list (replicate n A) out₂) (refused 13 (holds_of []), out₁, out₂)) (refused 13 (holds_of []), out₁, out₂)
 
   spent-picks : take_cells (holds_of []) (point_list (replicate n A)) (of1 A) (Taker.Funding 1) (ms 1000) out₁ out₂ ≡ end (has_room [] out₁) (has_room (replicate n A) out₂)
-  unfolding take_cells keep records_of
+  unfolding take_cells records_of
   spent-picks =
       let l : length (replicate n A) ≡ n = length-replicate n A in
       rw (
@@ -82,7 +83,7 @@ none-room : has_room [] (room 4) ≡ true
 unfolding computing
 none-room = refl
 
-none_written : written [] (room 4) ≡ none
+none_written : with_list [] (room 4) ≡ none
 unfolding computing
 none_written = refl
 
@@ -94,13 +95,13 @@ module _ (n k : ℕ) (e : k ≡ 4 + 36 * n) where
   room-long = length-replicate k 7
 
   pub spent-fit : k ≤ 133116 → take_cells (holds_of []) (point_list (replicate n A)) (of1 A) (Taker.Funding 1) (ms 1000) (room 4) (room k) ≡ (done [], none, point_list (replicate n A))
-  unfolding has_room written
+  unfolding has_room with_list
   spent-fit h =
       let a = long in
       let b = room-long in
       let r : has_room (replicate n A) (room k) ≡ true = le-leb (length (point_list (replicate n A))) (min (length (room k)) 133116) (omega arith) in
       let d : length (room k) ≤ length (point_list (replicate n A)) = omega arith in
-      let w : written (replicate n A) (room k) ≡ point_list (replicate n A) =
+      let w : with_list (replicate n A) (room k) ≡ point_list (replicate n A) =
       ap (λ (x : List ℕ). point_list (replicate n A) ++ x) (drop_of_length-le (room k) d) ∙ append-nil (point_list (replicate n A)) in
       spent-picks n (omega arith) (room 4) (room k) ∙ rw (none-room, r, none_written, w)
 

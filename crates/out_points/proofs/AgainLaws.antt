@@ -13,7 +13,7 @@ use Rattle.molecule.specs.Partial.{All}
 use Rattle.transaction.specs.Ckb.{OutPoints as OutPointsForm}
 use Rattle.out_points.specs.declared.{OutPoint.OutPoint}
 use Rattle.out_points.specs.OutPoints.{byte32_at, out_point_at, point_of, points, hash_bytes, point_bytes, bytes_of, point_list, Fit}
-use Rattle.out_points.specs.Tables.{written}
+use Rattle.out_points.specs.Tables.{with_list}
 use Rattle.out_points.proofs.PointLaws.{length-point}
 use Rattle.out_points.proofs.ListLaws.{length-points, length_list, readable-length}
 
@@ -133,8 +133,8 @@ pub list_back : (l : List OutPoint) → length l < 2 ^ 32 → All Fit l → poin
 list_back l h f = ap points (sym (append-nil (point_list l))) ∙ list_before l [] h f
 
 -- a list that was written into a buffer
-pub written_back : (l : List OutPoint) (out : List ℕ) → length l < 2 ^ 32 → All Fit l → points (written l out) ≡ l
-unfolding written
+pub written_back : (l : List OutPoint) (out : List ℕ) → length l < 2 ^ 32 → All Fit l → points (with_list l out) ≡ l
+unfolding with_list
 written_back l out h f = list_before l (drop (length (point_list l)) out) h f
 
 -- ---- what is read from bytes fits

@@ -19,7 +19,7 @@ use Rattle.unavailable_picks.specs.Unavailable.{select}
 use Rattle.unavailable_picks.proofs.PickLaws.{select_yes, select_no, select-end, select-whole, Naming, name-start, name_yes, name_no}
 use Rattle.pick_kinds.specs.declared.{Kind.Kind}
 use Rattle.pick_kinds.specs.contracts.Kind.{the_type}
-use Rattle.picks.specs.Places.{is_free_kind, is_free, is_left, free_of, left_of, Tallied}
+use Rattle.picks.specs.Inner.{is_free_kind, is_free, is_left, free_of, left_of, Tallied}
 
 -- `== Kind::Free`
 pub free_is : (kinds : List Kind) (i : ℕ) → sameb the_type (get_or kinds i Kind.Again) Kind.Free ≡ is_free kinds i

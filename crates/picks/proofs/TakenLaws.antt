@@ -9,23 +9,24 @@ use lib.Dec.{leb}
 use lib.ListN.{length, drop}
 use Rattle.std.proofs.Common.{Ok, Err}
 use Rattle.error.specs.declared.{Refusal.Refusal}
-use Rattle.error.specs.Refusal.{number}
+use Rattle.error.specs.Refusal.{number, values}
 use Rattle.molecule.specs.Layout.{span, fix_count}
 use Rattle.out_points.specs.declared.{OutPoint.OutPoint}
 use Rattle.out_points.specs.OutPoints.{has, point_of, points, point_list}
 use Rattle.out_points.proofs.ListLaws.{length_list}
 use Rattle.out_points.proofs.EqualLaws.{and_both}
-use Rattle.out_points.specs.Tables.{Outcome, done, refused, has_room, written}
+use Rattle.error.specs.Outcome.{Outcome, fine, refused, check, check_with, ◌>>=◌, ◌>>◌, told_by}
+use Rattle.out_points.specs.Tables.{has_room, with_list}
 use Rattle.hold_records.specs.declared.{Owner.Owner, Hold.Hold, Held.Held}
-use Rattle.hold_records.specs.Holds.{records_of, outcome_on, cells_of, firsts, others, held_by}
-use Rattle.hold_records.specs.Rules.{put_if}
+use Rattle.hold_records.specs.Holds.{records_of, cells_of, is_busy, firsts, others, held_by, Taken, take_these, take_free, after_take}
+use Rattle.hold_records.specs.Inner.{put_if}
 use Rattle.hold_records.proofs.LoopLaws.{stands}
 use Rattle.hold_records.proofs.WriteLaws.{room_yes, put_yes}
 use Rattle.pick_kinds.specs.declared.{Kind.Kind}
 use Rattle.pick_kinds.specs.Kinds.{is_among, kind_of, Kinds}
 use Rattle.unavailable_picks.specs.Unavailable.{is_first, select}
 use Rattle.unavailable_picks.proofs.FirstLaws.{is_other, firsts-select, others-select}
-use Rattle.picks.specs.Places.{is_free_kind, is_free, is_left, free_of, left_of, Tallied, take_lists, take_from}
+use Rattle.picks.specs.Inner.{is_free_kind, is_free, is_left, free_of, left_of, Tallied}
 
 -- ---- a table with the taken cells last
 
@@ -120,11 +121,6 @@ module _ (cells spent : List OutPoint) (picked : List ℕ) (kinds : List Kind) (
       same_from (is_left kinds) (is_other F (point_of picked)) (point_of picked) left-is_other 0 (fix_count picked) (omega arith)
       ∙ sym (others-select F (point_of picked) (fix_count picked))
 
-  take_kinds : (h : Held) (left : List Hold) (owner : Owner) (out₁ out₂ : List ℕ) {x : Outcome Held (List Hold) × List ℕ × List ℕ}
-      → x ≡ take_lists h left (free_of picked kinds) (left_of picked kinds) owner out₁ out₂ → x ≡ take_from h left cells (points picked) spent owner out₁ out₂
-  unfolding take_from
-  take_kinds h left owner out₁ out₂ e = e ∙ ap₂ (λ (y z : List OutPoint). take_lists h left y z owner out₁ out₂) free_firsts left-others
-
 -- ---- whether both lists may be written
 
 module _ {r : Bool} (x y z w : ℕ) (e : r ≡ leb x y && leb z w) (t : r ≡ true) where
@@ -139,29 +135,12 @@ both-room x y n m e t = let l : 4 + 36 * n ≤ min m 133116 = both_second x y (4
 
 -- ---- the calls
 
-module _ (h k : Held) (picked : List ℕ) (kinds : List Kind) (owner : Owner) (out₁ out₂ : List ℕ) (g : Held) {c : ℕ} (t : Tallied owner (free_of picked kinds) k g c) {n : ℕ} (en : n ≡ fix_count picked) where
+module _ (k : Held) (picked : List ℕ) (kinds : List Kind) (owner : Owner) (out₁ out₂ : List ℕ) (g : Held) {c : ℕ} (t : Tallied owner (free_of picked kinds) k g c) {n : ℕ} (en : n ≡ fix_count picked) where
   abbrev T : List OutPoint
   T = free_of picked kinds
 
   abbrev U : List OutPoint
   U = left_of picked kinds
-
-  abbrev Answers : Outcome Held (List Hold) × List ℕ × List ℕ → Type 0
-  Answers x = x ≡ take_lists h (records_of k) T U owner out₁ out₂
-
-  end : Outcome Held (List Hold) × List ℕ × List ℕ
-  end =
-      cond (has_room T out₁)
-      (cond (has_room U out₂)
-      (cond (leb (length (records_of k) + length T) 256)
-      (done (records_of k ++ map (held_by owner) T), written T out₁, written U out₂)
-      (refused 14 h, out₁, out₂))
-      (refused 13 h, out₁, out₂))
-      (refused 13 h, out₁, out₂)
-
-  end_is : Answers end
-  unfolding take_lists end
-  end_is = refl
 
   T-long : length T ≡ c
   T-long = sym t.counted
@@ -176,11 +155,11 @@ module _ (h k : Held) (picked : List ℕ) (kinds : List Kind) (owner : Owner) (o
   U-list = length_list U ∙ ap (λ (x : ℕ). 4 + 36 * x) U-long
 
   module _ {r : Bool} (er : r ≡ leb (4 + 36 * c) (min (length out₁) 133116) && leb (4 + 36 * (n - c)) (min (length out₂) 133116)) where
-    pub take_short : r ≡ false → (outcome_on h (Err Refusal.BufferTooShort), out₁, out₂) ≡ take_lists h (records_of k) (free_of picked kinds) (left_of picked kinds) owner out₁ out₂
-    unfolding end has_room outcome_on number
-    take_short f = by (has_room T out₁) (has_room U out₂) refl refl ∙ end_is
+    pub take_short : r ≡ false → (told_by records_of (Err Refusal.BufferTooShort), out₁, out₂) ≡ after_take (take_these (records_of k) (free_of picked kinds) (left_of picked kinds) owner) out₁ out₂
+    unfolding take_these has_room number values check check_with ◌>>◌ ◌>>=◌
+    take_short f = by (has_room T out₁) (has_room U out₂) refl refl
       where
-        by : (a b : Bool) → has_room T out₁ ≡ a → has_room U out₂ ≡ b → (refused 13 h, out₁, out₂) ≡ end
+        by : (a b : Bool) → has_room T out₁ ≡ a → has_room U out₂ ≡ b → (refused 13 [], out₁, out₂) ≡ after_take (take_these (records_of k) T U owner) out₁ out₂
         by true true ea eb = absurd (false≢true (sym f ∙ er ∙ rw (← T-list, ← U-list, ea, eb)))
         by true false ea eb = rw (ea, eb)
         by false b ea eb = rw ea
@@ -192,34 +171,38 @@ module _ (h k : Held) (picked : List ℕ) (kinds : List Kind) (owner : Owner) (o
       room₂ : 4 + 36 * (n - c) ≤ min (length out₂) 133116
       room₂ = both_second (4 + 36 * c) (min (length out₁) 133116) (4 + 36 * (n - c)) (min (length out₂) 133116) er fit
 
-      fits : cond (leb (length (records_of k) + length T) 256) (done (records_of k ++ map (held_by owner) T), written T out₁, written U out₂) (refused 14 h, out₁, out₂) ≡ take_lists h (records_of k) (free_of picked kinds) (left_of picked kinds) owner out₁ out₂
-      unfolding end has_room
+      abbrev last : Outcome Taken
+      last = check 14 (leb (length (records_of k) + length T) 256) >> fine (record { records = records_of k ++ map (held_by owner) T; taken = T; rest = U })
+
+      fits : take_these (records_of k) T U owner out₁ out₂ ≡ last
+      unfolding take_these has_room check check_with ◌>>◌
       fits =
           let a = room₁ in
           let b = room₂ in
-          rw (le-leb (length (point_list T)) (min (length out₁) 133116) (omega (arith, T-list)), le-leb (length (point_list U)) (min (length out₂) 133116) (omega (arith, U-list))) at end_is
+          rw (le-leb (length (point_list T)) (min (length out₁) 133116) (omega (arith, T-list)), le-leb (length (point_list U)) (min (length out₂) 133116) (omega (arith, U-list)))
 
       module _ {from : ℕ} (ef : from ≡ min k.count 256) where
         all_long : length (records_of k) + length T ≡ from + c
         all_long = let a = stands k t.whole in let b = T-long in omega arith
 
-        pub take-full : 256 - from < c → (outcome_on h (Err Refusal.TooManyHolds), out₁, out₂) ≡ take_lists h (records_of k) (free_of picked kinds) (left_of picked kinds) owner out₁ out₂
-        unfolding outcome_on number
-        take-full s = rw (lt-leb (length (records_of k) + length T) 256 (omega (arith, all_long))) at fits
+        pub take-full : 256 - from < c → (told_by records_of (Err Refusal.TooManyHolds), out₁, out₂) ≡ after_take (take_these (records_of k) (free_of picked kinds) (left_of picked kinds) owner) out₁ out₂
+        unfolding number values check check_with ◌>>◌ ◌>>=◌
+        take-full s = rw (fits, lt-leb (length (records_of k) + length T) 256 (omega (arith, all_long)))
 
-        pub take_done : {b₁ b₂ : List ℕ} → c ≤ 256 - from → b₁ ≡ put_if (cells_of (drop from (records_of g))) out₁ → b₂ ≡ written (left_of picked kinds) out₂
-            → (outcome_on h (Ok g), b₁, b₂) ≡ take_lists h (records_of k) (free_of picked kinds) (left_of picked kinds) owner out₁ out₂
-        unfolding outcome_on
+        pub take_done : {b₁ b₂ : List ℕ} → c ≤ 256 - from → b₁ ≡ put_if (cells_of (drop from (records_of g))) out₁ → b₂ ≡ with_list (left_of picked kinds) out₂
+            → (told_by records_of (Ok g), b₁, b₂) ≡ after_take (take_these (records_of k) (free_of picked kinds) (left_of picked kinds) owner) out₁ out₂
+        unfolding check check_with ◌>>◌ ◌>>=◌
         take_done {b₁} {b₂} s e₁ e₂ =
-            let v : outcome_on h (Ok g) ≡ done (records_of k ++ map (held_by owner) T) = ap done (t.added (omega arith)) in
-            let v₁ : b₁ ≡ written T out₁ = e₁ ∙ ap (λ (q : List OutPoint). put_if q out₁) (taken-cells t ef s) ∙ put_yes T out₁ (room_yes T out₁ (sym T-long) room₁) in
-            rw (v, v₁, e₂) (rw (le-leb (length (records_of k) + length T) 256 (omega (arith, all_long))) at fits)
+            let v : records_of g ≡ records_of k ++ map (held_by owner) T = t.added (omega arith) in
+            let v₁ : b₁ ≡ with_list T out₁ = e₁ ∙ ap (λ (q : List OutPoint). put_if q out₁) (taken-cells t ef s) ∙ put_yes T out₁ (room_yes T out₁ (sym T-long) room₁) in
+            rw (v, v₁, e₂, fits, le-leb (length (records_of k) + length T) 256 (omega (arith, all_long)))
 
 -- more picks than two lists hold
-neither : {X : Type 0} (a b : Bool) (x y : X) → (a ≡ true → b ≡ true → ⊥) → y ≡ cond a (cond b x y) y
-neither true true x y h = absurd (h refl refl)
-neither true false x y h = refl
-neither false b x y h = refl
+neither : (a b : Bool) (x : Outcome Taken) → (a ≡ true → b ≡ true → ⊥) → (check 13 a >> (check 13 b >> x)) ≡ refused 13 []
+unfolding check check_with ◌>>◌
+neither true true x h = absurd (h refl refl)
+neither true false x h = refl
+neither false b x h = refl
 
 over : (l m : List OutPoint) (out₁ out₂ : List ℕ) → 7394 < length l + length m → has_room l out₁ ≡ true → has_room m out₂ ≡ true → ⊥
 unfolding has_room
@@ -228,26 +211,31 @@ over l m out₁ out₂ h a b =
     let y : length (point_list m) ≤ min (length out₂) 133116 = leb-true (length (point_list m)) (min (length out₂) 133116) b in
     omega (arith, length_list l, length_list m)
 
-pub take_many : (h k : Held) (cells : List OutPoint) (picked spent : List ℕ) (owner : Owner) (out₁ out₂ : List ℕ) {n : ℕ} → n ≡ fix_count picked → 7394 < n
-    → (outcome_on h (Err Refusal.BufferTooShort), out₁, out₂) ≡ take_from h (records_of k) cells (points picked) (points spent) owner out₁ out₂
-unfolding take_from take_lists outcome_on number
-take_many h k cells picked spent owner out₁ out₂ {n} en m =
-    let f : OutPoint → Bool = not_among cells (points spent) in
+many : (k : Held) (picked spent : List ℕ) (owner : Owner) (out₁ out₂ : List ℕ) → 7394 < fix_count picked → take_free (records_of k) picked spent owner out₁ out₂ ≡ refused 13 []
+unfolding take_free take_these
+many k picked spent owner out₁ out₂ m =
+    let f : OutPoint → Bool = λ p. not (is_busy (records_of k) (points spent) p) in
     let l : List OutPoint = firsts f [] (points picked) in
     let r : List OutPoint = others f [] (points picked) in
     let z : length l + length r ≡ fix_count picked =
     ap₂ (λ (x y : List OutPoint). length x + length y) (firsts-select f (point_of picked) (fix_count picked)) (others-select f (point_of picked) (fix_count picked))
     ∙ both-from (is_first f (point_of picked)) (is_other f (point_of picked)) (point_of picked) (λ j. refl) 0 (fix_count picked) in
-    neither (has_room l out₁) (has_room r out₂)
-    (cond (leb (length (records_of k) + length l) 256) (done (records_of k ++ map (held_by owner) l), written l out₁, written r out₂) (refused 14 h, out₁, out₂))
-    (refused 13 h, out₁, out₂)
-    (over l r out₁ out₂ (omega arith))
+    neither (has_room l out₁) (has_room r out₂) _ (over l r out₁ out₂ (omega arith))
+
+pub take_many : (k : Held) (picked spent : List ℕ) (owner : Owner) (out₁ out₂ : List ℕ) {n : ℕ} → n ≡ fix_count picked → 7394 < n
+    → (told_by records_of (Err Refusal.BufferTooShort), out₁, out₂) ≡ after_take (take_free (records_of k) picked spent owner) out₁ out₂
+unfolding number values ◌>>=◌
+take_many k picked spent owner out₁ out₂ {n} en m = rw (many k picked spent owner out₁ out₂ (omega arith))
 
 -- what is taken by a list of cells is taken by the records that they are of
-pub take_known : (h k : Held) (cells picked spent : List ℕ) (kinds : List Kind) (owner : Owner) (out₁ out₂ : List ℕ) {z : ℕ} {x : Outcome Held (List Hold) × List ℕ × List ℕ}
+pub take_known : (k : Held) (cells picked spent : List ℕ) (kinds : List Kind) (owner : Owner) (out₁ out₂ : List ℕ) {z : ℕ} {x : Outcome (List Hold) × List ℕ × List ℕ}
     → (9220 ≤ z → points cells ≡ cells_of (records_of k)) → 9220 ≤ z → Kinds (is_among (points cells) (points spent)) (point_of picked) (min (fix_count picked) (length kinds)) kinds
-    → fix_count picked ≤ length kinds → x ≡ take_lists h (records_of k) (free_of picked kinds) (left_of picked kinds) owner out₁ out₂
-    → x ≡ take_from h (records_of k) (cells_of (records_of k)) (points picked) (points spent) owner out₁ out₂
-take_known h k cells picked spent kinds owner out₁ out₂ e l known room f =
-    take_kinds (points cells) (points spent) picked kinds known room h (records_of k) owner out₁ out₂ f
-    ∙ ap (λ (y : List OutPoint). take_from h (records_of k) y (points picked) (points spent) owner out₁ out₂) (e l)
+    → fix_count picked ≤ length kinds → x ≡ after_take (take_these (records_of k) (free_of picked kinds) (left_of picked kinds) owner) out₁ out₂
+    → x ≡ after_take (take_free (records_of k) picked spent owner) out₁ out₂
+unfolding take_free is_busy is_among
+take_known k cells picked spent kinds owner out₁ out₂ {z} {x} e l known room f =
+    let c : points cells ≡ cells_of (records_of k) = e l in
+    f
+    ∙ ap₂ (λ (y w : List OutPoint). after_take (take_these (records_of k) y w owner) out₁ out₂)
+    (free_firsts (points cells) (points spent) picked kinds known room ∙ ap (λ (y : List OutPoint). firsts (not_among y (points spent)) [] (points picked)) c)
+    (left-others (points cells) (points spent) picked kinds known room ∙ ap (λ (y : List OutPoint). others (not_among y (points spent)) [] (points picked)) c)

@@ -5,11 +5,11 @@ ghost use Rattle.std.specs.Prelude.{◌≡◌, ◌&&◌, ◌+◌, ◌*◌, ◌�
 ghost use Rattle.molecule.specs.Layout.{fix_count};
 ghost use Rattle.molecule.specs.Write.{Put};
 ghost use Rattle.out_points.specs.OutPoints.{points, bytes_of};
-ghost use Rattle.out_points.specs.Tables.{written};
+ghost use Rattle.out_points.specs.Tables.{with_list};
 ghost use Rattle.hold_records.specs.declared.{Held.Held};
-ghost use Rattle.hold_records.specs.Holds.{records_of, outcome_on, cells_of};
-ghost use Rattle.hold_records.specs.Rules.{put_if};
-ghost use Rattle.picks.specs.Places.{is_free, free_of, left_of, Tallied, take_lists, take_from};
+ghost use Rattle.hold_records.specs.Holds.{records_of, told, cells_of, take_free, after_take};
+ghost use Rattle.hold_records.specs.Inner.{put_if};
+ghost use Rattle.picks.specs.Inner.{is_free, free_of, left_of, Tallied, after_kinds};
 
 use error::Refusal;
 use hold_records::{Held, Hold, MOST_RECORDS, Owner};
@@ -95,7 +95,7 @@ impl<'a> Sorted<'a> {
     fn put_refused_list(self, n: u32, out: &mut [u8])
         requires n_value { n ≡ length (left_of self.picked.now self.kinds.now) }
         requires in_bounds { 4 + 36 * n ≤ length out.old }
-        ensures { out.new ≡ written (left_of self.entry.picked.now self.entry.kinds.now) out.old }
+        ensures { out.new ≡ with_list (left_of self.entry.picked.now self.entry.kinds.now) out.old }
     {
         let at = write::put_u32(out, 0, n);
         self.put_refused(out, at);
@@ -106,7 +106,7 @@ impl<'a> Sorted<'a> {
         requires n_value { n ≡ length (left_of self.picked.now self.kinds.now) }
         requires in_bounds { 4 + 36 * n ≤ length refused.old }
         ensures taken_after { taken.new ≡ put_if (cells_of (drop from (records_of g))) taken.old }
-        ensures refused_after { refused.new ≡ written (left_of self.entry.picked.now self.entry.kinds.now) refused.old }
+        ensures refused_after { refused.new ≡ with_list (left_of self.entry.picked.now self.entry.kinds.now) refused.old }
     {
         hold_records::put_cells(g, from, taken);
         self.put_refused_list(n, refused);
@@ -120,7 +120,7 @@ impl<'a> Sorted<'a> {
         taken: &mut [u8],
         refused: &mut [u8],
     ) -> Result<Held, Refusal>
-        ensures refused_after { (h : Held) → (outcome_on h result, taken.new, refused.new) ≡ take_lists h (records_of live) (free_of self.entry.picked.now self.entry.kinds.now) (left_of self.entry.picked.now self.entry.kinds.now) owner taken.old refused.old }
+        ensures after { (told result, taken.new, refused.new) ≡ after_kinds (records_of live) self.entry.picked.now self.entry.kinds.now owner taken.old refused.old }
         ensures count_bound { IfOk result (λ g. g.count ≤ 256) }
     {
         let t = self.tally(live, owner);
@@ -149,7 +149,7 @@ pub fn take_from(
     taken: &mut [u8],
     refused: &mut [u8],
 ) -> Result<Held, Refusal>
-    ensures refused_after { (h : Held) → (outcome_on h result, taken.new, refused.new) ≡ take_from h (records_of live) (cells_of (records_of live)) (points picked.now) (points spent.now) owner taken.old refused.old }
+    ensures after { (told result, taken.new, refused.new) ≡ after_take (take_free (records_of live) picked.now spent.now owner) taken.old refused.old }
     ensures count_bound { IfOk result (λ g. g.count ≤ 256) }
 {
     let n = molecule::fix_count(picked) as usize;

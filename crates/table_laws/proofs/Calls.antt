@@ -12,7 +12,8 @@ use Rattle.transaction.specs.Ckb.{OutPoints}
 use Rattle.error.specs.declared.{Refusal.Refusal}
 use Rattle.out_points.specs.declared.OutPoint.{OutPoint}
 use Rattle.out_points.specs.OutPoints.{points}
-use Rattle.out_points.specs.Tables.{keep, done, refused, told, has_room, written}
+use Rattle.std.specs.List.{filter}
+use Rattle.out_points.specs.Tables.{done, refused, told, has_room, with_list}
 use Rattle.hold_records.specs.declared.{Owner.Owner, Hold.Hold, Held.Held, Taker.Taker}
 use Rattle.hold_records.specs.Holds.{records_of, held_by, cells_of, at_most_256, is_not_of, hold_funding, is_unnamed, release_for_watchtower, renew_all, hold_for_watchtower, lock_held, is_live, is_busy, firsts, others, owner_for, take_cells}
 use Rattle.table_laws.specs.Holds.{After, Table, by_value, Took, Locked}
@@ -21,7 +22,7 @@ use Rattle.table_laws.specs.Answers.{Answer}
 
 -- the records that have not ended
 abbrev pub unended : Held → Millis → List Hold
-unended h now = keep (is_live now) (records_of h)
+unended h now = filter (is_live now) (records_of h)
 
 -- the picks that `take` gives, and those that it refuses
 abbrev pub is_free : Held → Millis → List OutPoint → OutPoint → Bool
@@ -65,21 +66,21 @@ module _ (P : List Hold → Type 0) (h : Held) where
   unfolding at_most_256
   at_most l s = either (leb (length l) 256) 14 (done l) s
 
-  pub hold-fine : (holder : ℕ) (cells : List ℕ) → P (keep (is_not_of holder) (records_of h) ++ map (held_by (Owner.Funding holder)) (points cells)) → Fine (hold_funding h holder cells)
+  pub hold-fine : (holder : ℕ) (cells : List ℕ) → P (filter (is_not_of holder) (records_of h) ++ map (held_by (Owner.Funding holder)) (points cells)) → Fine (hold_funding h holder cells)
   unfolding hold_funding
-  hold-fine holder cells s = either (readable OutPoints cells) 3 (at_most_256 h (keep (is_not_of holder) (records_of h) ++ map (held_by (Owner.Funding holder)) (points cells))) (at_most _ s)
+  hold-fine holder cells s = either (readable OutPoints cells) 3 (at_most_256 h (filter (is_not_of holder) (records_of h) ++ map (held_by (Owner.Funding holder)) (points cells))) (at_most _ s)
 
   pub watch-fine : (cells : List ℕ) (now : Millis) → P (renew_all (later now (record { 0 = 1800000 })) (records_of h) (points cells)) → Fine (hold_for_watchtower h cells now)
   unfolding hold_for_watchtower
   watch-fine cells now s = either (readable OutPoints cells) 3 (at_most_256 h (renew_all (later now (record { 0 = 1800000 })) (records_of h) (points cells))) (at_most _ s)
 
-  pub release-fine : (cells : List ℕ) → P (keep (is_unnamed (points cells)) (records_of h)) → Fine (release_for_watchtower h cells)
+  pub release-fine : (cells : List ℕ) → P (filter (is_unnamed (points cells)) (records_of h)) → Fine (release_for_watchtower h cells)
   unfolding release_for_watchtower
-  release-fine cells s = either (readable OutPoints cells) 3 (done (keep (is_unnamed (points cells)) (records_of h))) s
+  release-fine cells s = either (readable OutPoints cells) 3 (done (filter (is_unnamed (points cells)) (records_of h))) s
 
   pub locked-fine : (now : Millis) (out : List ℕ) → P (unended h now) → Fine (lock_held h now out).0
   unfolding lock_held
-  locked-fine now out s = either₂ (has_room (cells_of (unended h now)) out) 13 out (done (unended h now), written (cells_of (unended h now)) out) s
+  locked-fine now out s = either₂ (has_room (cells_of (unended h now)) out) 13 out (done (unended h now), with_list (cells_of (unended h now)) out) s
 
   pub take-fine : (picked spent : List ℕ) (taker : Taker) (now : Millis) (out₁ out₂ : List ℕ)
       → P (unended h now ++ map (held_by (owner_for taker now)) (given h now (points spent) (points picked))) → Fine (take_cells h picked spent taker now out₁ out₂).0
@@ -92,7 +93,7 @@ module _ (P : List Hold → Type 0) (h : Held) where
       (either₃ (readable OutPoints spent) 3 out₁ out₂ _
       (either₃ (has_room taken out₁) 13 out₁ out₂ _
       (either₃ (has_room rest out₂) 13 out₁ out₂ _
-      (either₃ (leb (length left + length taken) 256) 14 out₁ out₂ (done (left ++ map (held_by (owner_for taker now)) taken), written taken out₁, written rest out₂) s))))
+      (either₃ (leb (length left + length taken) 256) 14 out₁ out₂ (done (left ++ map (held_by (owner_for taker now)) taken), with_list taken out₁, with_list rest out₂) s))))
 
 -- ---- a table by value, or another that means one: what a call does to the meaning is what the definition gives or, if it is refused, nothing
 
@@ -145,16 +146,16 @@ Ended₃ l a b (done k, x, y) = (k ≡ l) × (x ≡ a) × (y ≡ b)
 Ended₃ l a b (refused n g, x, y) = Unit {0}
 
 module _ {T O : Type 0} {F : Table T O} (f : Faithful F) where
-  pub locked-done : {s t : T} {now : Millis} {after : List ℕ} (l : Locked F s t now after) → after ≡ written (cells_of (unended (F.held s) now)) l.out
+  pub locked-done : {s t : T} {now : Millis} {after : List ℕ} (l : Locked F s t now after) → after ≡ with_list (cells_of (unended (F.held s) now)) l.out
   unfolding lock_held told
   locked-done {s} {t} {now} {after} l =
       let left : List Hold = unended (F.held s) now in
-      let a : List ℕ = written (cells_of left) l.out in
+      let a : List ℕ = with_list (cells_of left) l.out in
       let e : Ended₂ left a (lock_held (F.held s) now l.out) = by left l.out (has_room (cells_of left) l.out) in
       let d : Ended₂ left a (told records_of (Ok tt) (F.held t), after) = subst (Ended₂ left a) (sym (f.beside_done s t l.out after _ l.says)) e in
       d.1
     where
-      by : (left : List Hold) (out : List ℕ) (c : Bool) → Ended₂ left (written (cells_of left) out) (cond {A = After × List ℕ} c (done left, written (cells_of left) out) (refused 13 (F.held s), out))
+      by : (left : List Hold) (out : List ℕ) (c : Bool) → Ended₂ left (with_list (cells_of left) out) (cond {A = After × List ℕ} c (done left, with_list (cells_of left) out) (refused 13 (F.held s), out))
       by left out true = (refl, refl)
       by left out false = tt
 
@@ -166,8 +167,8 @@ module _ (l : List Hold) (a b : List ℕ) (h : Held) (out₁ out₂ : List ℕ) 
 module _ {T O : Type 0} {F : Table T O} (f : Faithful F) where
   pub take_done : {s t : T} {picked spent : List ℕ} {taker : Taker} {now : Millis} {taken refused : List ℕ} (k : Took F s t picked spent taker now taken refused)
       → (records_of (F.held t) ≡ unended (F.held s) now ++ map (held_by (owner_for taker now)) (given (F.held s) now (points spent) (points picked)))
-      × (taken ≡ written (given (F.held s) now (points spent) (points picked)) k.out₁)
-      × (refused ≡ written (kept (F.held s) now (points spent) (points picked)) k.out₂)
+      × (taken ≡ with_list (given (F.held s) now (points spent) (points picked)) k.out₁)
+      × (refused ≡ with_list (kept (F.held s) now (points spent) (points picked)) k.out₂)
   unfolding take_cells told
   take_done {s} {t} {picked} {spent} {taker} {now} {taken} {refused} k =
       let h : Held = F.held s in
@@ -175,8 +176,8 @@ module _ {T O : Type 0} {F : Table T O} (f : Faithful F) where
       let gave : List OutPoint = given h now (points spent) (points picked) in
       let rest : List OutPoint = kept h now (points spent) (points picked) in
       let l : List Hold = left ++ map (held_by (owner_for taker now)) gave in
-      let a : List ℕ = written gave k.out₁ in
-      let b : List ℕ = written rest k.out₂ in
+      let a : List ℕ = with_list gave k.out₁ in
+      let b : List ℕ = with_list rest k.out₂ in
       let or = or_refused l a b h k.out₁ k.out₂ in
       let e : Ended₃ l a b (take_cells h picked spent taker now k.out₁ k.out₂) =
       or (readable OutPoints picked) 3 _

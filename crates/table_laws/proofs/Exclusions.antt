@@ -16,10 +16,11 @@ use Rattle.out_points.specs.declared.{Byte32.Byte32, OutPoint.OutPoint}
 use Rattle.out_points.specs.OutPoints.{Fit, byte32_at, eq_point, has, points}
 use Rattle.error.specs.declared.{Refusal.Refusal}
 use Rattle.error.specs.Refusal.{number, answered}
-use Rattle.out_points.specs.Tables.{keep, renew, done, refused, told, has_room, written}
+use Rattle.std.specs.List.{filter}
+use Rattle.out_points.specs.Tables.{renew, done, refused, told, has_room, with_list}
 use Rattle.out_points.proofs.AgainLaws.{written_back}
 use Rattle.table_bytes.specs.Lent.{After, leaving, with_bytes}
-use Rattle.exclusion_entries.specs.Exclusions.{Entry, Ruling, has_hash, committed_at, commit_on, without, remove_on, is_recent, truncated, truncate_on, excluded, apply_on, pending, fitting, entering, add_on, entered, migrate_on}
+use Rattle.exclusion_entries.specs.Exclusions.{MapEntry, Ruling, has_hash, committed_at, commit_on, without, remove_on, is_recent, truncated, truncate_on, excluded, apply_on, pending, fitting, entering, add_on, entered, migrate_on}
 use Rattle.exclusion_entries.specs.Entries.{map_bytes, FitEntry, excluded_at, is_map}
 use Rattle.exclusion_entries.proofs.MapLaws.{map-few, map-count, map-points, map-fits, put_is, zeros_are}
 use Rattle.exclusion_entries.specs.LentMap.{lent_map, lent_tx, left, lent_list}
@@ -46,7 +47,7 @@ reads (run.remove r hash e) = true
 reads (run.truncate r tip e) = true
 reads (run.migrate r old new tx e) = readable (option Transaction) tx
 
-abbrev ruled : Bool → List ℕ → Ruling → After (List Entry)
+abbrev ruled : Bool → List ℕ → Ruling → After (List MapEntry)
 ruled b s o = cond b (lent_map s o) (refused 1 s)
 
 says : {s t : List ℕ} (c : Called s t) → told (with_bytes excluded_at) (answer_of c) t ≡ ruled (reads c) s (outcome_of c)
@@ -58,11 +59,11 @@ says (run.truncate r tip e) = e
 says (run.migrate r old new tx e) = e
 
 -- the entries after it; the bytes after a refusal, and s after a call that is done
-abbrev meant : After (List Entry) → List Entry
+abbrev meant : After (List MapEntry) → List MapEntry
 meant (done p) = p.0
 meant (refused n x) = excluded_at x
 
-abbrev left_or : List ℕ → After (List Entry) → List ℕ
+abbrev left_or : List ℕ → After (List MapEntry) → List ℕ
 left_or s (done p) = s
 left_or s (refused n x) = x
 
@@ -103,11 +104,11 @@ module _ {s t : List ℕ} (c : Called s t) where
 
 -- ---- for any property of the entries: a rule that is done leaves it
 
-abbrev pub Fine : (List Entry → Type 0) → Ruling → Type 0
+abbrev pub Fine : (List MapEntry → Type 0) → Ruling → Type 0
 Fine P (done l) = P l
 Fine P (refused n x) = Unit {0}
 
-pub left-fine : (P : List Entry → Type 0) {s t : List ℕ} (c : Called s t) → P (excluded_at s) → (is_map s ≡ true → Fine P (outcome_of c)) → P (excluded_at t)
+pub left-fine : (P : List MapEntry → Type 0) {s t : List ℕ} (c : Called s t) → P (excluded_at s) → (is_map s ≡ true → Fine P (outcome_of c)) → P (excluded_at t)
 unfolding lent_map leaving
 left-fine P {s} {t} c p f = subst P (sym (entries-left c)) (by (reads c) (is_map s) refl (outcome_of c) f)
   where
@@ -117,7 +118,7 @@ left-fine P {s} {t} c p f = subst P (sym (entries-left c)) (by (reads c) (is_map
     by true false g a f = p
     by false b g a f = p
 
-module _ (P : List Entry → Type 0) where
+module _ (P : List MapEntry → Type 0) where
   pub checked : (c : Bool) (n : ℕ) (a : Ruling) → Fine P a → Fine P (cond c a (refused n tt))
   checked true n a g = g
   checked false n a g = tt
@@ -126,7 +127,7 @@ module _ (P : List Entry → Type 0) where
   either true a b g h = g
   either false a b g h = h
 
-  fits : (l : List Entry) → (length l ≤ 64 → length (excluded l) ≤ 512 → P l) → Fine P (fitting l)
+  fits : (l : List MapEntry) → (length l ≤ 64 → length (excluded l) ≤ 512 → P l) → Fine P (fitting l)
   unfolding fitting
   fits l p = by (leb (length l) 64) (leb (length (excluded l)) 512) refl refl
     where
@@ -135,7 +136,7 @@ module _ (P : List Entry → Type 0) where
       by true false e f = tt
       by false b e f = tt
 
-  pub enters : (l : List Entry) (hash : Byte32) (tx : List ℕ) → P l
+  pub enters : (l : List MapEntry) (hash : Byte32) (tx : List ℕ) → P l
       → (length (renew (has_hash hash) (pending hash tx) l) ≤ 64 → length (excluded (renew (has_hash hash) (pending hash tx) l)) ≤ 512 → P (renew (has_hash hash) (pending hash tx) l))
       → Fine P (entering l hash tx)
   unfolding entering
@@ -143,23 +144,23 @@ module _ (P : List Entry → Type 0) where
 
 -- ---- at most 64 transactions and 512 out points
 
-abbrev Small : List Entry → Type 0
+abbrev Small : List MapEntry → Type 0
 Small l = (length l ≤ 64) × (length (excluded l) ≤ 512)
 
-sifted : (f : Entry → Bool) (l : List Entry) → (length (keep f l) ≤ length l) × (length (excluded (keep f l)) ≤ length (excluded l))
-unfolding keep excluded
+sifted : (f : MapEntry → Bool) (l : List MapEntry) → (length (filter f l) ≤ length l) × (length (excluded (filter f l)) ≤ length (excluded l))
+unfolding excluded
 sifted f [] = (omega arith, omega arith)
 sifted f (e ∷ l) = by (f e) (sifted f l)
   where
-    by : (b : Bool) → (length (keep f l) ≤ length l) × (length (excluded (keep f l)) ≤ length (excluded l))
-        → (length (cond b (e ∷ keep f l) (keep f l)) ≤ suc (length l)) × (length (excluded (cond b (e ∷ keep f l) (keep f l))) ≤ length (e.points ++ excluded l))
-    by true (p, q) = (omega (arith, p), omega (arith, q, length-append e.points (excluded (keep f l)), length-append e.points (excluded l)))
+    by : (b : Bool) → (length (filter f l) ≤ length l) × (length (excluded (filter f l)) ≤ length (excluded l))
+        → (length (cond b (e ∷ filter f l) (filter f l)) ≤ suc (length l)) × (length (excluded (cond b (e ∷ filter f l) (filter f l))) ≤ length (e.points ++ excluded l))
+    by true (p, q) = (omega (arith, p), omega (arith, q, length-append e.points (excluded (filter f l)), length-append e.points (excluded l)))
     by false (p, q) = (omega (arith, p), omega (arith, q, length-append e.points (excluded l)))
 
-sifted_small : (f : Entry → Bool) (l : List Entry) → Small l → Small (keep f l)
+sifted_small : (f : MapEntry → Bool) (l : List MapEntry) → Small l → Small (filter f l)
 sifted_small f l (p, q) = let (a, b) = sifted f l in (omega (arith, a, p), omega (arith, b, q))
 
-marked : (hash : Byte32) (block : BlockNumber) (e : Entry) → (committed_at hash block e).points ≡ e.points
+marked : (hash : Byte32) (block : BlockNumber) (e : MapEntry) → (committed_at hash block e).points ≡ e.points
 unfolding committed_at
 marked hash block e = by (has_hash hash e)
   where
@@ -167,7 +168,7 @@ marked hash block e = by (has_hash hash e)
     by true = refl
     by false = refl
 
-marked_all : (hash : Byte32) (block : BlockNumber) (l : List Entry) → (length (map (committed_at hash block) l) ≡ length l) × (excluded (map (committed_at hash block) l) ≡ excluded l)
+marked_all : (hash : Byte32) (block : BlockNumber) (l : List MapEntry) → (length (map (committed_at hash block) l) ≡ length l) × (excluded (map (committed_at hash block) l) ≡ excluded l)
 unfolding excluded
 marked_all hash block [] = (refl, refl)
 marked_all hash block (e ∷ l) =
@@ -182,15 +183,15 @@ small_step {s} (run.commit r hash block e) m =
     let (p, q) = marked_all (byte32_at hash 0) block (excluded_at s) in
     checked Small (eqb (length hash) 32) 3 (done (map (committed_at (byte32_at hash 0) block) (excluded_at s))) (omega (arith, p, m.0), omega (arith, ap length q, m.1))
 small_step {s} (run.remove r hash e) m =
-    checked Small (eqb (length hash) 32) 3 (done (without (byte32_at hash 0) (excluded_at s))) (sifted_small (λ (x : Entry). not (has_hash (byte32_at hash 0) x)) (excluded_at s) m)
-small_step {s} (run.truncate r tip e) m = sifted_small (λ (x : Entry). is_recent tip x.committed) (excluded_at s) m
+    checked Small (eqb (length hash) 32) 3 (done (without (byte32_at hash 0) (excluded_at s))) (sifted_small (λ (x : MapEntry). not (has_hash (byte32_at hash 0) x)) (excluded_at s) m)
+small_step {s} (run.truncate r tip e) m = sifted_small (λ (x : MapEntry). is_recent tip x.committed) (excluded_at s) m
 small_step {s} (run.migrate r old new tx e) m =
     let o = byte32_at old 0 in
-    let l : List Entry = without o (excluded_at s) in
+    let l : List MapEntry = without o (excluded_at s) in
     checked Small (eqb (length old) 32) 3 _
     (checked Small (eqb (length new) 32) 3 _
     (either Small (entered o (excluded_at s)) (entering l (byte32_at new 0) tx) (done (excluded_at s))
-    (enters Small l (byte32_at new 0) tx (sifted_small (λ (x : Entry). not (has_hash o x)) (excluded_at s) m) (λ a b. (a, b))) m))
+    (enters Small l (byte32_at new 0) tx (sifted_small (λ (x : MapEntry). not (has_hash o x)) (excluded_at s) m) (λ a b. (a, b))) m))
 
 map_small : (s : List ℕ) → is_map s ≡ true → Small (excluded_at s)
 map_small s g = (omega (arith, map-count s g, map-few s g), map-points s g)
@@ -224,16 +225,15 @@ others_same s t g (run.next r c) = let e = others_same s _ g r in other_left c (
 
 -- ---- an entry stands until a call ends it
 
-stands-keep : (x : Entry) (f : Entry → Bool) (l : List Entry) → f x ≡ true → Stands x l → Stands x (keep f l)
-unfolding keep
-stands-keep x f l h (here k) = rw h (here (keep f k))
+stands-keep : (x : MapEntry) (f : MapEntry → Bool) (l : List MapEntry) → f x ≡ true → Stands x l → Stands x (filter f l)
+stands-keep x f l h (here k) = rw h (here (filter f k))
 stands-keep x f l h (there y k s) = by (f y) (stands-keep x f k h s)
   where
-    by : (b : Bool) → Stands x (keep f k) → Stands x (cond b (y ∷ keep f k) (keep f k))
-    by true s = there y (keep f k) s
+    by : (b : Bool) → Stands x (filter f k) → Stands x (cond b (y ∷ filter f k) (filter f k))
+    by true s = there y (filter f k) s
     by false s = s
 
-stands-renew : (x : Entry) (f : Entry → Bool) (e : Entry) (l : List Entry) → f x ≡ false → Stands x l → Stands x (renew f e l)
+stands-renew : (x : MapEntry) (f : MapEntry → Bool) (e : MapEntry) (l : List MapEntry) → f x ≡ false → Stands x l → Stands x (renew f e l)
 unfolding renew
 stands-renew x f e l h (here k) = rw h (here (renew f e k))
 stands-renew x f e l h (there y k s) = by (f y) (stands-renew x f e k h s)
@@ -242,7 +242,7 @@ stands-renew x f e l h (there y k s) = by (f y) (stands-renew x f e k h s)
     by true n = there e k s
     by false n = there y (renew f e k) n
 
-stands_new : (f : Entry → Bool) (e : Entry) (l : List Entry) → Stands e (renew f e l)
+stands_new : (f : MapEntry → Bool) (e : MapEntry) (l : List MapEntry) → Stands e (renew f e l)
 unfolding renew
 stands_new f e [] = here []
 stands_new f e (y ∷ l) = by (f y) (stands_new f e l)
@@ -251,16 +251,16 @@ stands_new f e (y ∷ l) = by (f y) (stands_new f e l)
     by true s = here l
     by false s = there y (renew f e l) s
 
-stands-marked : (x : Entry) (g : Entry → Entry) (l : List Entry) → Stands x l → Stands (g x) (map g l)
+stands-marked : (x : MapEntry) (g : MapEntry → MapEntry) (l : List MapEntry) → Stands x l → Stands (g x) (map g l)
 stands-marked x g l (here k) = here (map g k)
 stands-marked x g l (there y k s) = there (g y) (map g k) (stands-marked x g k s)
 
 -- another transaction's commit leaves it as it is
-unmarked : (hash : Byte32) (block : BlockNumber) (x : Entry) → has_hash hash x ≡ false → committed_at hash block x ≡ x
+unmarked : (hash : Byte32) (block : BlockNumber) (x : MapEntry) → has_hash hash x ≡ false → committed_at hash block x ≡ x
 unfolding committed_at
 unmarked hash block x h = rw h
 
-stands_enters : (x : Entry) (l : List Entry) (hash tx : List ℕ) → replaces hash tx x ≡ false → Stands x l → Fine (Stands x) (entering l (byte32_at hash 0) tx)
+stands_enters : (x : MapEntry) (l : List MapEntry) (hash tx : List ℕ) → replaces hash tx x ≡ false → Stands x l → Fine (Stands x) (entering l (byte32_at hash 0) tx)
 unfolding replaces entering
 stands_enters x l hash tx e i = by (eqb (length tx) 0) e
   where
@@ -268,26 +268,26 @@ stands_enters x l hash tx e i = by (eqb (length tx) 0) e
     by true h = i
     by false h = fits (Stands x) (renew (has_hash (byte32_at hash 0)) (pending (byte32_at hash 0) tx) l) (λ a b. stands-renew x (has_hash (byte32_at hash 0)) (pending (byte32_at hash 0) tx) l h i)
 
-stands_step : (x : Entry) {s t : List ℕ} (c : Called s t) → ends x c ≡ false → Stands x (excluded_at s) → Fine (Stands x) (outcome_of c)
+stands_step : (x : MapEntry) {s t : List ℕ} (c : Called s t) → ends x c ≡ false → Stands x (excluded_at s) → Fine (Stands x) (outcome_of c)
 unfolding ends commit_on remove_on without truncate_on truncated add_on migrate_on
 stands_step x {s} (run.add r hash tx e) h i = checked (Stands x) (eqb (length hash) 32) 3 _ (stands_enters x (excluded_at s) hash tx h i)
 stands_step x {s} (run.commit r hash block e) h i =
     let g = committed_at (byte32_at hash 0) block in
     checked (Stands x) (eqb (length hash) 32) 3 (done (map g (excluded_at s)))
-    (subst (λ (y : Entry). Stands y (map g (excluded_at s))) (unmarked (byte32_at hash 0) block x h) (stands-marked x g (excluded_at s) i))
+    (subst (λ (y : MapEntry). Stands y (map g (excluded_at s))) (unmarked (byte32_at hash 0) block x h) (stands-marked x g (excluded_at s) i))
 stands_step x {s} (run.remove r hash e) h i =
-    checked (Stands x) (eqb (length hash) 32) 3 (done (without (byte32_at hash 0) (excluded_at s))) (stands-keep x (λ (y : Entry). not (has_hash (byte32_at hash 0) y)) (excluded_at s) (rw h) i)
-stands_step x {s} (run.truncate r tip e) h i = stands-keep x (λ (y : Entry). is_recent tip y.committed) (excluded_at s) (not-false (is_recent tip x.committed) h) i
+    checked (Stands x) (eqb (length hash) 32) 3 (done (without (byte32_at hash 0) (excluded_at s))) (stands-keep x (λ (y : MapEntry). not (has_hash (byte32_at hash 0) y)) (excluded_at s) (rw h) i)
+stands_step x {s} (run.truncate r tip e) h i = stands-keep x (λ (y : MapEntry). is_recent tip y.committed) (excluded_at s) (not-false (is_recent tip x.committed) h) i
 stands_step x {s} (run.migrate r old new tx e) h i =
     checked (Stands x) (eqb (length old) 32) 3 _ (checked (Stands x) (eqb (length new) 32) 3 _ (by (entered (byte32_at old 0) (excluded_at s)) (has_hash (byte32_at old 0) x) refl h))
   where
     by : (b d : Bool) → has_hash (byte32_at old 0) x ≡ d → cond b (cond d true (replaces new tx x)) false ≡ false
-        → Fine (Stands x) (cond b (entering (keep (λ e. not (has_hash (byte32_at old 0) e)) (excluded_at s)) (byte32_at new 0) tx) (done (excluded_at s)))
+        → Fine (Stands x) (cond b (entering (filter (λ e. not (has_hash (byte32_at old 0) e)) (excluded_at s)) (byte32_at new 0) tx) (done (excluded_at s)))
     by true true g k = absurd (false≢true (sym k))
-    by true false g k = stands_enters x (keep (λ e. not (has_hash (byte32_at old 0) e)) (excluded_at s)) new tx k (stands-keep x (λ (y : Entry). not (has_hash (byte32_at old 0) y)) (excluded_at s) (rw g) i)
+    by true false g k = stands_enters x (filter (λ e. not (has_hash (byte32_at old 0) e)) (excluded_at s)) new tx k (stands-keep x (λ (y : MapEntry). not (has_hash (byte32_at old 0) y)) (excluded_at s) (rw g) i)
     by false d g k = i
 
-stands-call : (x : Entry) {s t : List ℕ} (c : Called s t) → outlives x c ≡ true → Stands x (excluded_at s) → Stands x (excluded_at t)
+stands-call : (x : MapEntry) {s t : List ℕ} (c : Called s t) → outlives x c ≡ true → Stands x (excluded_at s) → Stands x (excluded_at t)
 unfolding outlives is_done
 stands-call x {s} {t} c h i = by (answer_of c) refl h
   where
@@ -310,7 +310,7 @@ has-append p (q ∷ l) r = by (eq_point p q) (has-append p l r)
     by true e = refl
     by false e = e
 
-stands-excluded : (x : Entry) (l : List Entry) (p : OutPoint) → Stands x l → has p x.points ≡ true → has p (excluded l) ≡ true
+stands-excluded : (x : MapEntry) (l : List MapEntry) (p : OutPoint) → Stands x l → has p x.points ≡ true → has p (excluded l) ≡ true
 unfolding excluded
 stands-excluded x l p (here k) h = has-append p x.points (excluded k) ∙ rw h
 stands-excluded x l p (there y k s) h = has-append p y.points (excluded k) ∙ rw (stands-excluded x k p s h) (by (has p y.points))
@@ -323,18 +323,18 @@ fit_append : (l r : List OutPoint) → All Fit l → All Fit r → All Fit (l ++
 fit_append [] r a b = b
 fit_append (p ∷ l) r a b = (a.0, fit_append l r a.1 b)
 
-excluded-fit : (l : List Entry) → All FitEntry l → All Fit (excluded l)
+excluded-fit : (l : List MapEntry) → All FitEntry l → All Fit (excluded l)
 unfolding excluded
 excluded-fit [] a = tt
 excluded-fit (e ∷ l) a = fit_append e.points (excluded l) a.0.points-fit (excluded-fit l a.1)
 
 -- an `apply` that is done writes all of them
-applied : (t out after : List ℕ) → (answered {T = Unit {0}} (Ok tt), after) ≡ lent_list t out (apply_on (excluded_at t) out) → (is_map t ≡ true) × (after ≡ written (excluded (excluded_at t)) out)
+applied : (t out after : List ℕ) → (answered {T = Unit {0}} (Ok tt), after) ≡ lent_list t out (apply_on (excluded_at t) out) → (is_map t ≡ true) × (after ≡ with_list (excluded (excluded_at t)) out)
 unfolding answered number lent_list apply_on
 applied t out after e = by (is_map t) (has_room (excluded (excluded_at t)) out) refl e
   where
-    by : (a b : Bool) → is_map t ≡ a → ◌≡◌ {A = ℕ × List ℕ} (0, after) (cond a (cond b (0, written (excluded (excluded_at t)) out) (13, out)) (3, out))
-        → (is_map t ≡ true) × (after ≡ written (excluded (excluded_at t)) out)
+    by : (a b : Bool) → is_map t ≡ a → ◌≡◌ {A = ℕ × List ℕ} (0, after) (cond a (cond b (0, with_list (excluded (excluded_at t)) out) (13, out)) (3, out))
+        → (is_map t ≡ true) × (after ≡ with_list (excluded (excluded_at t)) out)
     by true true g f = (g, ap (λ (q : ℕ × List ℕ). q.1) f)
     by true false g f = absurd (let z : ◌≡◌ {A = ℕ} 0 13 = ap (λ (q : ℕ × List ℕ). q.0) f in omega arith)
     by false b g f = absurd (let z : ◌≡◌ {A = ℕ} 0 3 = ap (λ (q : ℕ × List ℕ). q.0) f in omega arith)
@@ -349,15 +349,15 @@ stays_excluded x s t i r b out after e p h =
 -- ---- where it comes from
 
 -- of a call that is done, the property of the entries that its rule gives
-done-fine : (P : List Entry → Type 0) {s t : List ℕ} (c : Called s t) → answer_of c ≡ Ok tt → Fine P (outcome_of c) → P (excluded_at t)
+done-fine : (P : List MapEntry → Type 0) {s t : List ℕ} (c : Called s t) → answer_of c ≡ Ok tt → Fine P (outcome_of c) → P (excluded_at t)
 unfolding told with_bytes lent_map leaving
 done-fine P {s} {t} c a f = by (reads c) (is_map s) (outcome_of c) (sym (ap (λ (v : Answer). told (with_bytes excluded_at) v t) a) ∙ says c) f
   where
-    is_done : After (List Entry) → Type 0
+    is_done : After (List MapEntry) → Type 0
     is_done (done p) = P p.0
     is_done (refused n x) = Unit {0}
 
-    by : (d b : Bool) (a : Ruling) → ◌≡◌ {A = After (List Entry)} (done (excluded_at t, t)) (cond d (cond b (leaving map_bytes s a) (refused 3 s)) (refused 1 s)) → Fine P a → P (excluded_at t)
+    by : (d b : Bool) (a : Ruling) → ◌≡◌ {A = After (List MapEntry)} (done (excluded_at t, t)) (cond d (cond b (leaving map_bytes s a) (refused 3 s)) (refused 1 s)) → Fine P a → P (excluded_at t)
     by true true (done l) g f = subst is_done (sym g) f
     by true true (refused n x) g f = subst is_done (sym g) tt
     by true false a g f = subst is_done (sym g) tt
@@ -377,7 +377,7 @@ unfolding answer_of migrate_on entering
 migrate_enters s t old new tx z k e =
     let n = byte32_at new 0 in
     let P = Stands (pending n tx) in
-    let l : List Entry = without (byte32_at old 0) (excluded_at s) in
+    let l : List MapEntry = without (byte32_at old 0) (excluded_at s) in
     done-fine P (run.migrate (Ok tt) old new tx e) refl
     (checked P (eqb (length old) 32) 3 _
     (checked P (eqb (length new) 32) 3 _

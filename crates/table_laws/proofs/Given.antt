@@ -9,7 +9,7 @@ use Rattle.units.specs.{declared.Millis.Millis, Units.later}
 use Rattle.molecule.specs.Partial.{All}
 use Rattle.out_points.specs.declared.OutPoint.{OutPoint}
 use Rattle.out_points.specs.OutPoints.{eq_point, has, points, Fit}
-use Rattle.out_points.specs.Tables.{keep}
+use Rattle.std.specs.List.{filter}
 use Rattle.out_points.proofs.EqualLaws.{point-same, point_refl}
 use Rattle.out_points.proofs.ListLaws.{length-points}
 use Rattle.out_points.proofs.AgainLaws.{written_back, points-fit, count_fits}
@@ -62,21 +62,19 @@ module _ (f : OutPoint → Bool) where
       by false x y = (a, y)
 
 module _ (f : Hold → Bool) where
-  keep-few : (l : List Hold) → length (cells_of (keep f l)) ≤ length l
-  unfolding keep
+  keep-few : (l : List Hold) → length (cells_of (filter f l)) ≤ length l
   keep-few [] = omega arith
   keep-few (r ∷ l) = by (f r) (keep-few l)
     where
-      by : (b : Bool) → length (cells_of (keep f l)) ≤ length l → length (cells_of (cond b (r ∷ keep f l) (keep f l))) ≤ suc (length l)
+      by : (b : Bool) → length (cells_of (filter f l)) ≤ length l → length (cells_of (cond b (r ∷ filter f l) (filter f l))) ≤ suc (length l)
       by true x = omega (arith, x)
       by false x = omega (arith, x)
 
-  keep-fit : (l : List Hold) → All Fit (cells_of l) → All Fit (cells_of (keep f l))
-  unfolding keep
+  keep-fit : (l : List Hold) → All Fit (cells_of l) → All Fit (cells_of (filter f l))
   keep-fit [] a = tt
   keep-fit (r ∷ l) (a, b) = by (f r) (keep-fit l b)
     where
-      by : (b : Bool) → All Fit (cells_of (keep f l)) → All Fit (cells_of (cond b (r ∷ keep f l) (keep f l)))
+      by : (b : Bool) → All Fit (cells_of (filter f l)) → All Fit (cells_of (cond b (r ∷ filter f l) (filter f l)))
       by true x = (a, x)
       by false x = x
 
@@ -153,7 +151,7 @@ module _ {T O : Type 0} {F : Table T O} (f : Faithful F) where
       (taken-stands (owner_for taker now) p (unended (F.held s) now) (given (F.held s) now (points spent) (points picked)) (sym (ap (has p) (taken_is f k)) ∙ e))
   leaves-held s t x (run.funded {holder} {cells} k p e) =
       left-done (Stands x) (f.alone s t (Ok tt) _ k.says)
-      (hold-fine (Stands x) (F.held s) holder cells (taken-stands (Owner.Funding holder) p (keep (is_not_of holder) (records_of (F.held s))) (points cells) e))
+      (hold-fine (Stands x) (F.held s) holder cells (taken-stands (Owner.Funding holder) p (filter (is_not_of holder) (records_of (F.held s))) (points cells) e))
   leaves-held s t x (run.watched {cells} {now} k p e) =
       left-done (Stands x) (f.alone s t (Ok tt) _ k.says)
       (watch-fine (Stands x) (F.held s) cells now (named-stands (later now (record { 0 = 1800000 })) p (points cells) (records_of (F.held s)) e))

@@ -9,7 +9,8 @@ use Rattle.units.specs.Units.{later}
 use Rattle.out_points.specs.declared.OutPoint.{OutPoint}
 use Rattle.out_points.specs.OutPoints.{eq_point, has, points}
 use Rattle.out_points.proofs.EqualLaws.{point-same, point_refl}
-use Rattle.out_points.specs.Tables.{keep, renew}
+use Rattle.std.specs.List.{filter}
+use Rattle.out_points.specs.Tables.{renew}
 use Rattle.hold_records.specs.declared.{Owner.Owner, Hold.Hold}
 use Rattle.hold_records.specs.Holds.{records_of, held_by, by_owner, cells_of, is_not_of, is_unnamed, is_tower_on, renew_all, is_live, is_busy, is_new, firsts, owner_for}
 use Rattle.table_laws.specs.Holds as run
@@ -32,12 +33,12 @@ module _ (p : OutPoint) where
       by true e = omega (arith, e)
       by false e = e
 
-  towers-keep : (f : Hold → Bool) (l : List Hold) → towers p (keep f l) ≤ towers p l
-  unfolding towers keep
+  towers-keep : (f : Hold → Bool) (l : List Hold) → towers p (filter f l) ≤ towers p l
+  unfolding towers
   towers-keep f [] = omega arith
   towers-keep f (r ∷ l) = by (f r) (is_tower_on p r) refl (towers-keep f l)
     where
-      by : (t u : Bool) → is_tower_on p r ≡ u → towers p (keep f l) ≤ towers p l → towers p (cond t (r ∷ keep f l) (keep f l)) ≤ cond u (suc (towers p l)) (towers p l)
+      by : (t u : Bool) → is_tower_on p r ≡ u → towers p (filter f l) ≤ towers p l → towers p (cond t (r ∷ filter f l) (filter f l)) ≤ cond u (suc (towers p l)) (towers p l)
       by true true e h = rw e (omega (arith, h))
       by true false e h = rw e h
       by false true e h = omega (arith, h)
@@ -48,7 +49,7 @@ module _ (p : OutPoint) where
   towers-funding holder [] = refl
   towers-funding holder (q ∷ ps) = towers-funding holder ps
 
-keep_single : (f : Hold → Bool) (l : List Hold) → Single l → Single (keep f l)
+keep_single : (f : Hold → Bool) (l : List Hold) → Single l → Single (filter f l)
 keep_single f l s p = let a = towers-keep p f l in let b = s p in omega arith
 
 -- ---- a renewed record
@@ -196,9 +197,9 @@ take_single left spent picks owner s p = by (is_busy left spent p) refl
 
 -- ---- the calls
 
-funding_single : (holder : ℕ) (f : Hold → Bool) (l : List Hold) (ps : List OutPoint) → Single l → Single (keep f l ++ map (held_by (Owner.Funding holder)) ps)
+funding_single : (holder : ℕ) (f : Hold → Bool) (l : List Hold) (ps : List OutPoint) → Single l → Single (filter f l ++ map (held_by (Owner.Funding holder)) ps)
 funding_single holder f l ps s p =
-    let a = towers-append p (keep f l) (map (held_by (Owner.Funding holder)) ps) in
+    let a = towers-append p (filter f l) (map (held_by (Owner.Funding holder)) ps) in
     let b = towers-keep p f l in
     let c = towers-funding p holder ps in
     let d = s p in

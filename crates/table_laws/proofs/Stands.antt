@@ -12,7 +12,8 @@ use Rattle.units.specs.Units.{later}
 use Rattle.out_points.specs.declared.{OutPoint.OutPoint}
 use Rattle.out_points.specs.OutPoints.{eq_point, has, points}
 use Rattle.out_points.proofs.EqualLaws.{point-same, point_refl}
-use Rattle.out_points.specs.Tables.{keep, renew}
+use Rattle.std.specs.List.{filter}
+use Rattle.out_points.specs.Tables.{renew}
 use Rattle.hold_records.specs.declared.{Owner.Owner, Hold.Hold, Held.Held}
 use Rattle.hold_records.specs.Holds.{records_of, held_by, by_owner, cells_of, is_not_of, is_unnamed, is_tower_on, renew_all, is_live}
 use Rattle.watchtower_holds.proofs.RenewLaws.{tower}
@@ -24,13 +25,12 @@ use Rattle.table_laws.specs.Answers.{Answer}
 
 -- ---- which list operations it outlives
 
-pub stands-keep : (r : Hold) (f : Hold → Bool) (l : List Hold) → f r ≡ true → Stands r l → Stands r (keep f l)
-unfolding keep
-stands-keep r f l h (here k) = rw h (here (keep f k))
+pub stands-keep : (r : Hold) (f : Hold → Bool) (l : List Hold) → f r ≡ true → Stands r l → Stands r (filter f l)
+stands-keep r f l h (here k) = rw h (here (filter f k))
 stands-keep r f l h (there x k s) = by (f x) (stands-keep r f k h s)
   where
-    by : (b : Bool) → Stands r (keep f k) → Stands r (cond b (x ∷ keep f k) (keep f k))
-    by true s = there x (keep f k) s
+    by : (b : Bool) → Stands r (filter f k) → Stands r (cond b (x ∷ filter f k) (filter f k))
+    by true s = there x (filter f k) s
     by false s = s
 
 stands-append : (r : Hold) (l m : List Hold) → Stands r l → Stands r (l ++ m)
@@ -175,15 +175,15 @@ module _ {T O : Type 0} {F : Table T O} (f : Faithful F) where
       by_answer x a _ (f.alone s t a _ e) (hold-fine (λ _. Unit {0}) (F.held s) holder cells tt) (hold-fine (λ l. Made x l _) (F.held s) holder cells (kept x _ _ by)) q
     where
       by : cond (is_not_of holder x) true (has x.point (points cells)) ≡ true
-          → Stands x (keep (is_not_of holder) (records_of (F.held s)) ++ map (held_by (Owner.Funding holder)) (points cells))
+          → Stands x (filter (is_not_of holder) (records_of (F.held s)) ++ map (held_by (Owner.Funding holder)) (points cells))
       by h = either (is_not_of holder x) refl h
         where
           either : (b : Bool) → is_not_of holder x ≡ b → cond b true (has x.point (points cells)) ≡ true
-              → Stands x (keep (is_not_of holder) (records_of (F.held s)) ++ map (held_by (Owner.Funding holder)) (points cells))
-          either true k h = stands-append x (keep (is_not_of holder) (records_of (F.held s))) _ (stands-keep x (is_not_of holder) (records_of (F.held s)) k q)
+              → Stands x (filter (is_not_of holder) (records_of (F.held s)) ++ map (held_by (Owner.Funding holder)) (points cells))
+          either true k h = stands-append x (filter (is_not_of holder) (records_of (F.held s))) _ (stands-keep x (is_not_of holder) (records_of (F.held s)) k q)
           either false k h =
-              subst (λ (y : Hold). Stands y (keep (is_not_of holder) (records_of (F.held s)) ++ map (held_by (Owner.Funding holder)) (points cells))) (is-of x holder k)
-              (taken-stands (Owner.Funding holder) x.point (keep (is_not_of holder) (records_of (F.held s))) (points cells) h)
+              subst (λ (y : Hold). Stands y (filter (is_not_of holder) (records_of (F.held s)) ++ map (held_by (Owner.Funding holder)) (points cells))) (is-of x holder k)
+              (taken-stands (Owner.Funding holder) x.point (filter (is_not_of holder) (records_of (F.held s))) (points cells) h)
   made x (run.watch {s} {t} a cells now e) q =
       by_answer x a _ (f.alone s t a _ e) (watch-fine (λ _. Unit {0}) (F.held s) cells now tt) (watch-fine (λ l. Made x l _) (F.held s) cells now (by (is_unnamed (points cells) x) refl)) q
     where

@@ -10,7 +10,7 @@ use Rattle.out_points.specs.declared.{Byte32.Byte32, OutPoint.OutPoint}
 use Rattle.out_points.specs.OutPoints.{byte32_at, has, points}
 use Rattle.out_points.specs.Tables.{told}
 use Rattle.table_bytes.specs.Lent.{with_bytes}
-use Rattle.exclusion_entries.specs.Exclusions.{Entry, has_hash, committed_at, commit_on, remove_on, is_recent, truncate_on, excluded, apply_on, pending, add_on, entered, migrate_on}
+use Rattle.exclusion_entries.specs.Exclusions.{MapEntry, has_hash, committed_at, commit_on, remove_on, is_recent, truncate_on, excluded, apply_on, pending, add_on, entered, migrate_on}
 use Rattle.exclusion_entries.specs.Entries.{excluded_at, is_map}
 use Rattle.exclusion_entries.specs.LentMap.{lent_map, lent_tx, lent_list}
 use Rattle.table_laws.specs.Answers.{Answer}
@@ -54,7 +54,7 @@ abbrev pub ZerosWithin : Type 0
 ZerosWithin = (t : List ℕ) → Reached (replicate 21508 0) t → Within t
 
 -- how many entries a hash has: one at most after any list of calls, if so before it, as in the empty map
-unfoldable pub entries_of : Byte32 → List Entry → ℕ
+unfoldable pub entries_of : Byte32 → List MapEntry → ℕ
 entries_of h [] = 0
 entries_of h (e ∷ l) = cond (has_hash h e) (suc (entries_of h l)) (entries_of h l)
 
@@ -77,16 +77,16 @@ OthersSame = (s t : List ℕ) → is_map s ≡ false → Reached s t → t ≡ s
 -- ---- how long a transaction is excluded
 
 -- the entry stands in the list
-pub data Stands (x : Entry) : List Entry → Type 0 where
-  here : (l : List Entry) → Stands x (x ∷ l)
-  there : (y : Entry) (l : List Entry) → Stands x l → Stands x (y ∷ l)
+pub data Stands (x : MapEntry) : List MapEntry → Type 0 where
+  here : (l : List MapEntry) → Stands x (x ∷ l)
+  there : (y : MapEntry) (l : List MapEntry) → Stands x l → Stands x (y ∷ l)
 
 -- a transaction that is entered under the hash takes the place of x
-unfoldable pub replaces : List ℕ → List ℕ → Entry → Bool
+unfoldable pub replaces : List ℕ → List ℕ → MapEntry → Bool
 replaces hash tx x = cond (eqb (length tx) 0) false (has_hash (byte32_at hash 0) x)
 
 -- what ends x: a done call on its own hash, which changes or replaces it or takes it out; and `truncate` at a tip by which it is not recent
-unfoldable pub ends : {s t : List ℕ} → Entry → Called s t → Bool
+unfoldable pub ends : {s t : List ℕ} → MapEntry → Called s t → Bool
 ends x (add r hash tx e) = replaces hash tx x
 ends x (commit r hash block e) = has_hash (byte32_at hash 0) x
 ends x (remove r hash e) = has_hash (byte32_at hash 0) x
@@ -97,21 +97,21 @@ unfoldable pub is_done : Answer → Bool
 is_done (Ok _) = true
 is_done (Err why) = false
 
-unfoldable pub outlives : {s t : List ℕ} → Entry → Called s t → Bool
+unfoldable pub outlives : {s t : List ℕ} → MapEntry → Called s t → Bool
 outlives x c = cond (is_done (answer_of c)) (not (ends x c)) true
 
 -- a list of calls none of which ends x
-pub data Outlived (x : Entry) (s : List ℕ) : List ℕ → Type 0 where
+pub data Outlived (x : MapEntry) (s : List ℕ) : List ℕ → Type 0 where
   none : Outlived x s s
   then : {t u : List ℕ} → Outlived x s t → (c : Called t u) → outlives x c ≡ true → Outlived x s u
 
 -- an entry stands after any list of calls none of which ends it
 abbrev pub StaysEntered : Type 0
-StaysEntered = (x : Entry) (s t : List ℕ) → Stands x (excluded_at s) → Outlived x s t → Stands x (excluded_at t)
+StaysEntered = (x : MapEntry) (s t : List ℕ) → Stands x (excluded_at s) → Outlived x s t → Stands x (excluded_at t)
 
 -- and so an `apply` that is done writes each of its out points; the table's are bytes, as every lent slice is
 abbrev pub StaysExcluded : Type 0
-StaysExcluded = (x : Entry) (s t : List ℕ) → Stands x (excluded_at s) → Outlived x s t
+StaysExcluded = (x : MapEntry) (s t : List ℕ) → Stands x (excluded_at s) → Outlived x s t
     → AllBytes t → (out after : List ℕ) → (answered {T = Unit {0}} (Ok tt), after) ≡ lent_list t out (apply_on (excluded_at t) out)
     → (p : OutPoint) → has p x.points ≡ true → has p (points after) ≡ true
 
@@ -126,5 +126,5 @@ MigrateEnters = (s t old new tx : List ℕ) → (length tx ≡ 0 → ⊥) → en
     → told (with_bytes excluded_at) (Ok tt) t ≡ lent_tx tx s (migrate_on (excluded_at s) old new tx) → Stands (pending (byte32_at new 0) tx) (excluded_at t)
 
 abbrev pub CommitMarks : Type 0
-CommitMarks = (x : Entry) (s t hash : List ℕ) (block : BlockNumber) → Stands x (excluded_at s) → told (with_bytes excluded_at) (Ok tt) t ≡ lent_map s (commit_on (excluded_at s) hash block)
+CommitMarks = (x : MapEntry) (s t hash : List ℕ) (block : BlockNumber) → Stands x (excluded_at s) → told (with_bytes excluded_at) (Ok tt) t ≡ lent_map s (commit_on (excluded_at s) hash block)
     → Stands (committed_at (byte32_at hash 0) block x) (excluded_at t)

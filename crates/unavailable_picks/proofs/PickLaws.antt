@@ -22,7 +22,7 @@ use Rattle.pick_kinds.specs.Kinds.{is_among, kind_of, Kinds}
 use Rattle.pick_kinds.proofs.KindLaws.{kind_put}
 use Rattle.unavailable_picks.specs.Unavailable.{is_first, select, named}
 use Rattle.out_points.specs.Tables.{has_room}
-use Rattle.hold_records.specs.Rules.{put_if}
+use Rattle.hold_records.specs.Inner.{put_if}
 use Rattle.hold_records.proofs.WriteLaws.{Listing, list_start, list_more, list_end, list_long, room_no, room_yes, put_no, put_yes, list_put}
 use Rattle.unavailable_picks.proofs.FirstLaws.{firsts-select}
 

@@ -7,7 +7,7 @@ ghost use Rattle.molecule.specs.Write.{Put};
 ghost use Rattle.out_points.specs.OutPoints.{slot_of, point_of, points, bytes_of};
 ghost use Rattle.out_points.specs.Tables.{has_room};
 ghost use Rattle.hold_records.specs.Holds.{records_of, is_busy, firsts};
-ghost use Rattle.hold_records.specs.Rules.{put_if};
+ghost use Rattle.hold_records.specs.Inner.{put_if};
 ghost use Rattle.pick_kinds.specs.Kinds.{kind_of, Kinds};
 ghost use Rattle.pick_kinds.specs.Picks.{among_of, KindsOf};
 ghost use Rattle.unavailable_picks.specs.Unavailable.{marked, Marks, is_first};

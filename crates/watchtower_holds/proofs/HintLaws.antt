@@ -15,7 +15,7 @@ use Rattle.out_points.specs.OutPoints.{eq_point, slot_of, point_of, points}
 use Rattle.out_points.proofs.EqualLaws.{point-same, slot_below}
 use Rattle.hold_records.specs.declared.{Owner.Owner, Hold.Hold, Held.Held}
 use Rattle.hold_records.specs.Holds.{records_of, by_owner, is_tower_on, renew_all}
-use Rattle.watchtower_holds.specs.Places.{place_of, noted, Within, Hints}
+use Rattle.watchtower_holds.specs.Inner.{tower_place, noted, NotMissed, Hints}
 use Rattle.watchtower_holds.proofs.RenewLaws.{tower, place_most, stands_at, stands_on, Renewing, renew-start, renew-more, renew-full, renew-end, renew_short}
 
 -- ---- the hints of a slot
@@ -63,11 +63,11 @@ module _ (m : List ℕ) (x n : ℕ) (w : length m ≡ 8186) (s : x < 4093) where
       by false false = w
 
   -- the place is not missed
-  noted-there : (j : ℕ) → j ≡ n → Within (get_or (noted m x n) (2 * x) 0) (get_or (noted m x n) (2 * x + 1) 0) j
+  noted-there : (j : ℕ) → j ≡ n → NotMissed (get_or (noted m x n) (2 * x) 0) (get_or (noted m x n) (2 * x + 1) 0) j
   unfolding noted
   noted-there j z = by (ltb n (get_or m (2 * x) 0)) refl (ltb (get_or m (2 * x) 0) n) refl
     where
-      by : (u : Bool) → ltb n (get_or m (2 * x) 0) ≡ u → (v : Bool) → ltb (get_or m (2 * x) 0) n ≡ v → Within (get_or (after u v) (2 * x) 0) (get_or (after u v) (2 * x + 1) 0) j
+      by : (u : Bool) → ltb n (get_or m (2 * x) 0) ≡ u → (v : Bool) → ltb (get_or m (2 * x) 0) n ≡ v → NotMissed (get_or (after u v) (2 * x) 0) (get_or (after u v) (2 * x + 1) 0) j
       by true p v q = let a = get_or-set_same m (2 * x) n 0 (omega arith) in record { least = omega arith; behind = λ l. absurd (omega arith) }
       by false p true q =
           let c : get_or m (2 * x) 0 < n = ltb-true _ _ q in
@@ -80,12 +80,12 @@ module _ (m : List ℕ) (x n : ℕ) (w : length m ≡ 8186) (s : x < 4093) where
           record { least = omega arith; behind = λ l. absurd (omega arith) }
 
   -- another of its slot is not missed either, if there was none where the place comes before the first hint
-  noted_near : (j : ℕ) → Within (get_or m (2 * x) 0) (get_or m (2 * x + 1) 0) j → (n < get_or m (2 * x) 0 → j < get_or m (2 * x) 0)
-      → Within (get_or (noted m x n) (2 * x) 0) (get_or (noted m x n) (2 * x + 1) 0) j
+  noted_near : (j : ℕ) → NotMissed (get_or m (2 * x) 0) (get_or m (2 * x + 1) 0) j → (n < get_or m (2 * x) 0 → j < get_or m (2 * x) 0)
+      → NotMissed (get_or (noted m x n) (2 * x) 0) (get_or (noted m x n) (2 * x + 1) 0) j
   unfolding noted
   noted_near j k h = by (ltb n (get_or m (2 * x) 0)) refl (ltb (get_or m (2 * x) 0) n)
     where
-      by : (u : Bool) → ltb n (get_or m (2 * x) 0) ≡ u → (v : Bool) → Within (get_or (after u v) (2 * x) 0) (get_or (after u v) (2 * x + 1) 0) j
+      by : (u : Bool) → ltb n (get_or m (2 * x) 0) ≡ u → (v : Bool) → NotMissed (get_or (after u v) (2 * x) 0) (get_or (after u v) (2 * x + 1) 0) j
       by true p v = let a = h (ltb-true _ _ p) in let b = k.least in absurd (omega arith)
       by false p true =
           let a = get_or-set_other m (2 * x + 1) (2 * x) (min (get_or m (2 * x + 1) 0) (n - 1)) 0 (λ y. omega arith) in
@@ -94,11 +94,11 @@ module _ (m : List ℕ) (x n : ℕ) (w : length m ≡ 8186) (s : x < 4093) where
       by false p false = k
 
   -- nor one of another slot
-  noted_far : (y j : ℕ) → (y ≡ x → ⊥) → Within (get_or m (2 * y) 0) (get_or m (2 * y + 1) 0) j → Within (get_or (noted m x n) (2 * y) 0) (get_or (noted m x n) (2 * y + 1) 0) j
+  noted_far : (y j : ℕ) → (y ≡ x → ⊥) → NotMissed (get_or m (2 * y) 0) (get_or m (2 * y + 1) 0) j → NotMissed (get_or (noted m x n) (2 * y) 0) (get_or (noted m x n) (2 * y + 1) 0) j
   unfolding noted
   noted_far y j z k = by (ltb n (get_or m (2 * x) 0)) (ltb (get_or m (2 * x) 0) n)
     where
-      by : (u v : Bool) → Within (get_or (after u v) (2 * y) 0) (get_or (after u v) (2 * y + 1) 0) j
+      by : (u v : Bool) → NotMissed (get_or (after u v) (2 * y) 0) (get_or (after u v) (2 * y + 1) 0) j
       by true v =
           let a = get_or-set_other m (2 * x) (2 * y) n 0 (λ q. z (omega arith)) in
           let b = get_or-set_other m (2 * x) (2 * y + 1) n 0 (λ q. omega arith) in
@@ -141,18 +141,18 @@ module _ {m : List ℕ} {l : List Hold} {n : ℕ} (k : Hints m l n) where
     hints_noted : Hints m' l' n'
     hints_noted = rw em (record { enough = noted-long m (slot_of p) a k.enough (slot_below p); each = λ q j d b e. by q j d b e (eqb j a) refl })
       where
-        there : (q : OutPoint) (j : ℕ) → j ≡ a → q ≡ p → Within (get_or (noted m (slot_of p) a) (2 * slot_of q) 0) (get_or (noted m (slot_of p) a) (2 * slot_of q + 1) 0) j
+        there : (q : OutPoint) (j : ℕ) → j ≡ a → q ≡ p → NotMissed (get_or (noted m (slot_of p) a) (2 * slot_of q) 0) (get_or (noted m (slot_of p) a) (2 * slot_of q + 1) 0) j
         there q j z e = rw e (noted-there m (slot_of p) a k.enough (slot_below p) j z)
 
-        near : (q : OutPoint) (j : ℕ) → j < n → Within (get_or m (2 * slot_of q) 0) (get_or m (2 * slot_of q + 1) 0) j → (c : Bool) → eqb (slot_of q) (slot_of p) ≡ c
-            → Within (get_or (noted m (slot_of p) a) (2 * slot_of q) 0) (get_or (noted m (slot_of p) a) (2 * slot_of q + 1) 0) j
+        near : (q : OutPoint) (j : ℕ) → j < n → NotMissed (get_or m (2 * slot_of q) 0) (get_or m (2 * slot_of q + 1) 0) j → (c : Bool) → eqb (slot_of q) (slot_of p) ≡ c
+            → NotMissed (get_or (noted m (slot_of p) a) (2 * slot_of q) 0) (get_or (noted m (slot_of p) a) (2 * slot_of q + 1) 0) j
         near q j b w true z =
             let e : slot_of q ≡ slot_of p = eqb-true _ _ z in
             rw e (noted_near m (slot_of p) a k.enough (slot_below p) j (rw e at w) (λ c. (let f = h c in omega arith)))
         near q j b w false z = noted_far m (slot_of p) a k.enough (slot_below p) (slot_of q) j (eqb-false _ _ z) w
 
         by : (q : OutPoint) (j : ℕ) (d : Hold) → j < n' → is_tower_on q (get_or l' j d) ≡ true → (c : Bool) → eqb j a ≡ c
-            → Within (get_or (noted m (slot_of p) a) (2 * slot_of q) 0) (get_or (noted m (slot_of p) a) (2 * slot_of q + 1) 0) j
+            → NotMissed (get_or (noted m (slot_of p) a) (2 * slot_of q) 0) (get_or (noted m (slot_of p) a) (2 * slot_of q + 1) 0) j
         by q j d b e true z = let y : j ≡ a = eqb-true _ _ z in there q j y (new q d (ap (λ (x : ℕ). is_tower_on q (get_or l' x d)) (sym y) ∙ e))
         by q j d b e false z = let o = old q j d (eqb-false _ _ z) b e in near q j o.0 (k.each q j d o.0 o.1) (eqb (slot_of q) (slot_of p)) refl
 
@@ -247,57 +247,57 @@ module _ {t : Millis} {s : List ℕ} {h g : Held} {n i : ℕ} {m₀ m : List ℕ
 
   module _ (p : OutPoint) {j : ℕ} (ej : j ≡ get_or m (2 * slot_of p) 0) where
     -- the first record on p, if there is one, is not missed
-    within : place_of p (records_of g) < min g.count 256 → Within (get_or m (2 * slot_of p) 0) (get_or m (2 * slot_of p + 1) 0) (place_of p (records_of g))
-    within b = k.hints.each p (place_of p (records_of g)) (tower t p) b (stands_on p g k.renewing.long (tower t p) b)
+    within : tower_place p (records_of g) < min g.count 256 → NotMissed (get_or m (2 * slot_of p) 0) (get_or m (2 * slot_of p + 1) 0) (tower_place p (records_of g))
+    within b = k.hints.each p (tower_place p (records_of g)) (tower t p) b (stands_on p g k.renewing.long (tower t p) b)
 
-    not_before : j ≤ g.count → j ≤ place_of p (records_of g)
-    not_before b = by (ltb (place_of p (records_of g)) (min g.count 256)) refl
+    not_before : j ≤ g.count → j ≤ tower_place p (records_of g)
+    not_before b = by (ltb (tower_place p (records_of g)) (min g.count 256)) refl
       where
-        by : (c : Bool) → ltb (place_of p (records_of g)) (min g.count 256) ≡ c → j ≤ place_of p (records_of g)
+        by : (c : Bool) → ltb (tower_place p (records_of g)) (min g.count 256) ≡ c → j ≤ tower_place p (records_of g)
         by true z = let w = (within (ltb-true _ _ z)).least in omega arith
-        by false z = let w : min g.count 256 ≤ place_of p (records_of g) = ltb-false _ _ z in let a = k.renewing.most in omega arith
+        by false z = let w : min g.count 256 ≤ tower_place p (records_of g) = ltb-false _ _ z in let a = k.renewing.most in omega arith
 
     -- no record is on p
-    absent : g.count ≤ j → g.count ≡ place_of p (records_of g)
-    absent b = by (ltb (place_of p (records_of g)) (min g.count 256)) refl
+    absent : g.count ≤ j → g.count ≡ tower_place p (records_of g)
+    absent b = by (ltb (tower_place p (records_of g)) (min g.count 256)) refl
       where
-        by : (c : Bool) → ltb (place_of p (records_of g)) (min g.count 256) ≡ c → g.count ≡ place_of p (records_of g)
-        by true z = let u : place_of p (records_of g) < min g.count 256 = ltb-true _ _ z in let w = (within u).least in absurd (omega arith)
+        by : (c : Bool) → ltb (tower_place p (records_of g)) (min g.count 256) ≡ c → g.count ≡ tower_place p (records_of g)
+        by true z = let u : tower_place p (records_of g) < min g.count 256 = ltb-true _ _ z in let w = (within u).least in absurd (omega arith)
         by false z =
-            let w : min g.count 256 ≤ place_of p (records_of g) = ltb-false _ _ z in
+            let w : min g.count 256 ≤ tower_place p (records_of g) = ltb-false _ _ z in
             let a = k.renewing.most in
             let v = place_most p g k.renewing.long in
             omega arith
 
     module _ (d : Hold) {b : Bool} (c : j < g.count) (eb : b ≡ is_tower_on p (get_or g.records j d)) where
       -- the record at the hint is not on p: the search goes on from the second hint
-      pub go_search : {f : ℕ} → f ≡ get_or m (2 * slot_of p + 1) 0 + 1 → b ≡ false → min f (min g.count 256) ≤ place_of p (records_of g)
-      go_search {f} ef tb = by (ltb (place_of p (records_of g)) (min g.count 256)) refl
+      pub go_search : {f : ℕ} → f ≡ get_or m (2 * slot_of p + 1) 0 + 1 → b ≡ false → min f (min g.count 256) ≤ tower_place p (records_of g)
+      go_search {f} ef tb = by (ltb (tower_place p (records_of g)) (min g.count 256)) refl
         where
-          by : (c : Bool) → ltb (place_of p (records_of g)) (min g.count 256) ≡ c → min f (min g.count 256) ≤ place_of p (records_of g)
+          by : (c : Bool) → ltb (tower_place p (records_of g)) (min g.count 256) ≡ c → min f (min g.count 256) ≤ tower_place p (records_of g)
           by true z =
-              let u : place_of p (records_of g) < min g.count 256 = ltb-true _ _ z in
+              let u : tower_place p (records_of g) < min g.count 256 = ltb-true _ _ z in
               let w = within u in
-              more (ltb (get_or m (2 * slot_of p) 0) (place_of p (records_of g))) refl w.least w.behind ef u
+              more (ltb (get_or m (2 * slot_of p) 0) (tower_place p (records_of g))) refl w.least w.behind ef u
             where
-              more : (v : Bool) → ltb (get_or m (2 * slot_of p) 0) (place_of p (records_of g)) ≡ v → get_or m (2 * slot_of p) 0 ≤ place_of p (records_of g)
-                  → (get_or m (2 * slot_of p) 0 < place_of p (records_of g) → get_or m (2 * slot_of p + 1) 0 < place_of p (records_of g)) → f ≡ get_or m (2 * slot_of p + 1) 0 + 1
-                  → place_of p (records_of g) < min g.count 256 → min f (min g.count 256) ≤ place_of p (records_of g)
+              more : (v : Bool) → ltb (get_or m (2 * slot_of p) 0) (tower_place p (records_of g)) ≡ v → get_or m (2 * slot_of p) 0 ≤ tower_place p (records_of g)
+                  → (get_or m (2 * slot_of p) 0 < tower_place p (records_of g) → get_or m (2 * slot_of p + 1) 0 < tower_place p (records_of g)) → f ≡ get_or m (2 * slot_of p + 1) 0 + 1
+                  → tower_place p (records_of g) < min g.count 256 → min f (min g.count 256) ≤ tower_place p (records_of g)
               more true y a r o u = let q = r (ltb-true _ _ y) in omega arith
               more false y a r o u =
-                  let q : place_of p (records_of g) ≤ get_or m (2 * slot_of p) 0 = ltb-false _ _ y in
-                  let at : j ≡ place_of p (records_of g) = omega arith in
+                  let q : tower_place p (records_of g) ≤ get_or m (2 * slot_of p) 0 = ltb-false _ _ y in
+                  let at : j ≡ tower_place p (records_of g) = omega arith in
                   let on = stands_on p g k.renewing.long d u in
                   absurd (false≢true (sym tb ∙ eb ∙ ap (λ (v : ℕ). is_tower_on p (get_or g.records v d)) at ∙ on))
-          by false z = let w : min g.count 256 ≤ place_of p (records_of g) = ltb-false _ _ z in omega arith
+          by false z = let w : min g.count 256 ≤ tower_place p (records_of g) = ltb-false _ _ z in omega arith
 
   module _ {p : OutPoint} (l : i < n) (ep : p ≡ point_of s i) where
-    pub go_full : {a : ℕ} → a ≡ place_of p (records_of g) → 256 ≤ a → 256 < length (renew_all t (records_of h) (points s))
+    pub go_full : {a : ℕ} → a ≡ tower_place p (records_of g) → 256 ≤ a → 256 < length (renew_all t (records_of h) (points s))
     go_full ea b = renew-full k.renewing l ep ea b
 
     module _ {j : ℕ} (ej : j ≡ get_or m (2 * slot_of p) 0) where
       -- a record put at its place, which is noted
-      put_on : {a c : ℕ} {m' : List ℕ} → a ≡ place_of p (records_of g) → a < 256 → c ≡ g.count + (a + 1 - g.count) → m' ≡ noted m (slot_of p) a
+      put_on : {a c : ℕ} {m' : List ℕ} → a ≡ tower_place p (records_of g) → a < 256 → c ≡ g.count + (a + 1 - g.count) → m' ≡ noted m (slot_of p) a
           → (a < get_or m (2 * slot_of p) 0 → min g.count 256 ≤ get_or m (2 * slot_of p) 0) → Going t s h (record { records = set g.records a (tower t p); count = c }) n (i + 1) m₀ m'
       put_on {a} {c} {m'} ea f ec em z = record {
         renewing = renew-more k.renewing l ep ea f ec;
@@ -315,7 +315,7 @@ module _ {t : Millis} {s : List ℕ} {h g : Held} {n i : ℕ} {m₀ m : List ℕ
               let w = k.renewing.most in
               (omega arith, ap (is_tower_on q) (sym (get_or-set_other g.records a y (tower t p) d e)) ∙ o)
 
-      pub go_on : {a c : ℕ} {m' : List ℕ} → a ≡ place_of p (records_of g) → j < g.count → a < 256 → c ≡ g.count + (a + 1 - g.count) → m' ≡ noted m (slot_of p) a
+      pub go_on : {a c : ℕ} {m' : List ℕ} → a ≡ tower_place p (records_of g) → j < g.count → a < 256 → c ≡ g.count + (a + 1 - g.count) → m' ≡ noted m (slot_of p) a
           → Going t s h (record { records = set g.records a (tower t p); count = c }) n (i + 1) m₀ m'
       go_on ea b f ec em = let z = not_before p ej (omega arith) in put_on ea f ec em (λ q. absurd (omega arith))
 
@@ -333,7 +333,7 @@ module _ {t : Millis} {s : List ℕ} {h g : Held} {n i : ℕ} {m₀ m : List ℕ
             let a = k.renewing.most in
             let u = not_before p ej (omega arith) in
             let v = stands_at p g k.renewing.long d (omega arith) (sym eb ∙ tb) in
-            let ea : j ≡ place_of p (records_of g) = omega arith in
+            let ea : j ≡ tower_place p (records_of g) = omega arith in
             record { renewing = renew-more k.renewing l ep ea (omega arith) (omega arith); start = k.start; hints = hints_kept k.hints old }
           where
             old : (q : OutPoint) (y : ℕ) (d' : Hold) → y < min g.count 256 → is_tower_on q (get_or (set g.records j (tower t p)) y d') ≡ true

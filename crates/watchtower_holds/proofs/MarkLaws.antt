@@ -18,32 +18,32 @@ use Rattle.out_points.proofs.EqualLaws.{flip, has_last}
 use Rattle.hold_records.specs.declared.{Owner.Owner, Hold.Hold, Held.Held}
 use Rattle.hold_records.specs.Holds.{by_owner, is_tower_on, is_unnamed}
 use Rattle.hold_records.proofs.LoopLaws.{Keeping, keep_yes, keep_no}
-use Rattle.watchtower_holds.specs.Places.{Hints, marked, Marks}
+use Rattle.watchtower_holds.specs.Inner.{Hints, mark_at, ReleaseMarks}
 use Rattle.watchtower_holds.proofs.RenewLaws.{tower}
 use Rattle.watchtower_holds.proofs.HintLaws.{same_default}
 
 -- ---- one mark
 
-pub mark_yes : (m : List Bool) (at : ℕ) {b : Bool} → b ≡ true → set m at true ≡ marked m at b
-unfolding marked
+pub mark_yes : (m : List Bool) (at : ℕ) {b : Bool} → b ≡ true → set m at true ≡ mark_at m at b
+unfolding mark_at
 mark_yes m at e = rw e
 
-pub mark_no : (m : List Bool) (at : ℕ) {b : Bool} → b ≡ false → m ≡ marked m at b
-unfolding marked
+pub mark_no : (m : List Bool) (at : ℕ) {b : Bool} → b ≡ false → m ≡ mark_at m at b
+unfolding mark_at
 mark_no m at e = rw e
 
-marked-long : (m : List Bool) (at : ℕ) (b : Bool) → length (marked m at b) ≡ length m
-unfolding marked
+marked-long : (m : List Bool) (at : ℕ) (b : Bool) → length (mark_at m at b) ≡ length m
+unfolding mark_at
 marked-long m at true = length-set m at true
 marked-long m at false = refl
 
-marked-here : (m : List Bool) (at : ℕ) (b : Bool) → at < length m → get_or (marked m at b) at false ≡ cond b true (get_or m at false)
-unfolding marked
+marked-here : (m : List Bool) (at : ℕ) (b : Bool) → at < length m → get_or (mark_at m at b) at false ≡ cond b true (get_or m at false)
+unfolding mark_at
 marked-here m at true h = get_or-set_same m at true false h
 marked-here m at false h = refl
 
-marked_other : (m : List Bool) (at j : ℕ) (b : Bool) → (j ≡ at → ⊥) → get_or (marked m at b) j false ≡ get_or m j false
-unfolding marked
+marked_other : (m : List Bool) (at j : ℕ) (b : Bool) → (j ≡ at → ⊥) → get_or (mark_at m at b) j false ≡ get_or m j false
+unfolding mark_at
 marked_other m at j true h = get_or-set_other m at j true false h
 marked_other m at j false h = refl
 
@@ -64,7 +64,7 @@ module _ {hm : List ℕ} {l : List Hold} {n : ℕ} (k : Hints hm l n) (w : n ≤
   sweep-none : n ≤ at → (j : ℕ) (d : Hold) → j < n → is_tower_on p (get_or l j d) ≡ false
   sweep-none h j d b = missed j d b (λ u v. omega arith) (λ q. omega arith)
 
-  module _ (d : Hold) {b : Bool} {m' : List Bool} {from : ℕ} (c : at < n) (r : n ≤ length m) (eb : b ≡ is_tower_on p (get_or l at d)) (em : m' ≡ marked m at b)
+  module _ (d : Hold) {b : Bool} {m' : List Bool} {from : ℕ} (c : at < n) (r : n ≤ length m) (eb : b ≡ is_tower_on p (get_or l at d)) (em : m' ≡ mark_at m at b)
       (ef : from ≡ get_or hm (2 * slot_of p + 1) 0 + 1) where
     on-first : (d' : Hold) → b ≡ is_tower_on p (get_or l at d')
     on-first d' = eb ∙ ap (is_tower_on p) (same_default l at d d' (omega arith))
@@ -99,7 +99,7 @@ unnamed_none r = by r.owner
     by (Owner.Funding n) = refl
     by (Owner.Watchtower t) = refl
 
-pub marks_none : (l : List Hold) (n : ℕ) {m : List Bool} → m ≡ replicate 256 false → Marks [] l (min n 256) m
+pub marks_none : (l : List Hold) (n : ℕ) {m : List Bool} → m ≡ replicate 256 false → ReleaseMarks [] l (min n 256) m
 marks_none l n e = record {
   room = ap length e ∙ length-replicate {A = Bool} 256 false;
   each = λ j d b. (let z : ◌≡◌ {A = Bool} (get_or (replicate 256 false) j false) false = get_or-replicate {A = Bool} 256 j false false (omega arith) in rw (e, z) (sym (unnamed_none (get_or l j d))));
@@ -138,7 +138,7 @@ pub record Releasing (s : List ℕ) (h : Held) (hm : List ℕ) (c n : ℕ) (p : 
   pub before : (y : ℕ) (d : Hold) → y < c → y < j → not (get_or m y false) ≡ is_unnamed (span (point_of s) 0 i) (get_or h.records y d)
   pub after : (y : ℕ) (d : Hold) → y < c → j ≤ y → not (cond (is_tower_on p (get_or h.records y d)) true (get_or m y false)) ≡ is_unnamed (span (point_of s) 0 i) (get_or h.records y d)
 
-pub free_start : (s : List ℕ) (h : Held) (p : OutPoint) {hm : List ℕ} {m : List Bool} {c n : ℕ} → Hints hm h.records (min h.count 256) → Marks [] h.records (min h.count 256) m → c ≡ min h.count 256 → n ≡ fix_count s
+pub free_start : (s : List ℕ) (h : Held) (p : OutPoint) {hm : List ℕ} {m : List Bool} {c n : ℕ} → Hints hm h.records (min h.count 256) → ReleaseMarks [] h.records (min h.count 256) m → c ≡ min h.count 256 → n ≡ fix_count s
     → length h.records ≡ 256 → Releasing s h hm c n p 0 c m m
 unfolding span
 free_start s h p k q e f l = record {
@@ -164,7 +164,7 @@ module _ {s : List ℕ} {h : Held} {hm : List ℕ} {c n : ℕ} {p : OutPoint} {i
   free_long = k.room ∙ sym k.start
 
   -- one of the others
-  pub free_other : (d : Hold) {b : Bool} {m' : List Bool} → j < c → b ≡ is_tower_on p (get_or h.records j d) → m' ≡ marked m j b → Releasing s h hm c n p i (j + 1) m₀ m'
+  pub free_other : (d : Hold) {b : Bool} {m' : List Bool} → j < c → b ≡ is_tower_on p (get_or h.records j d) → m' ≡ mark_at m j b → Releasing s h hm c n p i (j + 1) m₀ m'
   free_other d {b} {m'} l eb em = record {
     most = k.most;
     whole = k.whole;
@@ -224,7 +224,7 @@ module _ {s : List ℕ} {h : Held} {hm : List ℕ} {c n : ℕ} {p : OutPoint} {i
             let z : is_tower_on (point_of s i) (get_or h.records y d) ≡ false = rw ep at (sweep-none k.hints long-enough p' m ea b y d u) in
             sym (ap (λ (t : Bool). not (cond t true (get_or m y false))) z) ∙ next-cell q y d u
 
-    pub free_first : (d : Hold) {b : Bool} {m' : List Bool} {from : ℕ} → at < c → b ≡ is_tower_on p' (get_or h.records at d) → m' ≡ marked m at b → from ≡ get_or hm (2 * slot_of p' + 1) 0 + 1
+    pub free_first : (d : Hold) {b : Bool} {m' : List Bool} {from : ℕ} → at < c → b ≡ is_tower_on p' (get_or h.records at d) → m' ≡ mark_at m at b → from ≡ get_or hm (2 * slot_of p' + 1) 0 + 1
         → Releasing s h hm c n p' (i + 1) from m₀ m'
     free_first d {b} {m'} {from} f eb em ef = record {
       most = k.most;
@@ -255,7 +255,7 @@ module _ {s : List ℕ} {h : Held} {hm : List ℕ} {c n : ℕ} {p : OutPoint} {i
     after = λ y d u v. absurd (omega arith);
   }
 
-  pub free_end : c ≤ j → n ≤ i → Marks (points s) h.records (min h.count 256) m
+  pub free_end : c ≤ j → n ≤ i → ReleaseMarks (points s) h.records (min h.count 256) m
   free_end q l =
       let a = k.most in
       let b = k.all in
@@ -265,7 +265,7 @@ module _ {s : List ℕ} {h : Held} {hm : List ℕ} {c n : ℕ} {p : OutPoint} {i
 
 -- ---- the records without a mark stay
 
-module _ {ps : List OutPoint} {h g : Held} {n to i : ℕ} {m : List Bool} (q : Marks ps h.records (min h.count 256) m) (k : Keeping (is_unnamed ps) h g n to i) {r : Bool} (l : i < n)
+module _ {ps : List OutPoint} {h g : Held} {n to i : ℕ} {m : List Bool} (q : ReleaseMarks ps h.records (min h.count 256) m) (k : Keeping (is_unnamed ps) h g n to i) {r : Bool} (l : i < n)
     (e : r ≡ not (get_or m i false)) where
   stays_is : (d : Hold) → r ≡ is_unnamed ps (get_or h.records i d)
   stays_is d = let a = k.most in e ∙ q.each i d (omega arith)

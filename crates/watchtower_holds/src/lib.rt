@@ -4,10 +4,10 @@
 
 ghost use Rattle.std.specs.Prelude.{◌≡◌, [], ◌+◌, ◌-◌, ◌*◌, ◌<◌, ◌≤◌, min, not, false, length, get_or, set, IfOk};
 ghost use Rattle.out_points.specs.OutPoints.{points, slot_of};
-ghost use Rattle.out_points.specs.Tables.{keep};
+ghost use Rattle.std.specs.List.{filter};
 ghost use Rattle.hold_records.specs.declared.{Owner.Owner, Held.Held};
-ghost use Rattle.hold_records.specs.Holds.{records_of, outcome_on, is_unnamed, is_tower_on, renew_all, at_most_256, release_for_watchtower, hold_for_watchtower};
-ghost use Rattle.watchtower_holds.specs.Places.{place_of, noted, Hints, marked, Marks};
+ghost use Rattle.hold_records.specs.Holds.{records_of, told, is_unnamed, is_tower_on, renew_all, at_most_256, release_for_watchtower, hold_for_watchtower};
+ghost use Rattle.watchtower_holds.specs.Inner.{tower_place, noted, Hints, mark_at, ReleaseMarks};
 
 use arithmetic::little_endian;
 use error::Refusal;
@@ -100,8 +100,8 @@ fn tower_on(r: Hold, p: OutPoint) -> bool
 
 // Where the watchtower's first record on p stands, and where a new one goes if there is none. None stands before `from`.
 fn tower_place(h: Held, p: OutPoint, from: usize) -> usize
-    requires { min from (min h.count 256) ≤ place_of p (records_of h) }
-    ensures { result ≡ place_of p (records_of h) }
+    requires { min from (min h.count 256) ≤ tower_place p (records_of h) }
+    ensures { result ≡ tower_place p (records_of h) }
 {
     let n = hold_records::used(h.count);
     for i in from..n {
@@ -134,7 +134,7 @@ fn counted(count: usize, at: usize) -> usize
 // looked at only where a slot has more than one.
 fn renew_from(from: Held, cells: &[u8], end: Millis, hints: &mut [u8]) -> Result<Held, Refusal>
     requires { (from.count ≤ 256) × Hints hints.old from.records (min from.count 256) }
-    ensures held_value { (h : Held) → outcome_on h result ≡ at_most_256 h (renew_all end (records_of from) (points cells.now)) }
+    ensures held_value { told result ≡ at_most_256 (renew_all end (records_of from) (points cells.now)) }
     ensures count_bound { IfOk result (λ g. g.count ≤ 256) }
 {
     let n = molecule::fix_count(cells) as usize;
@@ -171,7 +171,7 @@ fn renew_from(from: Held, cells: &[u8], end: Millis, hints: &mut [u8]) -> Result
 }
 
 fn renew_all(h: Held, cells: &[u8], end: Millis) -> Result<Held, Refusal>
-    ensures held_value { outcome_on h result ≡ at_most_256 h (renew_all end (records_of h) (points cells.now)) }
+    ensures held_value { told result ≡ at_most_256 (renew_all end (records_of h) (points cells.now)) }
     ensures count_bound { IfOk result (λ g. g.count ≤ 256) }
 {
     let g = trimmed(h);
@@ -183,7 +183,7 @@ fn renew_all(h: Held, cells: &[u8], end: Millis) -> Result<Held, Refusal>
 // Marks the record at `at`, if it is `on` a cell.
 fn mark(marks: &mut [bool], at: usize, on: bool)
     requires { at < length marks.old }
-    ensures { marks.new ≡ marked marks.old at on }
+    ensures { marks.new ≡ mark_at marks.old at on }
 {
     if on {
         marks[at] = true;
@@ -192,8 +192,8 @@ fn mark(marks: &mut [bool], at: usize, on: bool)
 
 // Marks the watchtower's records on the cells: for each cell the first of its slot, and the others, which are looked at only where a slot has more than one.
 fn mark_all(h: Held, cells: &[u8], hints: &[u8], marks: &mut [bool])
-    requires { Hints hints.now h.records (min h.count 256) × Marks [] h.records (min h.count 256) marks.old }
-    ensures { Marks (points cells.now) h.records (min h.count 256) marks.new }
+    requires { Hints hints.now h.records (min h.count 256) × ReleaseMarks [] h.records (min h.count 256) marks.old }
+    ensures { ReleaseMarks (points cells.now) h.records (min h.count 256) marks.new }
 {
     let count = hold_records::used(h.count);
     let n = molecule::fix_count(cells) as usize;
@@ -222,7 +222,7 @@ fn is_unmarked(marks: &[bool], at: usize) -> bool
 // The records without the watchtower's on `cells`.
 fn without(h: Held, cells: &[u8], hints: &[u8]) -> Held
     requires { Hints hints.now h.records (min h.count 256) }
-    ensures result_value { records_of result ≡ keep (is_unnamed (points cells.now)) (records_of h) }
+    ensures result_value { records_of result ≡ filter (is_unnamed (points cells.now)) (records_of h) }
     ensures count_bound { result.count ≤ 256 }
 {
     let mut marks = [false; 256];
@@ -243,7 +243,7 @@ fn without(h: Held, cells: &[u8], hints: &[u8]) -> Held
 
 // The cells of a transaction that the watchtower could not send are free again.
 pub fn release_for_watchtower(held: Held, cells: &[u8]) -> Result<Held, Refusal>
-    ensures held_value { outcome_on held result ≡ release_for_watchtower held cells.now }
+    ensures held_value { told result ≡ release_for_watchtower (records_of held) cells.now }
     ensures count_bound { IfOk result (λ g. g.count ≤ 256) }
 {
     if !transaction::is_out_points(cells) {
@@ -256,7 +256,7 @@ pub fn release_for_watchtower(held: Held, cells: &[u8]) -> Result<Held, Refusal>
 
 // The cells of a transaction that the watchtower sent are held until `WATCHTOWER_HOLD_MS` after `time`.
 pub fn hold_for_watchtower(held: Held, cells: &[u8], time: Millis) -> Result<Held, Refusal>
-    ensures held_value { outcome_on held result ≡ hold_for_watchtower held cells.now time }
+    ensures held_value { told result ≡ hold_for_watchtower (records_of held) cells.now time }
     ensures count_bound { IfOk result (λ g. g.count ≤ 256) }
 {
     if !transaction::is_out_points(cells) {

@@ -2,7 +2,7 @@ use Rattle.std.proofs.Common.{◌≡◌, ◌+◌, ◌*◌, ◌≤◌, min, lengt
 use Rattle.std.specs.Prelude.{Ok}
 use Rattle.std.proofs.lemmas.Grind.{common_steps}
 use Rattle.exclusion_entries.specs.declared.Rule.{Rule}
-use Rattle.exclusion_entries.specs.Survey.{survey_of}
+use Rattle.exclusion_entries.specs.Inner.{survey_of}
 use Rattle.exclusion_marks.proofs.CallLaws.{apply-done}
 use Rattle.exclusion_marks.proofs.apply.Goals as goal
 

@@ -1,4 +1,4 @@
-use Rattle.hold_records.specs.Rules.{is_kept}
+use Rattle.hold_records.specs.Inner.{is_kept}
 use Rattle.hold_records.proofs.LoopLaws.{Keeping}
 use Rattle.held_bytes.specs.HeldBytes.{held_of}
 use Rattle.held_bytes.proofs.read_kept.Given as goal

@@ -3,7 +3,7 @@ use Rattle.watchtower_holds.proofs.HintLaws.{go_none, go_last, go_there, go_on}
 use Rattle.watchtower_holds.proofs.renew_from.Goals as goal
 
 pub returns-then-last-ge-MOST_RECORDS-clause-held_value : goal.returns-then-last-ge-MOST_RECORDS-clause-held_value
-returns-then-last-ge-MOST_RECORDS-clause-held_value c = λ h. over-is h _ (go_none c.loop-i.invariant c.loop-i-test.true c.point_of-point.ensures c.first-k.ensures c.if-last-k.true c.if-last-ge-MOST_RECORDS.true)
+returns-then-last-ge-MOST_RECORDS-clause-held_value c = over-is _ (go_none c.loop-i.invariant c.loop-i-test.true c.point_of-point.ensures c.first-k.ensures c.if-last-k.true c.if-last-ge-MOST_RECORDS.true)
 
 pub loop-i-preserved-then-last-k : goal.loop-i-preserved-then-last-k
 loop-i-preserved-then-last-k c = go_last c.loop-i.invariant c.loop-i-test.true c.point_of-point.ensures c.first-k.ensures c.if-last-k.true c.if-last-ge-MOST_RECORDS.false c.note.ensures

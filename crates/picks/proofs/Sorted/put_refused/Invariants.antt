@@ -1,6 +1,6 @@
 use Rattle.out_points.specs.OutPoints.{point_of}
 use Rattle.unavailable_picks.proofs.PickLaws.{Naming}
-use Rattle.picks.specs.Places.{is_left, left_of}
+use Rattle.picks.specs.Inner.{is_left, left_of}
 use Rattle.picks.proofs.Sorted.put_refused.Given as goal
 
 abbrev pub invariant-loop-i : goal.invariant-loop-i

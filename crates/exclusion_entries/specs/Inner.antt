@@ -1,22 +1,24 @@
--- What a call makes of the entries of a table, and the numbers that one pass over them finds.
+-- What the functions inside promise one another: what a call makes of the entries of a map, and the numbers that one pass over them finds. No contract of a call
+-- cites it.
 use Rattle.std.specs.Prelude.{ℕ, ◌+◌, ◌*◌, ◌≤◌, Bool, true, false, not, cond, List, [], ◌∷◌, Option, Some, None, Result, Ok, Err}
 use lib.{Dec.eqb, ListN.length}
 use Rattle.arithmetic.specs.LittleEndian.{u64_at}
 use Rattle.error.specs.declared.{Refusal.Refusal}
-use Rattle.out_points.specs.Tables.{keep}
-use Rattle.exclusion_entries.specs.Exclusions.{Entry, has_hash, is_recent}
+use Rattle.std.specs.List.{filter}
+use Rattle.out_points.specs.{declared.Byte32.Byte32, OutPoints.byte32_at}
+use Rattle.exclusion_entries.specs.Exclusions.{MapEntry, has_hash, is_recent}
 use Rattle.exclusion_entries.specs.declared.{Rule.Rule, Words.Words, Survey.Survey}
 use Rattle.exclusion_entries.specs.Entries.{excluded_at, map_size, is_map}
 
 -- whether the entry is kept, and whether a new one is to take its place
-unfoldable pub keeps : Rule → Entry → Bool
+unfoldable pub keeps : Rule → MapEntry → Bool
 keeps Rule.All e = true
 keeps (Rule.Enter h) e = true
 keeps (Rule.Remove h) e = not (has_hash h e)
 keeps (Rule.Migrate o h) e = not (has_hash o e)
 keeps (Rule.Truncate tip) e = is_recent tip e.committed
 
-unfoldable pub takes : Rule → Entry → Bool
+unfoldable pub takes : Rule → MapEntry → Bool
 takes Rule.All e = false
 takes (Rule.Enter h) e = has_hash h e
 takes (Rule.Remove h) e = false
@@ -25,27 +27,27 @@ takes (Rule.Truncate tip) e = false
 
 -- ---- of the entries that f keeps all but the first that p takes: those that stay; `taken` says that p took one before
 
-module _ (f p : Entry → Bool) where
-  unfoldable pub stay : Bool → List Entry → List Entry
+module _ (f p : MapEntry → Bool) where
+  unfoldable pub stay : Bool → List MapEntry → List MapEntry
   stay taken [] = []
   stay taken (e ∷ l) = cond (f e) (cond (cond taken false (p e)) (stay true l) (e ∷ stay taken l)) (stay taken l)
 
   -- those ahead of the one taken, and those behind it
-  unfoldable pub ahead : List Entry → List Entry
+  unfoldable pub ahead : List MapEntry → List MapEntry
   ahead [] = []
   ahead (e ∷ l) = cond (f e) (cond (p e) [] (e ∷ ahead l)) (ahead l)
 
-  unfoldable pub behind : List Entry → List Entry
+  unfoldable pub behind : List MapEntry → List MapEntry
   behind [] = []
-  behind (e ∷ l) = cond (f e) (cond (p e) (keep f l) (behind l)) (behind l)
+  behind (e ∷ l) = cond (f e) (cond (p e) (filter f l) (behind l)) (behind l)
 
   -- those that stand where they will stand
-  unfoldable pub front : List Entry → List Entry
+  unfoldable pub front : List MapEntry → List MapEntry
   front [] = []
   front (e ∷ l) = cond (f e) (cond (p e) [] (e ∷ front l)) []
 
   -- one is not kept
-  unfoldable pub loses : List Entry → Bool
+  unfoldable pub loses : List MapEntry → Bool
   loses [] = false
   loses (e ∷ l) = cond (f e) (loses l) true
 
@@ -72,7 +74,7 @@ stayed n v = record {
 unfoldable pub turned : Bool → Bool → ℕ → Survey → Survey
 turned kept taken n v = cond kept (cond (cond v.taken false taken) (took_one v) (stayed n v)) (lost_one v)
 
-unfoldable pub sweep : (Entry → Bool) → (Entry → Bool) → Survey → List Entry → Survey
+unfoldable pub sweep : (MapEntry → Bool) → (MapEntry → Bool) → Survey → List MapEntry → Survey
 sweep f p v [] = v
 sweep f p v (e ∷ l) = sweep f p (turned (f e) (p e) (length e.points) v) l
 
@@ -104,3 +106,7 @@ may_touch None x = true
 -- of bytes that are a table
 unfoldable pub survey_of : Rule → List ℕ → Result Survey Refusal
 survey_of rule s = cond (is_map s) (Ok (sweep (keeps rule) (takes rule) start (excluded_at s))) (Err Refusal.LentBytesUnreadable)
+
+-- the hash that lent bytes are
+unfoldable pub hash_of : List ℕ → Result Byte32 Refusal
+hash_of s = cond (eqb (length s) 32) (Ok (byte32_at s 0)) (Err Refusal.LentBytesUnreadable)

@@ -1,13 +1,12 @@
--- What the functions of this crate answer; no call's contract cites it.
-use Rattle.std.specs.Prelude.{◌≡◌, ℕ, ◌+◌, ◌≤◌, min, Bool, true, false, not, List, [], ◌++◌, map, leb, length, get_or}
+-- What the functions inside promise one another; no contract of a call cites it.
+use Rattle.std.specs.Prelude.{◌≡◌, ℕ, ◌+◌, ◌≤◌, min, Bool, true, false, not, List, ◌++◌, map, length, get_or}
 use Rattle.molecule.specs.Layout.{fix_count}
 use Rattle.out_points.specs.declared.{OutPoint.OutPoint}
 use Rattle.out_points.specs.OutPoints.{point_of}
-use Rattle.out_points.specs.Tables.{Outcome, done, refused, check, has_room, written}
 use Rattle.hold_records.specs.declared.{Owner.Owner, Hold.Hold, Held.Held}
-use Rattle.hold_records.specs.Holds.{records_of, held_by, firsts, others}
+use Rattle.error.specs.Outcome.{Outcome}
+use Rattle.hold_records.specs.Holds.{records_of, held_by, take_these, after_take}
 use Rattle.pick_kinds.specs.declared.{Kind.Kind}
-use Rattle.pick_kinds.specs.Kinds.{is_among}
 use Rattle.unavailable_picks.specs.Unavailable.{select}
 
 -- pick i is to be taken: its kind (`kind_of`, crate pick_kinds) is that of a free one, the first on its cell
@@ -36,15 +35,6 @@ pub record Tallied (owner : Owner) (l : List OutPoint) (h g : Held) (count : ℕ
   pub stands : min h.count 256 + count ≤ 256 → g.count ≡ min h.count 256 + count
   pub added : min h.count 256 + count ≤ 256 → records_of g ≡ records_of h ++ map (held_by owner) l
 
--- `take` where these picks are to be taken, from the records left, and these to be refused
-unfoldable pub take_lists : Held → List Hold → List OutPoint → List OutPoint → Owner → List ℕ → List ℕ → Outcome Held (List Hold) × List ℕ × List ℕ
-take_lists h left taken rest owner out₁ out₂ =
-    check (has_room taken out₁) (refused 13 h, out₁, out₂)
-    (check (has_room rest out₂) (refused 13 h, out₁, out₂)
-    (check (leb (length left + length taken) 256) (refused 14 h, out₁, out₂)
-    (done (left ++ map (held_by owner) taken), written taken out₁, written rest out₂)))
-
--- `take` of readable lists, from the records left, whose cells are `cells`
-unfoldable pub take_from : Held → List Hold → List OutPoint → List OutPoint → List OutPoint → Owner → List ℕ → List ℕ → Outcome Held (List Hold) × List ℕ × List ℕ
-take_from h left cells picks spent owner out₁ out₂ =
-    take_lists h left (firsts (λ p. not (is_among cells spent p)) [] picks) (others (λ p. not (is_among cells spent p)) [] picks) owner out₁ out₂
+-- `take` of picks of known kinds, from the records left
+abbrev pub after_kinds : List Hold → List ℕ → List Kind → Owner → List ℕ → List ℕ → Outcome (List Hold) × List ℕ × List ℕ
+after_kinds left picked kinds owner out₁ out₂ = after_take (take_these left (free_of picked kinds) (left_of picked kinds) owner) out₁ out₂
