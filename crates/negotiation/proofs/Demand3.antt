@@ -68,14 +68,14 @@ done-of lock udt start updates room vs e =
     (t, fine_inj f)
 
 -- what is said of answers is said of others that carry the same
-module _ (E : Entry Call Figures) {start : List ℕ} {calls : List Call} {end end' : List ℕ} {vs ws : List (Outcome Figures)} (b : end' ≡ end) where
-  as_carried : {m : Measure} (pick : Figures → ℕ) → carried pick ws ≡ carried pick vs → Exact E m pick start calls vs end → Exact E m pick start calls ws end'
-  as_carried pick c x = record { each = rw c x.each; natural = x.natural; sums = rw (c, b) x.sums }
+module _ (E : Entry Call Figures) (start : List ℕ) (calls : List Call) {end end' : List ℕ} (b : end' ≡ end) (vs ws : List (Outcome Figures)) where
+  as_carried : (m : Measure) (pick : Figures → ℕ) → carried pick ws ≡ carried pick vs → Exact E m pick start calls vs end → Exact E m pick start calls ws end'
+  as_carried m pick c x = record { each = rw c x.each; natural = x.natural; sums = rw (c, b) x.sums }
 
   all_carried : (figures : List (Figure Figures)) → ((pick : Figures → ℕ) → carried pick ws ≡ carried pick vs)
       → All (λ f. Exact E f.measure f.pick start calls vs end) figures → All (λ f. Exact E f.measure f.pick start calls ws end') figures
   all_carried [] c xs = tt
-  all_carried (f ∷ fs) c (x, xs) = (as_carried f.pick (c f.pick) x, all_carried fs c xs)
+  all_carried (f ∷ fs) c (x, xs) = (as_carried f.measure f.pick (c f.pick) x, all_carried fs c xs)
 
 module _ (lock udt start updates before : List ℕ) (n accepted at : ℕ) (after : List ℕ) where
   abbrev E : Entry Call Figures
@@ -105,7 +105,7 @@ module _ (lock udt start updates before : List ℕ) (n accepted at : ℕ) (after
         words = w;
         lawful = rw eb k';
         acceptances = k ∙ ap sum (sym (back (λ f. 1)));
-        exact = all_carried E eb (two_figures udt) (λ pick. back pick ∙ ap (carried pick) (sym ev)) k'.exact;
+        exact = all_carried E start calls eb (verdicts E start calls) (answers_in n after) (two_figures udt) (λ pick. back pick ∙ ap (carried pick) (sym ev)) k'.exact;
         beyond = rw (ea, l) (drop_at (all_words vs) (drop (5 * n) before) (5 * n) l);
       }
 

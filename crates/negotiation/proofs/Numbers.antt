@@ -72,7 +72,7 @@ either false p q = q
 
 -- what is answered by such a block
 numbered : {A : Type 0} (m : Ruled A) → Lined m → Numbered (verdict m)
-unfolding verdict first_failing
+unfolding verdict first_failing outcome.◌>>◌ check_with
 numbered {A} m w = by m.lines w.lines
   where
     first : (l : Line) (b : Bool) (o : Outcome A) → 0 < l.number → Numbered o → Numbered (outcome.◌>>◌ (check_with l.number l.values b) o)
@@ -80,7 +80,7 @@ numbered {A} m w = by m.lines w.lines
     first l false o h p = refuse l.number l.values h
 
     by : (ls : List Line) → All Positive ls → Numbered (first_failing ls m.answer)
-    by [] tt = w.given
+    by [] t = w.given
     by (l ∷ ls) (h, hs) = first l l.holds (first_failing ls m.answer) h (by ls hs)
 
 -- ---- the rules
