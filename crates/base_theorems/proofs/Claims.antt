@@ -16,7 +16,7 @@ use Rattle.transaction.specs.Tx.{Tx, tx_at, capacity_of, lock_of, type_of}
 use Rattle.rules.specs.Cells.{Cell, cells}
 use Rattle.error.specs.Outcome.{fine, told}
 use Rattle.units.specs.Units.{Figures}
-use Rattle.rules.specs.Judge.{comparison}
+use Rattle.rules.specs.{Judge.comparison, Lines.verdict}
 use Rattle.rules.specs.Step.{Prefix}
 use Rattle.funding_cell.specs.declared.FundingRequest.{FundingRequest}
 use Rattle.funding_cell.specs.FundingCell.{funding_cell}
@@ -115,7 +115,7 @@ Distinct (x ∷ xs) = (contains x xs ≡ false) × Distinct xs
 abbrev pub Passes : Lent → FundingRequest → List ℕ → Type 0
 Passes l request bytes =
     Distinct (tx_at l.ours).cell_deps → length (tx_at l.ours).outputs_data ≤ length (tx_at l.ours).outputs
-    → comparison l.lock l.udt (tx_at l.ours) (tx_at bytes) ≡ fine tt
+    → verdict (comparison l.lock l.udt (tx_at l.ours) (tx_at bytes)) ≡ fine tt
 
 -- "first occurrence only"; "each output's data, empty if missing": so the premises of `Passes` hold of a base that is the present transaction of a
 -- further one

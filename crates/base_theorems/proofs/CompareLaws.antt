@@ -15,6 +15,7 @@ use Rattle.rules.specs.Cells.{Cell, cells}
 use Rattle.error.specs.Outcome.{check}
 use Rattle.rules.specs.Surplus.{is_of}
 use Rattle.rules.specs.Judge.{at_first, has_lock, no_data_untyped, comparison}
+use Rattle.rules.specs.Lines.{verdict}
 use Rattle.rules.specs.Step.{Prefix, start, more}
 use Rattle.rules.proofs.Telescope.{prefix_refl, prefix_trans, prefix_length}
 use Rattle.rules.proofs.Checks.{pass, last_is}
@@ -196,20 +197,20 @@ module _ (lock type : List ℕ) (ours peer : Tx) where
       → length ours.outputs ≤ length peer.outputs → at_first (has_lock lock) (cells peer) ≡ true → at_first (is_of type) (cells peer) ≡ true
       → at_first (no_data_untyped type) (cells peer) ≡ true → Prefix (drop 1 ours.outputs) (drop 1 peer.outputs)
       → length ours.outputs_data ≤ length peer.outputs_data → Prefix (drop 1 ours.outputs_data) (drop 1 peer.outputs_data)
-      → check 5 true ≡ comparison lock type ours peer
+      → check 5 true ≡ verdict (comparison lock type ours peer)
   unfolding comparison
   passes v d h i n hl ht hd o k a =
-      pass 5 (eq-eqb _ _ v)
-      (pass 5 (le-leb _ _ (prefix_length d))
-      (pass 5 (prefix_contains d)
-      (pass 5 (le-leb _ _ (prefix_length h))
-      (pass 5 (prefix_agree h)
-      (pass 5 (le-leb _ _ (prefix_length i))
-      (pass 5 (prefix_agree i)
-      (pass 5 (le-leb _ _ n)
-      (pass 5 hl
-      (pass 5 ht
-      (pass 5 hd
-      (pass 5 (prefix_agree o)
-      (pass 5 (le-leb _ _ k)
-      (last_is 5 (sym (prefix_agree a)))))))))))))))
+      pass 5 _ _ (eq-eqb _ _ v)
+      (pass 5 _ _ (le-leb _ _ (prefix_length d))
+      (pass 5 _ _ (prefix_contains d)
+      (pass 5 _ _ (le-leb _ _ (prefix_length h))
+      (pass 5 _ _ (prefix_agree h)
+      (pass 5 _ _ (le-leb _ _ (prefix_length i))
+      (pass 5 _ _ (prefix_agree i)
+      (pass 5 _ _ (le-leb _ _ n)
+      (pass 5 _ _ hl
+      (pass 5 _ _ ht
+      (pass 5 _ _ hd
+      (pass 5 _ _ (prefix_agree o)
+      (pass 5 _ _ (le-leb _ _ k)
+      (last_is 5 _ (sym (prefix_agree a)))))))))))))))

@@ -8,7 +8,8 @@ use Rattle.molecule.specs.Partial.{All}
 use Rattle.known_cases.specs.Cases.{untyped, crowd, answer}
 use Rattle.known_cases.proofs.Largest.{bytes-over}
 use Rattle.known_cases.proofs.Rows.{◌and◌, done}
-use Rattle.known_lines.specs.Lines.{Line, lines}
+use Rattle.rules.specs.Lines.{Line}
+use Rattle.known_lines.specs.Lines.{lines}
 use Rattle.known_lines.specs.Alone.{Row, groups, failing_in, whole}
 use Rattle.known_lines.proofs.Computing.{computing_lines}
 

@@ -5,7 +5,8 @@ use Rattle.std.proofs.Math.Option.{none}
 use Rattle.molecule.specs.Molecule.{Value, encode}
 use Rattle.transaction.specs.Ckb.{CellOutput, Records}
 use Rattle.rules.specs.Judge.{Call}
-use Rattle.known_lines.specs.Lines.{lines, failing}
+use Rattle.rules.specs.Lines.{failing}
+use Rattle.known_lines.specs.Lines.{lines}
 use Rattle.known_cases.specs.Cases.{expected_lock, our_lock, token_type, input, dep, header, inputs, output, plain, token, amount, spending, usual, of_version, with_deps, with_headers, with_inputs, holding, crowd, cell, not_live, offer, Case, untyped, typed}
 
 -- a case, the lines that fail in it, and the answer

@@ -8,7 +8,8 @@ use mathlib.Core.List.{List, [], ◌∷◌}
 use lib.IntN.{ℤ, pos}
 use Rattle.error.specs.Outcome.{fine, refused}
 use Rattle.rules.specs.Surplus.{Measure, capacities, expected, surplus}
-use Rattle.rules.specs.Judge.{Call, tx_of}
+use Rattle.rules.specs.Judge.{Call}
+use Rattle.transaction.specs.Tx.{tx_at}
 use Rattle.rules.specs.Run.{Entry, Exact, verdicts, in_force, kept, kept_records, steps, carried, sum, update_for_peer, Returned, Ran, stop, call}
 use Rattle.units.specs.Units.{in_shannons, in_tokens, Figures}
 use Rattle.error.specs.declared.Refusal.{Refusal}
@@ -16,6 +17,7 @@ use Rattle.error.specs.Refusal.{number, values}
 use Rattle.funding_tx.specs.Negotiation.{Called}
 use Rattle.rules.proofs.Accept.{accepted}
 use Rattle.rules.proofs.Law.{exact}
+use Rattle.rules.proofs.LawfulLaws.{step_of}
 use Rattle.known_cases.specs.Cases.{expected_lock, token_type, input, token, amount}
 use Rattle.known_outcomes.specs.Runs.{worked, opening, growing, spent_for, any_type, changing}
 use Rattle.known_outcomes.proofs.Computing.{computing}
@@ -53,7 +55,7 @@ worked-sums = (refl, refl)
 
 -- the surplus of the end against the start, over the kept records
 abbrev Whole : {C : Type 0} → Entry C Figures → List C → Measure → ℤ → Type 0
-Whole F calls m z = surplus m (tx_of []) (tx_of (in_force F [] calls)) (kept_records F [] calls) ≡ z
+Whole F calls m z = surplus m (tx_at []) (tx_at (in_force F [] calls)) (kept_records F [] calls) ≡ z
 
 pub worked-whole : Whole E worked capacities (pos 870) × Whole E worked (expected token_type) (pos 2)
 unfolding computing
@@ -100,4 +102,4 @@ no_untyped_law e =
 
 -- capacity needs no such condition
 pub any_type-capacity : (lock start : List ℕ) (calls : List (List ℕ × Call)) → Exact (any_type lock) capacities (λ s. s.capacity) start calls (verdicts (any_type lock) start calls) (in_force (any_type lock) start calls)
-any_type-capacity lock = exact (any_type lock) capacities (λ s. s.capacity) (λ ours c s e. (accepted lock c.0 ours c.1 s e).capacity)
+any_type-capacity lock = exact (any_type lock) capacities (λ s. s.capacity) (λ ours c s e. (let (w, _) = accepted lock c.0 ours c.1 s e in step_of w w.balanced.0))

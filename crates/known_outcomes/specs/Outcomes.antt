@@ -8,7 +8,7 @@ use Rattle.units.specs.Units.{in_shannons}
 use Rattle.units.specs.Fee.{required_fee, change_capacity}
 use Rattle.molecule.specs.Molecule.{Value, encode}
 use Rattle.transaction.specs.Ckb.{Script, CellOutput, TokenCell, TokenCells}
-use Rattle.rules.specs.Outcome as verdict
+use Rattle.error.specs.Outcome as verdict
 use Rattle.out_points.specs.OutPoints.{point_list}
 use Rattle.out_points.specs.Tables as table
 use Rattle.hold_records.specs.declared.{Hold.Hold, Held.Held, Taker.Taker}

@@ -2,10 +2,9 @@
 use Rattle.std.specs.Prelude.{ℕ, List, [], ◌∷◌}
 use Rattle.molecule.specs.Molecule.{Value, encode}
 use Rattle.transaction.specs.Ckb.{CellInput, CellOutput}
-use Rattle.rules.specs.Cells.{read_records}
 use Rattle.units.specs.Units.{Figures}
 use Rattle.rules.specs.Judge.{Call, judge}
-use Rattle.rules.specs.Run.{Entry, Spent, all_cells}
+use Rattle.rules.specs.Run.{Entry, Spent, lent_cells}
 use Rattle.known_cases.specs.Cases.{inputs, plain, token, amount, spending, cell, token_type, offer}
 
 -- ---- under one type: accepted, refused, accepted
@@ -35,7 +34,7 @@ abbrev pub any_type : List ℕ → Entry (List ℕ × Call) Figures
 any_type lock = record {
   judged = λ ours c. judge lock c.0 ours c.1;
   peer_of = λ c. c.1.peer;
-  lent = λ c. all_cells (read_records c.1.records);
+  lent = λ c. lent_cells c.1.records;
 }
 
 -- 7 tokens come in and 5 go to output 0; then output 0 holds none, and nobody counts

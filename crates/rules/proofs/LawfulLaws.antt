@@ -17,7 +17,7 @@ use Rattle.rules.specs.Lawful.{Figure, Lawful, Owed, Owes, Obeys, Law, Either, o
 use Rattle.rules.proofs.Accept.{total-nothing, first-nothing, data_free}
 use Rattle.rules.proofs.Law.{exact, kept-inputs, kept-records, stay-readable, ran_answers, ran_handed, ran_bytes}
 
-step_of : {S : Type 0} {figures : List (Figure S)} {m : Measure} {a b : Tx} {records : List Cell} {s : S} {paid : ℕ} → Owed figures a b records s
+pub step_of : {S : Type 0} {figures : List (Figure S)} {m : Measure} {a b : Tx} {records : List Cell} {s : S} {paid : ℕ} → Owed figures a b records s
     → Balanced m a b records paid → Step m a b records paid
 step_of o w = record { extends = o.extends; inputs = o.inputs; account = w }
 
