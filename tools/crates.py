@@ -6,8 +6,8 @@
 A crate's files are those of its src/, specs/ and proofs/. What they name is `Rattle.X` in a definition, a law or a `ghost use`, and in code `X::`, `use X;` and
 `use X as Y;`, with comments left out. `X::` is no crate where X is a module of the crate itself, or a name that a `use` of that file brings from elsewhere. The names of
 libraries of the toolchain that a line of crates.txt lists (`io`, but for `std`, which is never listed) count too. `rt` finds by itself what stands below those. GROUPS, which docs/CRATES.md has too,
-says which crate stands where; the groups stand from the bottom up, and so do the crates of one where that is possible. With `--check` nothing is written: it says what is not up to
-date in crates.txt or in docs/CRATES.md.
+says which crate stands where, from the bottom up, and so do the crates of one group. Those of a group below `outside` may use the ground and their own group: where one uses
+another's, that is said, and it is wrong. With `--check` nothing is written: it says what is not up to date in crates.txt or in docs/CRATES.md.
 """
 import glob, os, re, sys
 
@@ -91,6 +91,8 @@ def main():
     if wrong:
         sys.exit('\n'.join(wrong))
     uses = {crate: named(crate) & (folders | LIBRARIES) for crate in known}
+    for title, names in groups[:[title for title, _ in groups].index('outside')]:
+        wrong += [f'{crate}, of {title}, uses {other}' for crate in names for other in sorted(uses[crate] - set(names) - set(groups[0][1]))]
     lines = []
     for title, names in groups:
         lines.append(f'\n# {title}')
