@@ -44,6 +44,9 @@ pub lent_unread : (s : List ℕ) (o : Outcome (List MapEntry)) {e : Refusal} →
 unfolding number values
 lent_unread s o k e = rw k (leave_refused map_table s Refusal.LentBytesUnreadable (unread_map s o e))
 
+pub lent-on : (s : List ℕ) (o : Outcome (List MapEntry)) {n : ℕ} {t : List ℕ} → is_map s ≡ true → Leaves map_table s n t o → Leaves map_table s n t (on_table map_table s o)
+lent-on s o g e = rw (on_map s o g) e
+
 -- by a rule that takes none, the entries that stay are those that are kept
 pub stay-keep : (f p : MapEntry → Bool) → ((e : MapEntry) → p e ≡ false) → (l : List MapEntry) → stay f p false l ≡ filter f l
 unfolding stay

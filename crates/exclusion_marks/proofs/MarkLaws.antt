@@ -26,7 +26,7 @@ use Rattle.exclusion_entries.specs.Entries.{state_kind, block_of, state_bytes, e
 use Rattle.exclusion_entries.proofs.EntryLaws.{from-here, entry_again, points-count, length-entry, first-is, first-room, rest_are, entries-long, entries-size, points_most}
 use Rattle.exclusion_entries.proofs.MapLaws.{map-long, map-few, map_are, map-count, map-points, map-fits, splice-back}
 use Rattle.exclusion_entries.proofs.SpliceLaws.{splice-none, drop-splice, splice-same, splice-then}
-use Rattle.exclusion_marks.specs.Steps.{commit_one_bytes}
+use Rattle.exclusion_marks.specs.Inner.{commit_one_bytes}
 
 -- ---- one entry
 

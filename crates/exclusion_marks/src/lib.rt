@@ -7,12 +7,10 @@ ghost use Rattle.arithmetic.specs.LittleEndian.{AllBytes};
 ghost use Rattle.error.specs.Refusal.{answered};
 ghost use Rattle.molecule.specs.Write.{splice, put_at};
 ghost use Rattle.out_points.specs.OutPoints.{bytes_of};
-ghost use Rattle.out_points.specs.Tables.{told};
-ghost use Rattle.table_bytes.specs.Lent.{with_bytes};
-ghost use Rattle.exclusion_entries.specs.Exclusions.{committed_at, commit_on, excluded, apply_on};
+ghost use Rattle.exclusion_entries.specs.Exclusions.{committed_at, excluded};
 ghost use Rattle.exclusion_entries.specs.Entries.{map_bytes, size_of, excluded_at, is_map};
-ghost use Rattle.exclusion_entries.specs.LentMap.{lent_map, lent_list};
-ghost use Rattle.exclusion_marks.specs.Steps.{commit_one_bytes};
+ghost use Rattle.exclusion_entries.specs.Calls.{Commits, Applies};
+ghost use Rattle.exclusion_marks.specs.Inner.{commit_one_bytes};
 
 use error::{Answer, Refusal};
 use exclusion_entries::Rule;
@@ -55,7 +53,7 @@ fn mark(s: &mut [u8], hash: Byte32, block: BlockNumber)
 
 // The transaction with this hash is committed in this block.
 pub fn commit(map: &mut [u8], hash: &[u8], block: BlockNumber) -> Answer
-    ensures { told (with_bytes excluded_at) result map.new ≡ lent_map map.old (commit_on (excluded_at map.old) hash.now block) }
+    ensures { Commits map.old (answered result) map.new hash.now block }
 {
     let h = exclusion_entries::hash_of(hash)?;
     exclusion_entries::read_map(map, Rule::All)?;
@@ -87,7 +85,7 @@ fn put_excluded(s: &[u8], out: &mut [u8])
 
 // Writes the out points of all transactions, in their order, as a list.
 pub fn apply(map: &[u8], out: &mut [u8]) -> Answer
-    ensures { (answered result, out.new) ≡ lent_list map.now out.old (apply_on (excluded_at map.now) out.old) }
+    ensures { Applies map.now (answered result) out.old out.new }
 {
     let v = exclusion_entries::read_map(map, Rule::All)?;
     let n = v.points as u32;

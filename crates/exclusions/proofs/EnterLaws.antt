@@ -10,7 +10,8 @@ use lib.ListN.{length, take, drop, length-append}
 use Rattle.arithmetic.specs.LittleEndian.{AllBytes}
 use Rattle.std.specs.Prelude.{Ok, Err}
 use Rattle.error.specs.declared.{Refusal.Refusal}
-use Rattle.error.specs.Refusal.{number}
+use Rattle.error.specs.Refusal.{number, values, answered}
+use Rattle.error.specs.Outcome.{fine, check, check_with, ◌>>◌, refusal}
 use Rattle.molecule.specs.Layout.{part, span, field_of, fix_count, fix_item}
 use Rattle.molecule.specs.Partial.{All}
 use Rattle.molecule.specs.Molecule.{readable, option, fixvec, size}
@@ -24,18 +25,20 @@ use Rattle.transaction.proofs.TableLaws.{raw_3, transaction_0}
 use Rattle.out_points.specs.declared.{Byte32.Byte32, OutPoint.OutPoint}
 use Rattle.out_points.specs.OutPoints.{Fit, out_point_at}
 use Rattle.std.specs.List.{filter}
-use Rattle.out_points.specs.Tables.{done, told, renew}
+use Rattle.out_points.specs.Tables.{renew}
 use Rattle.out_points.proofs.EqualLaws.{and_both}
 use Rattle.molecule.proofs.ItemsLaws.{bytes_drop, bytes_take}
 use Rattle.out_points.proofs.AgainLaws.{point-fits, item-bytes}
 use Rattle.exclusion_entries.specs.Exclusions.{MapEntry, excluded, fitting}
-use Rattle.table_bytes.specs.Lent.{leaving, with_bytes}
+use Rattle.table_bytes.specs.Lent.{Leaves}
+use Rattle.table_bytes.proofs.LentLaws.{leave_done, leave_refused}
+use Rattle.exclusion_entries.specs.Calls.{map_table}
 use Rattle.exclusion_entries.specs.declared.{Rule.Rule, Survey.Survey}
 use Rattle.exclusion_entries.specs.Entries.{block_of, map_bytes, FitEntry, excluded_at}
 use Rattle.exclusion_entries.specs.Inner.{keeps, takes, stay, ahead, behind, survey_of}
 use Rattle.exclusion_entries.proofs.MapLaws.{map-long, map-fits, map-size, splice-back}
 use Rattle.exclusion_entries.proofs.StayLaws.{stay-split, stay_all, renew-split, told_good, told_stays, told-points}
-use Rattle.exclusions.specs.Steps.{spent_at, spent_by, entry_with}
+use Rattle.exclusions.specs.Inner.{point_of_input, points_of_inputs, entry_with}
 use Rattle.exclusions.proofs.PutLaws.{entry-count}
 
 -- ---- the inputs of a readable transaction have their length
@@ -77,7 +80,7 @@ spent-fit f i (suc k) b = (point-fits (take 36 (drop 8 (fix_item f 44 i))) (byte
 
 module _ (hash : Byte32) (f : List ℕ) (b : AllBytes f) (fa : hash.a < 2 ^ 64) (fb : hash.b < 2 ^ 64) (fc : hash.c < 2 ^ 64) (fd : hash.d < 2 ^ 64) where
   entry-fits : fix_count f ≤ 512 → FitEntry (entry_with hash f)
-  unfolding entry_with spent_by spent_at block_of
+  unfolding entry_with points_of_inputs point_of_input block_of
   entry-fits h = record {
     a_fits = fa;
     b_fits = fb;
@@ -127,22 +130,24 @@ module _ (rule : Rule) (s : List ℕ) (hash : Byte32) (f : List ℕ) {v : Survey
       let y : v.points ≡ length (excluded A) + length (excluded B) = told-points rule s ev ∙ ap (λ (l : List MapEntry). length (excluded l)) split ∙ ap length (excluded-join A B) ∙ length-append (excluded A) (excluded B) in
       ap (λ (l : List MapEntry). length (excluded l)) after_is ∙ z ∙ omega (arith, entry-count hash f)
 
-  pub enter_many : 64 ≤ v.stays → told (with_bytes excluded_at) (Err Refusal.TooManyExclusions) s ≡ leaving map_bytes s (fitting after)
-  unfolding told number leaving fitting
-  enter_many h = rw (lt-leb (length after) 64 (omega (arith, after-count)))
+  pub enter_many : 64 ≤ v.stays → Leaves map_table s (answered {T = Unit {0}} (Err Refusal.TooManyExclusions)) s (fitting after)
+  unfolding number values fitting check check_with ◌>>◌
+  enter_many h = leave_refused map_table s Refusal.TooManyExclusions (rw (lt-leb (length after) 64 (omega (arith, after-count))))
 
-  pub enter_full : v.stays < 64 → 512 < v.points + n → told (with_bytes excluded_at) (Err Refusal.TooManyExclusions) s ≡ leaving map_bytes s (fitting after)
-  unfolding told number leaving fitting
-  enter_full h k = rw (le-leb (length after) 64 (omega (arith, after-count)), lt-leb (length (excluded after)) 512 (omega (arith, after-points)))
+  pub enter_full : v.stays < 64 → 512 < v.points + n → Leaves map_table s (answered {T = Unit {0}} (Err Refusal.TooManyExclusions)) s (fitting after)
+  unfolding number values fitting check check_with ◌>>◌
+  enter_full h k =
+      leave_refused map_table s Refusal.TooManyExclusions
+      (rw (le-leb (length after) 64 (omega (arith, after-count)), lt-leb (length (excluded after)) 512 (omega (arith, after-points))))
 
   module _ (h : v.stays < 64) (k : v.points + n ≤ 512) {o : List ℕ} (eo : o ≡ splice s 0 (map_bytes after)) where
     put : o ≡ put_at s 0 (map_bytes after)
     put = eo ∙ sym (put_yes s 0 (map_bytes after) (omega (arith, map-size after, after-count, after-points, map-long s (told_good rule s ev))))
 
-    pub enter_done : AllBytes s → AllBytes f → hash.a < 2 ^ 64 → hash.b < 2 ^ 64 → hash.c < 2 ^ 64 → hash.d < 2 ^ 64 → told (with_bytes excluded_at) (Ok tt) o ≡ leaving map_bytes s (fitting after)
-    unfolding told leaving fitting with_bytes
+    pub enter_done : AllBytes s → AllBytes f → hash.a < 2 ^ 64 → hash.b < 2 ^ 64 → hash.c < 2 ^ 64 → hash.d < 2 ^ 64 → Leaves map_table s (answered {T = Unit {0}} (Ok tt)) o (fitting after)
+    unfolding fitting check check_with ◌>>◌
     enter_done b bt fa fb fc fd =
         let fits : All FitEntry (A ++ B) = rw split at (stay_all (keeps rule) (takes rule) FitEntry false (excluded_at s) (map-fits s b)) in
         let all : All FitEntry after = rw after_is (all_between FitEntry A B (entry_with hash f) fits (entry-fits hash f bt fa fb fc fd (omega arith))) in
         let means : excluded_at o ≡ after = splice-back s after (omega (arith, after-count)) all eo in
-        rw (le-leb (length after) 64 (omega (arith, after-count)), le-leb (length (excluded after)) 512 (omega (arith, after-points))) (ap₂ (λ (l : List MapEntry) (x : List ℕ). done (l, x)) means put)
+        leave_done map_table s tt (rw (le-leb (length after) 64 (omega (arith, after-count)), le-leb (length (excluded after)) 512 (omega (arith, after-points)))) means put

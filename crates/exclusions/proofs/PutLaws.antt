@@ -36,7 +36,7 @@ use Rattle.exclusion_entries.proofs.SpliceLaws.{splice-none, splice-then, splice
 use Rattle.exclusion_entries.proofs.StayLaws.{stay-split, stay-size, renew-split, told_good, told_stays, told-points, told-place}
 use Rattle.std.specs.List.{copy_within}
 use Rattle.exclusions.proofs.MoveLaws.{within-splice}
-use Rattle.exclusions.specs.Steps.{head_bytes, spent_at, spent_by, entry_with}
+use Rattle.exclusions.specs.Inner.{head_bytes, point_of_input, points_of_inputs, entry_with}
 
 -- ---- its first 48 bytes
 
@@ -74,10 +74,10 @@ pub record Spending (inputs : List ℕ) (n : ℕ) (out₀ : List ℕ) (at : ℕ)
   pub here : from ≡ 12 + 44 * k
   pub long : length out ≡ length out₀
   pub room : at + 36 * n ≤ length out₀
-  pub made : splice out to (bytes_of (map spent_at (span (fix_item inputs 44) k (n - k)))) ≡ splice out₀ at (bytes_of (spent_by inputs))
+  pub made : splice out to (bytes_of (map point_of_input (span (fix_item inputs 44) k (n - k)))) ≡ splice out₀ at (bytes_of (points_of_inputs inputs))
 
 pub spend_none : (inputs : List ℕ) (out : List ℕ) (at : ℕ) {n : ℕ} → AllBytes inputs → n ≡ fix_count inputs → length inputs ≡ 4 + 44 * fix_count inputs → at + 36 * fix_count inputs ≤ length out → Spending inputs n out at out at 12 0
-unfolding spent_by
+unfolding points_of_inputs
 spend_none inputs out at {n} b e l r = record {
   bytes = b;
   counted = e;
@@ -87,7 +87,7 @@ spend_none inputs out at {n} b e l r = record {
   here = omega arith;
   long = refl;
   room = omega arith;
-  made = ap (λ (x : List (List ℕ)). splice out at (bytes_of (map spent_at x))) (sym (span-whole (fix_item inputs 44) n) ∙ ap (span (fix_item inputs 44) 0) e);
+  made = ap (λ (x : List (List ℕ)). splice out at (bytes_of (map point_of_input x))) (sym (span-whole (fix_item inputs 44) n) ∙ ap (span (fix_item inputs 44) 0) e);
 }
 
 module _ {inputs : List ℕ} {n : ℕ} {out₀ : List ℕ} {at : ℕ} {out : List ℕ} {to from k : ℕ} (w : Spending inputs n out₀ at out to from k) where
@@ -97,8 +97,8 @@ module _ {inputs : List ℕ} {n : ℕ} {out₀ : List ℕ} {at : ℕ} {out : Lis
   pub spend_here : k < n → from + 36 ≤ length inputs
   spend_here h = let t = w.here in omega (arith, w.sized)
 
-  point-is : k < n → take 36 (drop from inputs) ≡ point_bytes (spent_at (fix_item inputs 44 k))
-  unfolding spent_at previous_output_of part
+  point-is : k < n → take 36 (drop from inputs) ≡ point_bytes (point_of_input (fix_item inputs 44 k))
+  unfolding point_of_input previous_output_of part
   point-is h =
       let y = drop (4 + 44 * k) inputs in
       let i : fix_item inputs 44 k ≡ take 44 y = item_run inputs 44 k (omega (arith, w.counted, fix_count_said inputs)) in
@@ -119,10 +119,10 @@ module _ {inputs : List ℕ} {n : ℕ} {out₀ : List ℕ} {at : ℕ} {out : Lis
       let r = w.room in
       let i = fix_item inputs 44 in
       let E = take 36 (drop from inputs) in
-      let R = map spent_at (span i (k + 1) (n - (k + 1))) in
+      let R = map point_of_input (span i (k + 1) (n - (k + 1))) in
       let lE : length E ≡ 36 = length-take-le 36 (drop from inputs) (rw (length-drop from inputs) (let s = spend_here h in omega arith)) in
-      let lR : length (bytes_of R) ≡ 36 * (n - (k + 1)) = length-bytes R ∙ ap (λ (j : ℕ). 36 * j) (length-map (span i (k + 1) (n - (k + 1))) spent_at ∙ span-length i (k + 1) (n - (k + 1))) in
-      let on : bytes_of (map spent_at (span i k (n - k))) ≡ E ++ bytes_of R = ap (λ (x : List (List ℕ)). bytes_of (map spent_at x)) (span-on i k n h) ∙ ap (λ (x : List ℕ). x ++ bytes_of R) (sym (point-is h)) in
+      let lR : length (bytes_of R) ≡ 36 * (n - (k + 1)) = length-bytes R ∙ ap (λ (j : ℕ). 36 * j) (length-map (span i (k + 1) (n - (k + 1))) point_of_input ∙ span-length i (k + 1) (n - (k + 1))) in
+      let on : bytes_of (map point_of_input (span i k (n - k))) ≡ E ++ bytes_of R = ap (λ (x : List (List ℕ)). bytes_of (map point_of_input x)) (span-on i k n h) ∙ ap (λ (x : List ℕ). x ++ bytes_of R) (sym (point-is h)) in
       record {
         bytes = w.bytes;
         counted = w.counted;
@@ -139,25 +139,25 @@ module _ {inputs : List ℕ} {n : ℕ} {out₀ : List ℕ} {at : ℕ} {out : Lis
             ∙ w.made;
       }
 
-  pub spend_end : n ≤ k → out ≡ splice out₀ at (bytes_of (spent_by inputs))
+  pub spend_end : n ≤ k → out ≡ splice out₀ at (bytes_of (points_of_inputs inputs))
   unfolding bytes_of
-  spend_end h = sym (splice-none out to) ∙ ap (λ (x : List (List ℕ)). splice out to (bytes_of (map spent_at x))) (sym (span-end (fix_item inputs 44) k n h)) ∙ w.made
+  spend_end h = sym (splice-none out to) ∙ ap (λ (x : List (List ℕ)). splice out to (bytes_of (map point_of_input x))) (sym (span-end (fix_item inputs 44) k n h)) ∙ w.made
 
 -- ---- the entry
 
 module _ (hash : Byte32) (f : List ℕ) where
-  spent-count : length (spent_by f) ≡ fix_count f
-  unfolding spent_by
-  spent-count = length-map (fix_items 44 f) spent_at ∙ span-length (fix_item f 44) 0 (fix_count f)
+  spent-count : length (points_of_inputs f) ≡ fix_count f
+  unfolding points_of_inputs
+  spent-count = length-map (fix_items 44 f) point_of_input ∙ span-length (fix_item f 44) 0 (fix_count f)
 
   pub entry-count : length (entry_with hash f).points ≡ fix_count f
   unfolding entry_with
   entry-count = spent-count
 
-  entry-is : entry_bytes (entry_with hash f) ≡ head_bytes hash (fix_count f) ++ bytes_of (spent_by f)
+  entry-is : entry_bytes (entry_with hash f) ≡ head_bytes hash (fix_count f) ++ bytes_of (points_of_inputs f)
   unfolding entry_bytes head_bytes point_list entry_with
   entry-is =
-      let B = bytes_of (spent_by f) in
+      let B = bytes_of (points_of_inputs f) in
       ap (λ (k : ℕ). hash_bytes hash ++ state_bytes none ++ (to_le 4 k ++ B)) spent-count ∙ sym (append_assoc (hash_bytes hash ++ state_bytes none) (to_le 4 (fix_count f)) B)
 
   entry-length : length (entry_bytes (entry_with hash f)) ≡ 48 + 36 * fix_count f
@@ -167,10 +167,10 @@ module _ (hash : Byte32) (f : List ℕ) where
     pub entry-room : r ≡ at + 48 → r + 36 * fix_count f ≤ length o
     entry-room e = omega (arith, length-kept p)
 
-    pub entry_put : splice o r (bytes_of (spent_by f)) ≡ splice out at (entry_bytes (entry_with hash f))
+    pub entry_put : splice o r (bytes_of (points_of_inputs f)) ≡ splice out at (entry_bytes (entry_with hash f))
     entry_put =
         let H = head_bytes hash (fix_count f) in
-        let B = bytes_of (spent_by f) in
+        let B = bytes_of (points_of_inputs f) in
         let l = entry-length in
         ap₂ (λ (x : List ℕ) (k : ℕ). splice x k B) p.bytes p.end ∙ splice-then out at H B (omega (arith, ap length entry-is, length-append H B)) ∙ ap (splice out at) (sym entry-is)
 

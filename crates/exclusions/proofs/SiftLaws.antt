@@ -24,7 +24,7 @@ use Rattle.exclusion_entries.proofs.StayLaws.{stay-front, front-is, stay-size, t
 use Rattle.std.specs.List.{copy_within}
 use Rattle.exclusions.proofs.MoveLaws.{within-splice}
 use Rattle.exclusions.specs.declared.{changes.Sift.Sift}
-use Rattle.exclusions.specs.Steps.{sifted, sifted_bytes, gives, sift_one, sift_one_bytes}
+use Rattle.exclusions.specs.Inner.{sifted, sifted_bytes, gives, sift_one, sift_one_bytes}
 
 -- ---- one entry
 

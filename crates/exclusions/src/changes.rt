@@ -5,12 +5,9 @@ ghost use Rattle.std.specs.Prelude.{◌≡◌, false, ◌++◌, ◌+◌, ◌-◌
 ghost use Rattle.arithmetic.specs.LittleEndian.{to_le};
 ghost use Rattle.molecule.specs.Layout.{fix_count};
 ghost use Rattle.molecule.specs.Write.{splice};
-ghost use Rattle.std.specs.List.{filter};
-ghost use Rattle.out_points.specs.Tables.{renew};
 ghost use Rattle.exclusion_entries.specs.Entries.{entry_bytes, entries_bytes, map_bytes, size_of, excluded_at};
 ghost use Rattle.exclusion_entries.specs.Inner.{keeps, takes, stay};
-ghost use Rattle.exclusions.specs.Steps.{gives, sift_one, sift_one_bytes, entry_with};
-ghost use Rattle.exclusions.specs.Found.{Found, end_of};
+ghost use Rattle.exclusions.specs.Inner.{gives, sift_one, sift_one_bytes, entry_with, replaced, Found, end_of};
 
 use crate::entry::NewEntry;
 use exclusion_entries::{Rule, Survey};
@@ -26,7 +23,7 @@ struct Sift {
 }
 
 // Whether the entry at the start of x is the first that gives its place.
-#[tactic(auto, unfolding(crate::specs::Steps::gives))]
+#[tactic(auto, unfolding(crate::specs::Inner::gives))]
 fn gives(rule: Rule, taken: bool, x: &[u8]) -> bool
     ensures { result ≡ gives rule taken x.now }
 {
@@ -119,7 +116,7 @@ impl Pass {
         requires found { Found self s.old }
         requires stays_bound { self.found.stays < 64 }
         requires points_bound { self.found.points + fix_count added.inputs.now ≤ 512 }
-        ensures { s.new ≡ splice s.old 0 (map_bytes (renew (takes self.rule) (entry_with added.entry.hash added.entry.inputs.now) (filter (keeps self.rule) (excluded_at s.old)))) }
+        ensures { s.new ≡ splice s.old 0 (map_bytes (replaced self.rule added.entry.hash added.entry.inputs.now (excluded_at s.old))) }
     {
         self.gather(s);
         self.put_new(s, added);

@@ -1,4 +1,4 @@
--- What the functions inside promise one another about one entry; no contract of a call cites it.
+-- What the functions inside promise one another; no contract of a call cites it.
 use Rattle.std.specs.Prelude.{ℕ, ◌+◌, cond, List, drop}
 use Rattle.std.proofs.Math.Option.{some}
 use Rattle.units.specs.declared.{BlockNumber.BlockNumber}

@@ -1,17 +1,31 @@
--- What the functions inside promise one another about one entry of a table; no contract of a call cites it.
-use Rattle.std.specs.Prelude.{ℕ, ◌+◌, Bool, true, false, cond, List, ◌++◌, map, take, drop}
+-- What the functions inside promise one another; no contract of a call cites it.
+use Rattle.std.specs.Prelude.{◌≡◌, ℕ, ◌+◌, ◌*◌, Bool, true, false, cond, List, ◌++◌, map, take, drop, Ok}
 use Rattle.std.proofs.Math.Option.{none}
+use Rattle.std.specs.List.{filter}
 use Rattle.arithmetic.specs.LittleEndian.{to_le}
 use Rattle.molecule.specs.Layout.{fix_items}
 use Rattle.molecule.specs.Write.{splice}
 use Rattle.transaction.specs.Tx.{previous_output_of}
 use Rattle.out_points.specs.declared.{Byte32.Byte32, OutPoint.OutPoint}
 use Rattle.out_points.specs.OutPoints.{out_point_at, hash_bytes}
+use Rattle.out_points.specs.Tables.{renew}
 use Rattle.exclusion_entries.specs.declared.{Rule.Rule}
 use Rattle.exclusion_entries.specs.Exclusions.{MapEntry}
 use Rattle.exclusion_entries.specs.Entries.{state_bytes, entry_of, size_of}
-use Rattle.exclusion_entries.specs.Inner.{keeps, takes}
-use Rattle.exclusions.specs.declared.{changes.Sift.Sift}
+use Rattle.exclusion_entries.specs.Inner.{keeps, takes, survey_of}
+use Rattle.exclusions.specs.declared.{changes.Pass.Pass, changes.Sift.Sift}
+
+-- ---- a pass over a map, with its rule
+
+-- the bytes are a map, and this is what the pass finds there
+abbrev pub Found : Pass → List ℕ → Type 0
+Found p s = Ok p.found ≡ survey_of p.rule s
+
+-- where the entries that stay end, once they stand together
+abbrev pub end_of : Pass → ℕ
+end_of p = 4 + 48 * p.found.stays + 36 * p.found.points
+
+-- ---- one entry
 
 -- entries that stay are moved together: where the pass is after an entry of so many bytes that is kept or gives its place, and the bytes then
 unfoldable pub sifted : Bool → Bool → ℕ → Sift → Sift
@@ -38,12 +52,16 @@ sift_one_bytes rule c s = let x = drop c.at s in sifted_bytes (keeps rule (entry
 unfoldable pub head_bytes : Byte32 → ℕ → List ℕ
 head_bytes h n = hash_bytes h ++ state_bytes none ++ to_le 4 n
 
-unfoldable pub spent_at : List ℕ → OutPoint
-spent_at i = out_point_at (previous_output_of i) 0
+unfoldable pub point_of_input : List ℕ → OutPoint
+point_of_input i = out_point_at (previous_output_of i) 0
 
-unfoldable pub spent_by : List ℕ → List OutPoint
-spent_by inputs = map spent_at (fix_items 44 inputs)
+unfoldable pub points_of_inputs : List ℕ → List OutPoint
+points_of_inputs inputs = map point_of_input (fix_items 44 inputs)
 
 -- the entry of a transaction with this hash and these inputs
 unfoldable pub entry_with : Byte32 → List ℕ → MapEntry
-entry_with h inputs = record { hash = h; committed = none; points = spent_by inputs }
+entry_with h inputs = record { hash = h; committed = none; points = points_of_inputs inputs }
+
+-- it takes its place among the entries that the rule keeps
+abbrev pub replaced : Rule → Byte32 → List ℕ → List MapEntry → List MapEntry
+replaced rule h inputs l = renew (takes rule) (entry_with h inputs) (filter (keeps rule) l)
