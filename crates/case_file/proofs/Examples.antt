@@ -10,27 +10,27 @@ use Rattle.molecule.specs.Molecule.{decode, readable}
 use Rattle.molecule.specs.Layout.{part}
 use Rattle.error.specs.Outcome.{check_with}
 use Rattle.error.specs.Outcome as outcome
-use Rattle.rules.specs.Judge.{judge, ruling, ruling_against, opening, closing}
+use Rattle.rules.specs.Judge.{judge, ruling, ruling_against, opening, closing, scripts, limits, comparison}
 use Rattle.rules.specs.Lines.{verdict, first_failing, followed, line_with}
 use Rattle.rules.specs.Lines as lines
 use Rattle.verdict_line.specs.VerdictLine.{digit, digits, decimal, spaced, refused_with, line_of}
 use Rattle.case_file.specs.CaseFile.{◌>>=◌, kind_at, length_at, all_zero, item_at, optional_at, rate_at, dead_at, cell_at, record_at, records_from, record_bytes, record_list, read_case, case_of, verdict_of, case_line}
 
 -- items 2, 3 and 5 of length 0, and a rate of 7
-abbrev scripts : List ℕ
-scripts = 0 ∷ 0 ∷ 0 ∷ 32 ∷ 0 ∷ 0 ∷ 0 ∷ 48 ∷ 0 ∷ 0 ∷ 0 ∷ 80 ∷ []
+abbrev no_scripts : List ℕ
+no_scripts = 0 ∷ 0 ∷ 0 ∷ 32 ∷ 0 ∷ 0 ∷ 0 ∷ 48 ∷ 0 ∷ 0 ∷ 0 ∷ 80 ∷ []
 
 abbrev rate : List ℕ
 rate = 8 ∷ 0 ∷ 0 ∷ 96 ∷ 7 ∷ 0 ∷ 0 ∷ 0 ∷ 0 ∷ 0 ∷ 0 ∷ 0 ∷ []
 
 -- the shortest file
-shortest_case : case_of (scripts ++ rate) ≡ some (record { ours = []; peer = []; lock = []; type = []; source = []; rate = 7; records = [] })
+shortest_case : case_of (no_scripts ++ rate) ≡ some (record { ours = []; peer = []; lock = []; type = []; source = []; rate = 7; records = [] })
 unfolding case_of read_case only pick optional_at item_at rate_at ◌>>=◌ kind_at length_at num_at le part all_zero records_from
 shortest_case = refl
 
 -- its line is "2": the peer's bytes are no transaction
-shortest_line : case_line (scripts ++ rate) ≡ 50 ∷ 10 ∷ []
-unfolding case_line verdict_of case_of read_case only pick optional_at item_at rate_at ◌>>=◌ kind_at length_at num_at le part all_zero records_from judge ruling verdict first_failing followed lines.◌>>◌ lines.◌>>=◌ line_with outcome.◌>>◌ check_with ruling_against opening closing readable there decode bind split line_of refused_with decimal digits digit spaced
+shortest_line : case_line (no_scripts ++ rate) ≡ 50 ∷ 10 ∷ []
+unfolding case_line verdict_of case_of read_case only pick optional_at item_at rate_at ◌>>=◌ kind_at length_at num_at le part all_zero records_from judge ruling verdict first_failing followed lines.◌>>◌ lines.◌>>=◌ line_with outcome.◌>>◌ check_with ruling_against opening closing scripts limits comparison readable there decode bind split line_of refused_with decimal digits digit spaced
 shortest_line = refl
 
 -- the empty file is no case: "3"
