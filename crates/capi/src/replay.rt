@@ -1,7 +1,7 @@
 // A list of updates judged one after another, from C.
 ghost use Rattle.std.specs.Prelude.{◌≡◌, length, get_or};
 ghost use Rattle.negotiation.specs.Replay.{replay_of, after_replay};
-ghost use Rattle.negotiation.specs.Law.{Lawful};
+ghost use Rattle.negotiation.specs.Law.{LawfulReplay};
 ghost use Rattle.words.specs.Words.{writing};
 ghost use Rattle.answer_words.specs.Answers.{replay_words};
 
@@ -19,7 +19,7 @@ pub extern "C" fn basinpantry_replay<'a>(
     values: &mut [u64; WORDS],
 ) -> u32
     ensures answers_after { ((result, values.new), answers.new) ≡ writing replay_words (after_replay (replay_of lock.now udt.now start.now updates.now (length answers.old)) answers.old) values.old }
-    ensures lawful { result ≡ 0 → Lawful lock.now udt.now start.now updates.now answers.old (get_or values.new 0 0) (get_or values.new 1 0) (get_or values.new 2 0) answers.new }
+    ensures lawful { result ≡ 0 → LawfulReplay lock.now udt.now start.now updates.now answers.old (get_or values.new 0 0) (get_or values.new 1 0) (get_or values.new 2 0) answers.new }
 {
     let negotiation = Negotiation {
         start,

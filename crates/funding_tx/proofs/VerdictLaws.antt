@@ -12,7 +12,7 @@ use Rattle.molecule.specs.Molecule.{option, readable}
 use Rattle.lists.proofs.EqualLaws.{whole}
 use Rattle.transaction.specs.Ckb.{Script, Transaction}
 use Rattle.transaction.specs.Tx.{Tx, tx_at, are_scripts}
-use Rattle.rules.specs.Cells.{Cell, Lent, lent_at}
+use Rattle.rules.specs.Cells.{Cell, LentRecords, lent_at}
 use Rattle.rules.specs.Surplus.{total, capacity_of}
 use Rattle.rules.specs.Lines.{Name, line, line_with, followed, known, verdict, first_failing}
 use Rattle.rules.specs.Lines as lines
@@ -52,7 +52,7 @@ module _ (lock type source o p : List ℕ) where
       ∙ ap (λ (v : Outcome (Unit {0})). v >> (within >> alike)) scripts_steps)
 
 -- what the records bring in decides the rest
-module _ (type source : List ℕ) (ours peer : Tx) (rate size : ℕ) (lent : Lent) where
+module _ (type source : List ℕ) (ours peer : Tx) (rate size : ℕ) (lent : LentRecords) where
   pub after_records : Brought → Outcome Figures
   after_records b = verdict (contribution type ours peer b.capacity (known b.token) rate size)
 

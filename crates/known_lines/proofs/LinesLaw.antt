@@ -12,7 +12,7 @@ use Rattle.transaction.specs.Ckb.{Transaction}
 use Rattle.units.specs.Units.{Figures}
 use Rattle.lists.specs.Lists.{is_empty}
 use Rattle.transaction.specs.Tx.{Tx, tx_at}
-use Rattle.rules.specs.Cells.{Cell, Lent, lent_at}
+use Rattle.rules.specs.Cells.{Cell, LentRecords, lent_at}
 use Rattle.rules.specs.Surplus.{total, added, capacity_of, amount_of, token_of, is_of, has_amount}
 use Rattle.rules.specs.Lines.{Ruled, first_failing, verdict, followed, answer, line_with, ◌>>=◌, ◌>>◌}
 use Rattle.rules.specs.Judge.{Call, Names, of_records, of_outputs, scripts, limits, comparison, live, live_cells, spent, growth, unfunded, token_delta, funding_output_delta, covered, counted, tally, settled, token_account, accounts, contribution, opening, closing, ruling, ruling_against, judge}
@@ -47,7 +47,7 @@ unfolding live line_with answer followed ◌>>◌
 live-answer source i [] = refl
 live-answer source i (r ∷ rs) = live-answer source (suc i) rs
 
-spent-answer : (source : List ℕ) (ours peer : Tx) (lent : Lent) → (spent source ours peer lent).answer ≡ fine (live_cells lent.records)
+spent-answer : (source : List ℕ) (ours peer : Tx) (lent : LentRecords) → (spent source ours peer lent).answer ≡ fine (live_cells lent.records)
 unfolding spent line_with answer followed ◌>>◌
 spent-answer source ours peer lent = rw (live-answer source (length ours.inputs) lent.records)
 
@@ -113,7 +113,7 @@ contribution-answer type ours peer records rate size =
     ∙ after_bind (covered (unfunded ours) (total capacity_of records) (growth capacity_of ours peer + total capacity_of (added ours peer)) rate size) _ (covered-answer _ _ _ rate size)
     ∙ after_bind (token_account type (cond (is_empty type) 0 (growth amount_of ours peer)) (tally of_records type 0 records) (added ours peer)) _ (account-answer type ours peer records)
 
-closing-answer : (type source : List ℕ) (ours peer : Tx) (rate size : ℕ) (lent : Lent)
+closing-answer : (type source : List ℕ) (ours peer : Tx) (rate size : ℕ) (lent : LentRecords)
     → (closing type source ours peer rate size lent).answer ≡ fine (surpluses type ours peer (live_cells lent.records))
 unfolding closing
 closing-answer type source ours peer rate size lent =

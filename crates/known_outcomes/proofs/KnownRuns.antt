@@ -10,7 +10,7 @@ use Rattle.error.specs.Outcome.{fine, refused}
 use Rattle.rules.specs.Surplus.{Measure, capacities, expected, surplus}
 use Rattle.rules.specs.Judge.{Call}
 use Rattle.transaction.specs.Tx.{tx_at}
-use Rattle.rules.specs.Run.{Entry, Exact, verdicts, in_force, kept, kept_records, steps, carried, sum, update_for_peer, Returned, Ran, stop, call}
+use Rattle.rules.specs.Run.{Entry, Exact, verdicts, in_force, kept, kept_records, steps, carried, sum_of, update_for_peer, Returned, Ran, stop, call}
 use Rattle.units.specs.Units.{in_shannons, in_tokens, Figures}
 use Rattle.error.specs.declared.Refusal.{Refusal}
 use Rattle.error.specs.Refusal.{number, values}
@@ -47,7 +47,7 @@ worked-steps = (refl, refl)
 
 -- what they carry
 abbrev Sums : {C : Type 0} → Entry C Figures → List C → (Figures → ℕ) → ℕ → Type 0
-Sums F calls pick n = sum (carried pick (verdicts F [] calls)) ≡ n
+Sums F calls pick n = sum_of (carried pick (verdicts F [] calls)) ≡ n
 
 pub worked-sums : Sums E worked (λ s. s.capacity) 870 × Sums E worked (λ s. s.token) 2
 unfolding computing

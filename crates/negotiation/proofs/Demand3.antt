@@ -17,7 +17,7 @@ use Rattle.molecule.specs.Partial.{All}
 use Rattle.rules.specs.Surplus.{Measure}
 use Rattle.units.specs.Units.{Figures}
 use Rattle.rules.specs.Judge.{Call}
-use Rattle.rules.specs.Run.{Entry, Exact, update_for_peer, carried, sum, verdicts, in_force, next, forces}
+use Rattle.rules.specs.Run.{Entry, Exact, update_for_peer, carried, sum_of, verdicts, in_force, next, forces}
 use Rattle.error.proofs.Passed.{never, fine_inj, check-fine}
 use Rattle.rules.specs.Lawful.{Figure, Lawful, two_figures}
 use Rattle.rules.proofs.Accept.{update_owes}
@@ -26,7 +26,7 @@ use Rattle.error.specs.declared.Refusal.{Refusal}
 use Rattle.negotiation.specs.Updates.{Updates, calls_of, call_at, transaction_at}
 use Rattle.words.specs.Words.{four_of, surplus_words}
 use Rattle.negotiation.specs.Words.{words, all_words}
-use Rattle.negotiation.specs.Replay.{Summary, accepted_of, index_after, summary_of, replay_of, after_replay, answered}
+use Rattle.negotiation.specs.Replay.{Summary, accepted_of, index_after, summary_of, replay_of, after_replay, told_replay}
 use Rattle.negotiation.specs.Law.{answer_in, answers_in, Called, LawfulReplay}
 use Rattle.negotiation.proofs.WordLaws.{all_length}
 use Rattle.negotiation.proofs.RunLaws.{length-verdicts, index_names}
@@ -104,7 +104,7 @@ module _ (lock udt start updates before : List ℕ) (n accepted at : ℕ) (after
         count = c ∙ ap (length {A = Outcome Figures}) (sym ev) ∙ length-verdicts E start calls ∙ span-length (call_at updates) 0 (item_count updates);
         words = w;
         lawful = rw eb k';
-        acceptances = k ∙ ap sum (sym (back (λ f. 1)));
+        acceptances = k ∙ ap sum_of (sym (back (λ f. 1)));
         exact = all_carried E start calls eb (verdicts E start calls) (answers_in n after) (two_figures udt) (λ pick. back pick ∙ ap (carried pick) (sym ev)) k'.exact;
         beyond = rw (ea, l) (drop_at (all_words vs) (drop (5 * n) before) (5 * n) l);
       }
@@ -126,6 +126,6 @@ pub refusals : (lock udt start updates before : List ℕ) (e : Refusal) (after :
 unfolding after_replay
 refusals lock udt start updates before e after k = of (replay_of lock udt start updates (length before)) k
   where
-    of : (x : Outcome (List (Outcome Figures))) → (answered (Err e), after) ≡ after_replay x before → after ≡ before
+    of : (x : Outcome (List (Outcome Figures))) → (told_replay (Err e), after) ≡ after_replay x before → after ≡ before
     of (fine vs) a = absurd (never _ _ _ (ap (λ (p : Outcome Summary × List ℕ). p.0) a))
     of (refused m l) a = ap (λ (p : Outcome Summary × List ℕ). p.1) a

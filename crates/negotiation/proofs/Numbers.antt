@@ -12,7 +12,7 @@ use Rattle.units.specs.Units.{Figures}
 use Rattle.molecule.specs.Partial.{All}
 use Rattle.lists.specs.Lists.{is_empty}
 use Rattle.transaction.specs.Tx.{Tx, tx_at}
-use Rattle.rules.specs.Cells.{Cell, Lent, lent_at}
+use Rattle.rules.specs.Cells.{Cell, LentRecords, lent_at}
 use Rattle.rules.specs.Surplus.{is_of, added}
 use Rattle.rules.specs.Lines.{Name, Line, Ruled, first_failing, verdict, followed, answer, line, line_with, ◌>>=◌, ◌>>◌}
 use Rattle.rules.specs.Judge.{Call, Names, limits, comparison, live, live_cells, spent, token_delta, funding_output_delta, covered, counted, tally, settled, token_account, accounts, contribution, scripts, opening, closing, ruling, ruling_against, judge}
@@ -70,7 +70,7 @@ either : {A : Type 0} (b : Bool) {x y : Ruled A} → Lined x → Lined y → Lin
 either true p q = p
 either false p q = q
 
--- what is answered by such a block
+-- what is told_replay by such a block
 numbered : {A : Type 0} (m : Ruled A) → Lined m → Numbered (verdict m)
 unfolding verdict first_failing outcome.◌>>◌ check_with
 numbered {A} m w = by m.lines w.lines
@@ -102,7 +102,7 @@ unfolding live
 live_lined source i [] = just tt
 live_lined source i (r ∷ rs) = on _ _ _ _ _ (omega arith) (on _ _ _ _ _ (omega arith) (live_lined source (suc i) rs))
 
-spent_lined : (source : List ℕ) (ours peer : Tx) (lent : Lent) → Lined (spent source ours peer lent)
+spent_lined : (source : List ℕ) (ours peer : Tx) (lent : LentRecords) → Lined (spent source ours peer lent)
 unfolding spent
 spent_lined source ours peer lent = on _ _ _ _ _ (omega arith) (on _ _ _ _ _ (omega arith) (and_then (live source _ lent.records) _ (live_lined source _ lent.records) (just (live_cells lent.records))))
 
@@ -155,7 +155,7 @@ opening_lined lock type source ours bytes =
     on _ _ _ _ _ (omega arith) (and_then (scripts lock type source) _ (scripts_lined lock type source)
     (and_then (limits _ ours (tx_at bytes)) _ (limits_lined _ ours (tx_at bytes)) (comparison_lined lock type ours (tx_at bytes))))
 
-closing_lined : (type source : List ℕ) (ours peer : Tx) (rate size : ℕ) (lent : Lent) → Lined (closing type source ours peer rate size lent)
+closing_lined : (type source : List ℕ) (ours peer : Tx) (rate size : ℕ) (lent : LentRecords) → Lined (closing type source ours peer rate size lent)
 unfolding closing
 closing_lined type source ours peer rate size lent =
     and_with (spent source ours peer lent) _ (spent_lined source ours peer lent) (λ records. contribution_lined type ours peer _ _ rate size (tally_lined _ type 0 records))

@@ -17,7 +17,7 @@ use Rattle.error.specs.Outcome.{Outcome, fine, refused, check, check_with, ◌>>
 use Rattle.rules.specs.Run.{verdicts, update_for_peer}
 use Rattle.error.proofs.Passed.{never}
 use Rattle.negotiation.specs.Updates.{Updates, calls_of}
-use Rattle.negotiation.specs.Replay.{replay_of, after_replay, answered}
+use Rattle.negotiation.specs.Replay.{replay_of, after_replay, told_replay}
 
 module _ (lock udt start s : List ℕ) (room : ℕ) where
   refused_3 : readable Updates s ≡ false → replay_of lock udt start s room ≡ refused 3 []
@@ -42,7 +42,7 @@ module _ (lock udt start s : List ℕ) (room : ℕ) where
       by true ea true eb = never m l _ (sym e ∙ judged ea eb)
 
 module _ (lock udt start s out : List ℕ) {r : Bool} (e : r ≡ readable Updates s) where
-  pub replay_unreadable : r ≡ false → (answered (Err Refusal.LentBytesUnreadable), out) ≡ after_replay (replay_of lock udt start s (length out)) out
+  pub replay_unreadable : r ≡ false → (told_replay (Err Refusal.LentBytesUnreadable), out) ≡ after_replay (replay_of lock udt start s (length out)) out
   unfolding after_replay number values
   replay_unreadable h = rw (refused_3 lock udt start s (length out) (sym e ∙ h))
 
@@ -53,7 +53,7 @@ module _ (lock udt start s out : List ℕ) {r : Bool} (e : r ≡ readable Update
     enough : n ≤ length out / 5 → leb (5 * item_count s) (length out) ≡ true
     enough h = let k : 5 * item_count s ≤ length out = omega arith in le-leb _ _ k
 
-    pub replay_short : length out / 5 < n → (answered (Err Refusal.BufferTooShort), out) ≡ after_replay (replay_of lock udt start s (length out)) out
+    pub replay_short : length out / 5 < n → (told_replay (Err Refusal.BufferTooShort), out) ≡ after_replay (replay_of lock udt start s (length out)) out
     unfolding after_replay number values
     replay_short h = rw (refused_13 lock udt start s (length out) (sym e ∙ t) (short h))
 

@@ -23,15 +23,15 @@ use Rattle.rules.specs.Run.{Entry, handed_back, next, verdicts, in_force, update
 use Rattle.rules.proofs.Accept.{readable-next}
 use Rattle.funding_tx.proofs.Demand3.{hands}
 use Rattle.funding_tx.proofs.VerdictLaws.{judge_read}
-use Rattle.negotiation.specs.Updates.{bytes_of, rate_of, call_at, calls_of, transaction_at}
+use Rattle.negotiation.specs.Updates.{field_bytes, rate_of, call_at, calls_of, transaction_at}
 use Rattle.negotiation.specs.Words.{words, all_words}
-use Rattle.negotiation.specs.Replay.{accepted_of, index_after, after_replay, answered}
+use Rattle.negotiation.specs.Replay.{accepted_of, index_after, after_replay, told_replay}
 use Rattle.negotiation.proofs.WordLaws.{all_length}
 
 -- what is judged is the update with this index, against the transaction with that one, which is known to be readable
 pub judge-is : (lock udt start s : List ℕ) (at i : ℕ) (u : Update) {known : Bool} {o p r q : List ℕ} {w : ℕ}
     → known ≡ readable (option Transaction) (transaction_at start s at) → known ≡ true
-    → o ≡ transaction_at start s at → p ≡ bytes_of s i 0 → r ≡ bytes_of s i 1 → q ≡ bytes_of s i 2 → w ≡ rate_of s i
+    → o ≡ transaction_at start s at → p ≡ field_bytes s i 0 → r ≡ field_bytes s i 1 → q ≡ field_bytes s i 2 → w ≡ rate_of s i
     → told u ≡ judge_against lock udt (tx_at o) (record { peer = p; records = r; source = q; rate = w }) → told u ≡ judge lock udt (transaction_at start s at) (call_at s i)
 judge-is lock udt start s at i u e t eo ep er eq ew h = judge_read lock udt (transaction_at start s at) (call_at s i) e u t (rw (← eo, ← ep, ← er, ← eq, ← ew) h)
 
@@ -56,7 +56,7 @@ module _ (lock udt start s : List ℕ) where
   all = verdicts E start (calls_of s)
 
   -- the index goes with the bytes
-  at_next : (at i : ℕ) (v : Outcome Figures) → transaction_at start s (handed_back v at (i + 1)) ≡ handed_back v (transaction_at start s at) (bytes_of s i 0)
+  at_next : (at i : ℕ) (v : Outcome Figures) → transaction_at start s (handed_back v at (i + 1)) ≡ handed_back v (transaction_at start s at) (field_bytes s i 0)
   unfolding transaction_at
   at_next at i (fine f) = rw add-one
   at_next at i (refused n l) = refl
@@ -76,9 +76,9 @@ module _ (lock udt start s : List ℕ) where
   names zero at i = refl
   names (suc k) at i =
       let v = verdict_at at i in
-      ap (λ (j : ℕ). transaction_at start s (index_after (handed_back v at (i + 1)) (i + 1) (verdicts E (handed_back v (transaction_at start s at) (bytes_of s i 0)) (span (call_at s) j k)))) (sym (add-one i))
+      ap (λ (j : ℕ). transaction_at start s (index_after (handed_back v at (i + 1)) (i + 1) (verdicts E (handed_back v (transaction_at start s at) (field_bytes s i 0)) (span (call_at s) j k)))) (sym (add-one i))
       ∙ (rw (at_next at i v) at (names k (handed_back v at (i + 1)) (i + 1)))
-      ∙ ap (λ (j : ℕ). in_force E (handed_back v (transaction_at start s at) (bytes_of s i 0)) (span (call_at s) j k)) (add-one i)
+      ∙ ap (λ (j : ℕ). in_force E (handed_back v (transaction_at start s at) (field_bytes s i 0)) (span (call_at s) j k)) (add-one i)
 
   pub index_names : transaction_at start s (index_after 0 0 all) ≡ in_force E start (calls_of s)
   unfolding transaction_at
@@ -161,7 +161,7 @@ module _ {lock udt start s out₀ : List ℕ} {known : Bool} {n i at accepted : 
   none_left : n ≤ i → rest lock udt start s at i n ≡ []
   none_left l = ap (verdicts (update_for_peer lock udt) (transaction_at start s at)) (span-end (call_at s) i n l)
 
-  pub run_end : n ≤ i → (answered (Ok (record { updates = n; accepted = accepted; at = at })), out) ≡ after_replay (fine (verdicts (update_for_peer lock udt) start (calls_of s))) out₀
+  pub run_end : n ≤ i → (told_replay (Ok (record { updates = n; accepted = accepted; at = at })), out) ≡ after_replay (fine (verdicts (update_for_peer lock udt) start (calls_of s))) out₀
   unfolding after_replay all_words index_after accepted_of
   run_end l =
       let z = none_left l in

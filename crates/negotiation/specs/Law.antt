@@ -11,7 +11,7 @@ use Rattle.rules.specs.Lawful.{Lawful, two_figures}
 use Rattle.negotiation.specs.Updates.{Updates, calls_of, transaction_at}
 use Rattle.words.specs.Words.{four_of}
 use Rattle.negotiation.specs.Words.{all_words}
-use Rattle.negotiation.specs.Replay.{Replayed, accepted_of, replay_of, after_replay, answered}
+use Rattle.negotiation.specs.Replay.{Replayed, accepted_of, replay_of, after_replay, told_replay}
 
 -- the answer that five words tell: where the first is 0 an acceptance, with its two surpluses in halves
 abbrev pub answer_in : List ℕ → Outcome Figures
@@ -28,7 +28,7 @@ answers_in (suc n) ws = answer_in ws ∷ answers_in n (drop 5 ws)
 module _ (lock udt start updates before : List ℕ) where
   -- A call of `replay`: what its contract (src/lib.rt) says of its arguments and result, word for word; `before` and `after` is what the lent words are before the call and after it.
   abbrev pub Called : Replayed → List ℕ → Type 0
-  Called r after = (answered r, after) ≡ after_replay (replay_of lock udt start updates (length before)) before
+  Called r after = (told_replay r, after) ≡ after_replay (replay_of lock udt start updates (length before)) before
 
   -- what holds of a call that is done, with these three numbers
   pub record LawfulReplay (n accepted at : ℕ) (after : List ℕ) : Type 0 where

@@ -5,7 +5,7 @@ use Rattle.molecule.specs.Molecule.{readable}
 use Rattle.molecule.specs.Layout.{item_count}
 use Rattle.error.specs.Outcome.{Outcome, fine, refused, check, ◌>>◌, told_by}
 use Rattle.units.specs.Units.{Figures}
-use Rattle.rules.specs.Run.{handed_back, carried, sum, verdicts, update_for_peer}
+use Rattle.rules.specs.Run.{handed_back, carried, sum_of, verdicts, update_for_peer}
 use Rattle.error.specs.declared.Refusal.{Refusal}
 use Rattle.negotiation.specs.declared.Summary as replay
 use Rattle.negotiation.specs.Updates.{Updates, calls_of}
@@ -18,7 +18,7 @@ pub record Summary : Type 0 where
   pub at : ℕ
 
 unfoldable pub accepted_of : List (Outcome Figures) → ℕ
-accepted_of vs = sum (carried (λ f. 1) vs)
+accepted_of vs = sum_of (carried (λ f. 1) vs)
 
 -- the index after these verdicts, of which the first is of update i, where it was `at` before them
 unfoldable pub index_after : ℕ → ℕ → List (Outcome Figures) → ℕ
@@ -37,7 +37,7 @@ replay_of lock udt start updates room = do
   check 13 (leb (5 * item_count updates) room)
   fine (verdicts (update_for_peer lock udt) start (calls_of updates))
 
--- what is answered, and the buffer: it begins with the words of the answers, and what is beyond keeps its value; after a refusal all is as it was
+-- what is told_replay, and the buffer: it begins with the words of the answers, and what is beyond keeps its value; after a refusal all is as it was
 unfoldable pub after_replay : Outcome (List (Outcome Figures)) → List ℕ → Outcome Summary × List ℕ
 after_replay (fine vs) out = (fine (summary_of vs), all_words vs ++ drop (length (all_words vs)) out)
 after_replay (refused n l) out = (refused n l, out)
@@ -47,5 +47,5 @@ abbrev pub Replayed : Type 0
 Replayed = Result replay.Summary Refusal
 
 -- the figures of an answer in numbers
-abbrev pub answered : Replayed → Outcome Summary
-answered = told_by (λ r. record { updates = r.updates; accepted = r.accepted; at = r.at })
+abbrev pub told_replay : Replayed → Outcome Summary
+told_replay = told_by (λ r. record { updates = r.updates; accepted = r.accepted; at = r.at })

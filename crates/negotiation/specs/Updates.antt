@@ -15,8 +15,8 @@ abbrev pub Updates : Ty
 Updates = dynvec Update
 
 -- the bytes of field j of update i, and where they start
-unfoldable pub bytes_of : List ℕ → ℕ → ℕ → List ℕ
-bytes_of s i j = content (field_of (item_of s i) 4 j)
+unfoldable pub field_bytes : List ℕ → ℕ → ℕ → List ℕ
+field_bytes s i j = content (field_of (item_of s i) 4 j)
 
 unfoldable pub bytes_start : List ℕ → ℕ → ℕ → ℕ
 bytes_start s i j = item_start s i + (field_start (item_of s i) 4 j + content_start (field_of (item_of s i) 4 j))
@@ -25,7 +25,7 @@ unfoldable pub rate_of : List ℕ → ℕ → ℕ
 rate_of s i = u64_at (field_of (item_of s i) 4 3) 0
 
 abbrev pub call_at : List ℕ → ℕ → Call
-call_at s i = record { peer = bytes_of s i 0; records = bytes_of s i 1; source = bytes_of s i 2; rate = rate_of s i }
+call_at s i = record { peer = field_bytes s i 0; records = field_bytes s i 1; source = field_bytes s i 2; rate = rate_of s i }
 
 abbrev pub calls_of : List ℕ → List Call
 calls_of s = span (call_at s) 0 (item_count s)
@@ -33,9 +33,9 @@ calls_of s = span (call_at s) 0 (item_count s)
 -- a transaction by its index: 0 is the one at the start, k + 1 that of update k
 unfoldable pub transaction_at : List ℕ → List ℕ → ℕ → List ℕ
 transaction_at start s zero = start
-transaction_at start s (suc k) = bytes_of s k 0
+transaction_at start s (suc k) = field_bytes s k 0
 
 -- where it stands, from where the start and the updates stand
-unfoldable pub place_at : ℕ × ℕ → ℕ × ℕ → List ℕ → ℕ → ℕ × ℕ
-place_at start updates s zero = start
-place_at start updates s (suc k) = inside updates (bytes_start s k 0)
+unfoldable pub transaction_place : ℕ × ℕ → ℕ × ℕ → List ℕ → ℕ → ℕ × ℕ
+transaction_place start updates s zero = start
+transaction_place start updates s (suc k) = inside updates (bytes_start s k 0)

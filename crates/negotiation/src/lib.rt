@@ -10,9 +10,9 @@ ghost use Rattle.rules.specs.Judge.{judge};
 ghost use Rattle.error.specs.Outcome.{fine};
 ghost use Rattle.rules.specs.Told.{told, in_force_of};
 ghost use Rattle.rules.specs.Run.{verdicts, update_for_peer};
-ghost use Rattle.negotiation.specs.Updates.{Updates, bytes_of, bytes_start, rate_of, call_at, calls_of, transaction_at, place_at};
+ghost use Rattle.negotiation.specs.Updates.{Updates, field_bytes, bytes_start, rate_of, call_at, calls_of, transaction_at, transaction_place};
 ghost use Rattle.negotiation.specs.Words.{words};
-ghost use Rattle.negotiation.specs.Replay.{replay_of, after_replay, answered};
+ghost use Rattle.negotiation.specs.Replay.{replay_of, after_replay, told_replay};
 
 use arithmetic::little_endian;
 use error::Refusal;
@@ -43,7 +43,7 @@ pub fn is_updates(s: &[u8]) -> bool
 // The bytes of field j of update i. It takes the list alone, as `transaction_at` does, which asks its callers for no lock and type: those go with it into the
 // `Negotiation`.
 fn bytes(updates: &[u8], i: usize, j: usize) -> &[u8]
-    ensures result_value { result.now ≡ bytes_of updates.now i j }
+    ensures result_value { result.now ≡ field_bytes updates.now i j }
     ensures ref_ptr_value { result.ref_ptr ≡ inside updates.entry.ref_ptr (bytes_start updates.now i j) }
 {
     let update = molecule::item(updates, i);
@@ -63,7 +63,7 @@ fn rate(updates: &[u8], i: usize) -> u64
 // The transaction with this index, where it was lent: 0 is the one at the start, k + 1 that of update k.
 pub fn transaction_at<'a>(start: &'a [u8], updates: &'a [u8], at: usize) -> &'a [u8]
     ensures result_value { result.now ≡ transaction_at start.now updates.now at }
-    ensures ref_ptr_value { result.ref_ptr ≡ place_at start.entry.ref_ptr updates.entry.ref_ptr updates.now at }
+    ensures ref_ptr_value { result.ref_ptr ≡ transaction_place start.entry.ref_ptr updates.entry.ref_ptr updates.now at }
 {
     if at == 0 {
         return start;
@@ -136,7 +136,7 @@ impl Negotiation<'_> {
     // none is accepted.
     fn judge_all(self, answers: &mut [u64]) -> Summary
         requires { 5 * item_count self.updates.now ≤ length answers.old }
-        ensures { (answered (Ok result), answers.new) ≡ after_replay (fine (verdicts (update_for_peer self.entry.lock.now self.entry.udt.now) self.entry.start.now (calls_of self.entry.updates.now))) answers.old }
+        ensures { (told_replay (Ok result), answers.new) ≡ after_replay (fine (verdicts (update_for_peer self.entry.lock.now self.entry.udt.now) self.entry.start.now (calls_of self.entry.updates.now))) answers.old }
     {
         let n = molecule::item_count(self.updates) as usize;
         let known = transaction::is_optional_transaction(self.start);
@@ -159,7 +159,7 @@ impl Negotiation<'_> {
     // `answers` from 5 k on are its number (0: accepted) and its values, or the halves of its surpluses. Refused, before any update is judged: 3 where
     // `updates` is no list of updates, 13 where `answers` has fewer than five words for each.
     pub fn replay(self, answers: &mut [u64]) -> Replayed
-        ensures { (answered result, answers.new) ≡ after_replay (replay_of self.entry.lock.now self.entry.udt.now self.entry.start.now self.entry.updates.now (length answers.old)) answers.old }
+        ensures { (told_replay result, answers.new) ≡ after_replay (replay_of self.entry.lock.now self.entry.udt.now self.entry.start.now self.entry.updates.now (length answers.old)) answers.old }
     {
         if !is_updates(self.updates) {
             return Err(Refusal::LentBytesUnreadable);

@@ -17,7 +17,7 @@ use Rattle.molecule.proofs.Offsets.{span-length}
 use Rattle.lists.specs.Lists.{eq_bytes}
 use Rattle.transaction.specs.Ckb.{Records}
 use Rattle.transaction.specs.Tx.{Tx, tx_at, raw_field, lock_of, first_of}
-use Rattle.rules.specs.Cells.{Cell, record_cell, record_at, Lent, lent_at}
+use Rattle.rules.specs.Cells.{Cell, record_cell, record_at, LentRecords, lent_at}
 use Rattle.rules.specs.Judge.{has_lock, live, live_cells, spent}
 use Rattle.error.specs.declared.Refusal.{Refusal}
 use Rattle.error.specs.Refusal.{number, values}
@@ -52,7 +52,7 @@ unfolding ◌>>◌ ◌>>=◌
 and_then (fine u) a f = refl
 and_then (refused n l) a f = refl
 
-spent-is : (source : List ℕ) (ours peer : Tx) (lent : Lent) → verdict (spent source ours peer lent)
+spent-is : (source : List ℕ) (ours peer : Tx) (lent : LentRecords) → verdict (spent source ours peer lent)
     ≡ (check 3 lent.readable >> (check 3 (eqb (length lent.records) (length peer.inputs - length ours.inputs))
     >> (verdict (live source (length ours.inputs) lent.records) >> fine (live_cells lent.records))))
 unfolding spent check

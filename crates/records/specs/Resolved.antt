@@ -3,7 +3,7 @@ use Rattle.std.specs.Prelude.{ℕ, List}
 use Rattle.units.specs.Units.{shannon_count, token_count}
 use Rattle.error.specs.Outcome.{Outcome, fine, ◌>>=◌, told_by}
 use Rattle.transaction.specs.Tx.{Tx}
-use Rattle.rules.specs.Cells.{Cell, Lent}
+use Rattle.rules.specs.Cells.{Cell, LentRecords}
 use Rattle.rules.specs.Surplus.{total, capacity_of}
 use Rattle.rules.specs.Lines.{verdict}
 use Rattle.rules.specs.Judge.{of_records, tally, spent}
@@ -23,7 +23,7 @@ abbrev pub brought_by : accounts.Brought → Brought
 brought_by b = record { capacity = shannon_count b.capacity; token = told_by token_count b.token }
 
 -- what the cells that the added inputs spend bring in
-unfoldable pub brings : List ℕ → List ℕ → Tx → Tx → Lent → Outcome Brought
+unfoldable pub brings : List ℕ → List ℕ → Tx → Tx → LentRecords → Outcome Brought
 brings source type ours peer lent = do
   cells ← verdict (spent source ours peer lent)
   fine (brought type cells)

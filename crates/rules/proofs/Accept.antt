@@ -19,7 +19,7 @@ use Rattle.molecule.proofs.ReadableLaws.{readable-option}
 use Rattle.lists.specs.Lists.{is_empty}
 use Rattle.transaction.specs.Ckb.{Transaction}
 use Rattle.transaction.specs.Tx.{Tx, tx_at}
-use Rattle.rules.specs.Cells.{Cell, cells, Lent, lent_at}
+use Rattle.rules.specs.Cells.{Cell, cells, LentRecords, lent_at}
 use Rattle.rules.specs.Surplus.{total, first, added, Measure, capacities, capacity_of, amount_of, token_of, is_of, has_amount, expected}
 use Rattle.rules.specs.Lines.{Ruled, line, line_with, answer, verdict, followed, line_holds, first_failing, ◌>>=◌, ◌>>◌}
 use Rattle.rules.specs.Judge.{Call, judge, judge_against, ruling, ruling_against, opening, closing, scripts, limits, comparison, spent, live, live_cells, counted, Names, of_records, of_outputs, tally, settled, growth, token_delta, funding_output_delta, covered, token_account, accounts, contribution}
@@ -233,7 +233,7 @@ peer_read s e = readable-option Transaction s ∙ rw e (by (eqb (length s) 0))
     by true = refl
     by false = refl
 
-examined : (ours peer : Tx) (lent : Lent) (source : List ℕ) (cs : List Cell) → length ours.inputs ≤ length peer.inputs
+examined : (ours peer : Tx) (lent : LentRecords) (source : List ℕ) (cs : List Cell) → length ours.inputs ≤ length peer.inputs
     → verdict (spent source ours peer lent) ≡ fine cs → (live_cells lent.records ≡ cs) × (length peer.inputs ≡ length ours.inputs + length cs)
 unfolding spent
 examined ours peer lent source cs more e =

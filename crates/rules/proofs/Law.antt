@@ -12,7 +12,7 @@ use Rattle.transaction.specs.Tx.{Tx, tx_at}
 use Rattle.rules.specs.Cells.{Cell, cells}
 use Rattle.molecule.specs.Partial.{All}
 use Rattle.rules.specs.Surplus.{total, first, added, Measure, surplus}
-use Rattle.rules.specs.Run.{Entry, handed_back, keep, carried, sum, next, verdicts, in_force, forces, kept_records, spent_by, kept, inputs_of, records_of, steps, NotNegative, Exact, Returned, Ran, call}
+use Rattle.rules.specs.Run.{Entry, handed_back, keep, carried, sum_of, next, verdicts, in_force, forces, kept_records, spent_by, kept, inputs_of, spent_cells, steps, NotNegative, Exact, Returned, Ran, call}
 use Rattle.rules.specs.Run as run
 use Rattle.rules.proofs.Telescope.{Chain, stop, step, Sum, chain_sum, step_records, records-append}
 use Rattle.rules.specs.Step.{Step}
@@ -29,12 +29,12 @@ module _ {C S : Type 0} (E : Entry C S) where
       (step_by : (ours : List ℕ) (c : C) (s : S) → E.judged ours c ≡ fine s
       → Step m (tx_at ours) (tx_at (E.peer_of c)) (E.lent c) (pick s)) where
     abbrev ChainOf : List ℕ → List C → Type 0
-    ChainOf start calls = Chain m (tx_at start) (tx_at (in_force E start calls)) (kept E start calls) (sum (carried pick (verdicts E start calls)))
+    ChainOf start calls = Chain m (tx_at start) (tx_at (in_force E start calls)) (kept E start calls) (sum_of (carried pick (verdicts E start calls)))
 
     turn : (start : List ℕ) (c : C) (cs : List C) (v : Outcome S) → E.judged start c ≡ v → ((b : List ℕ) → ChainOf b cs)
         → Chain m (tx_at start) (tx_at (in_force E (handed_back v start (E.peer_of c)) cs))
         (keep v (spent_by E start c) ++ kept E (handed_back v start (E.peer_of c)) cs)
-        (sum (carried pick (v ∷ verdicts E (handed_back v start (E.peer_of c)) cs)))
+        (sum_of (carried pick (v ∷ verdicts E (handed_back v start (E.peer_of c)) cs)))
     turn start c cs (fine s) e ih = step (step_by start c s e) (ih (E.peer_of c))
     turn start c cs (refused n l) e ih = ih start
 
@@ -57,22 +57,22 @@ module _ {C S : Type 0} (E : Entry C S) where
     all_natural [] = tt
     all_natural (n ∷ ns) = ((n, refl), all_natural ns)
 
-    total-surplus : {a c : Tx} {ss : List run.Spent} {paid : ℕ} → Sum m a c ss paid → pos paid ≡ surplus m a c (records_of ss)
+    total-surplus : {a c : Tx} {ss : List run.Spent} {paid : ℕ} → Sum m a c ss paid → pos paid ≡ surplus m a c (spent_cells ss)
     unfolding surplus
     total-surplus {a} {c} {ss} {paid} s =
-        whole (total m.of (records_of ss)) (first m.at_zero (cells a)) paid (first m.at_zero (cells c)) (total m.of (added a c)) s.balance
+        whole (total m.of (spent_cells ss)) (first m.at_zero (cells a)) paid (first m.at_zero (cells c)) (total m.of (added a c)) s.balance
 
     -- no record of an accepted update is left out
     records_turn : (start : List ℕ) (c : C) (cs : List C) (v : Outcome S) → E.judged start c ≡ v
-        → ((b : List ℕ) → records_of (kept E b cs) ≡ kept_records E b cs)
-        → records_of (keep v (spent_by E start c) ++ kept E (handed_back v start (E.peer_of c)) cs)
+        → ((b : List ℕ) → spent_cells (kept E b cs) ≡ kept_records E b cs)
+        → spent_cells (keep v (spent_by E start c) ++ kept E (handed_back v start (E.peer_of c)) cs)
         ≡ keep v (E.lent c) ++ kept_records E (handed_back v start (E.peer_of c)) cs
     records_turn start c cs (fine s) e ih =
         records-append (spent_by E start c) (kept E (E.peer_of c) cs)
         ∙ ap₂ (λ (a b : List Cell). a ++ b) (step_records (step_by start c s e)) (ih (E.peer_of c))
     records_turn start c cs (refused n l) e ih = ih start
 
-    pub kept-records : (calls : List C) (start : List ℕ) → records_of (kept E start calls) ≡ kept_records E start calls
+    pub kept-records : (calls : List C) (start : List ℕ) → spent_cells (kept E start calls) ≡ kept_records E start calls
     kept-records [] start = refl
     kept-records (c ∷ cs) start = records_turn start c cs (E.judged start c) refl (kept-records cs)
 

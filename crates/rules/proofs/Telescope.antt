@@ -12,7 +12,7 @@ use Rattle.rules.specs.Cells.{Cell, pair, cells}
 use Rattle.molecule.specs.Partial.{All}
 use Rattle.rules.specs.Surplus.{total, first, added, Measure}
 use Rattle.rules.specs.Step.{Prefix, start, more, with_data, Settled, Extends, Step}
-use Rattle.rules.specs.Run.{Spent, spends, inputs_of, records_of}
+use Rattle.rules.specs.Run.{Spent, spends, inputs_of, spent_cells}
 
 -- ---- prefixes
 
@@ -108,7 +108,7 @@ spends-inputs [] cs e = refl
 spends-inputs (i ∷ is) [] e = absurd (omega (arith, e))
 spends-inputs (i ∷ is) (c ∷ cs) e = ap (λ (l : List (List ℕ)). i ∷ l) (spends-inputs is cs (omega (arith, e)))
 
-spends-records : (is : List (List ℕ)) (cs : List Cell) → length is ≡ length cs → records_of (spends is cs) ≡ cs
+spends-records : (is : List (List ℕ)) (cs : List Cell) → length is ≡ length cs → spent_cells (spends is cs) ≡ cs
 spends-records [] [] e = refl
 spends-records [] (c ∷ cs) e = absurd (omega (arith, e))
 spends-records (i ∷ is) [] e = absurd (omega (arith, e))
@@ -118,7 +118,7 @@ inputs-append : (ss ts : List Spent) → inputs_of (ss ++ ts) ≡ inputs_of ss +
 inputs-append [] ts = refl
 inputs-append (s ∷ ss) ts = ap (λ (l : List (List ℕ)). s.input ∷ l) (inputs-append ss ts)
 
-pub records-append : (ss ts : List Spent) → records_of (ss ++ ts) ≡ records_of ss ++ records_of ts
+pub records-append : (ss ts : List Spent) → spent_cells (ss ++ ts) ≡ spent_cells ss ++ spent_cells ts
 records-append [] ts = refl
 records-append (s ∷ ss) ts = ap (λ (l : List Cell). s.cell ∷ l) (records-append ss ts)
 
@@ -136,14 +136,14 @@ pub data Chain (m : Measure) : Tx → Tx → List Spent → ℕ → Type 0 where
 -- What a chain comes to.
 pub record Sum (m : Measure) (a c : Tx) (kept : List Spent) (sum : ℕ) : Type 0 where
   pub extends : Extends a c
-  pub balance : total m.of (records_of kept) + first m.at_zero (cells a) ≡ sum + first m.at_zero (cells c) + total m.of (added a c)
+  pub balance : total m.of (spent_cells kept) + first m.at_zero (cells a) ≡ sum + first m.at_zero (cells c) + total m.of (added a c)
   pub inputs : c.inputs ≡ a.inputs ++ inputs_of kept
 
 module _ {m : Measure} {a b : Tx} {records : List Cell} {paid : ℕ} (s : Step m a b records paid) where
   as_many : length (drop (length a.inputs) b.inputs) ≡ length records
   as_many = omega (arith, length-drop (length a.inputs) b.inputs, s.inputs)
 
-  pub step_records : records_of (spent_in a b records) ≡ records
+  pub step_records : spent_cells (spent_in a b records) ≡ records
   step_records = spends-records (drop (length a.inputs) b.inputs) records as_many
 
   step_inputs : b.inputs ≡ a.inputs ++ inputs_of (spent_in a b records)
@@ -158,9 +158,9 @@ chain_sum {m} (stop {a}) = record {
 }
 chain_sum {m} (step {a} {b} {c} {records} {kept} {paid} {sum} s ch) =
     let r : Sum m b c kept sum = chain_sum ch in
-    let t : total m.of (records_of (spent_in a b records ++ kept)) ≡ total m.of records + total m.of (records_of kept) =
-    ap (total m.of) (records-append (spent_in a b records) kept) ∙ total-append m.of (records_of (spent_in a b records)) (records_of kept)
-    ∙ ap (λ (l : List Cell). total m.of l + total m.of (records_of kept)) (step_records s) in
+    let t : total m.of (spent_cells (spent_in a b records ++ kept)) ≡ total m.of records + total m.of (spent_cells kept) =
+    ap (total m.of) (records-append (spent_in a b records) kept) ∙ total-append m.of (spent_cells (spent_in a b records)) (spent_cells kept)
+    ∙ ap (λ (l : List Cell). total m.of l + total m.of (spent_cells kept)) (step_records s) in
     record {
       extends = extends_trans s.extends r.extends;
       balance = omega (arith, s.account.balance, r.balance, added-split m.of s.extends r.extends s.account.settled, t);

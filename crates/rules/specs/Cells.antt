@@ -29,9 +29,9 @@ unfoldable pub record_at : List ℕ → ℕ → Option Cell
 record_at s i = cond (eqb (length (item_of s i)) 0) none (some (record_cell (item_of s i)))
 
 -- the lent records: whether all can be read, and what is read of them
-pub record Lent : Type 0 where
+pub record LentRecords : Type 0 where
   pub readable : Bool
   pub records : List (Option Cell)
 
-unfoldable pub lent_at : List ℕ → Lent
+unfoldable pub lent_at : List ℕ → LentRecords
 lent_at s = record { readable = readable Records s; records = span (record_at s) 0 (item_count s) }

@@ -7,7 +7,7 @@ use Rattle.molecule.specs.Molecule.{option, readable}
 use Rattle.transaction.specs.Ckb.{Script, Transaction}
 use Rattle.transaction.specs.Tx.{Tx, tx_at, lock_of}
 use Rattle.units.specs.{Fee.fee_shannons, Units.Figures}
-use Rattle.rules.specs.Cells.{Cell, cells, Lent, lent_at}
+use Rattle.rules.specs.Cells.{Cell, cells, LentRecords, lent_at}
 use Rattle.rules.specs.Lines.{Name, Ruled, line, line_with, answer, verdict, ◌>>=◌, ◌>>◌}
 use Rattle.rules.specs.Surplus.{total, first, added, capacity_of, amount_of, is_of, has_amount}
 
@@ -69,9 +69,9 @@ comparison lock type ours peer = do
 
 -- ---- records
 
-abbrev pub is_live : Option Cell → Bool
-is_live none = false
-is_live (some c) = true
+abbrev pub is_there : Option Cell → Bool
+is_there none = false
+is_there (some c) = true
 
 abbrev pub is_ours : List ℕ → Option Cell → Bool
 is_ours source none = false
@@ -81,7 +81,7 @@ is_ours source (some c) = has_lock source c
 unfoldable pub live : List ℕ → ℕ → List (Option Cell) → Ruled (Unit {0})
 live source i [] = answer tt
 live source i (r ∷ rs) = do
-  line 5 "a record not live" (is_live r)
+  line 5 "a record not live" (is_there r)
   line_with 6 (i ∷ []) "a record under our source lock" (not (is_ours source r))
   live source (suc i) rs
 
@@ -91,7 +91,7 @@ live_cells (none ∷ rs) = live_cells rs
 live_cells (some c ∷ rs) = c ∷ live_cells rs
 
 -- the cells that the added inputs spend
-unfoldable pub spent : List ℕ → Tx → Tx → Lent → Ruled (List Cell)
+unfoldable pub spent : List ℕ → Tx → Tx → LentRecords → Ruled (List Cell)
 spent source ours peer lent = do
   line 3 "a record unreadable" lent.readable
   line 3 "not one record per added input" (eqb (length lent.records) (length peer.inputs - length ours.inputs))
@@ -200,7 +200,7 @@ opening lock type source ours bytes = do
   comparison lock type ours (tx_at bytes)
 
 -- the records, and what follows them
-unfoldable pub closing : List ℕ → List ℕ → Tx → Tx → ℕ → ℕ → Lent → Ruled Figures
+unfoldable pub closing : List ℕ → List ℕ → Tx → Tx → ℕ → ℕ → LentRecords → Ruled Figures
 closing type source ours peer rate size lent = do
   records ← spent source ours peer lent
   contribution type ours peer (total capacity_of records) (tally of_records type 0 records) rate size

@@ -9,7 +9,7 @@ use Rattle.units.specs.Units.{Figures}
 use Rattle.rules.specs.Cells.{Cell}
 use Rattle.rules.specs.Surplus.{Measure, capacities, expected}
 use Rattle.rules.specs.Step.{Extends, Balanced}
-use Rattle.rules.specs.Run.{Entry, Exact, verdicts, in_force, forces, next, kept, kept_records, inputs_of, records_of, Returned, Ran}
+use Rattle.rules.specs.Run.{Entry, Exact, verdicts, in_force, forces, next, kept, kept_records, inputs_of, spent_cells, Returned, Ran}
 
 -- A figure that an acceptance carries: what it counts, and where it is found in what is carried.
 pub record Figure (S : Type 0) : Type 0 where
@@ -35,7 +35,7 @@ module _ {C S : Type 0} (E : Entry C S) (figures : List (Figure S)) where
     pub exact : All (λ f. Exact E f.measure f.pick start calls answers end) figures
     -- the inputs at the end are those at the start and then, one for each of these records, the input that it was lent for
     pub inputs : (tx_at end).inputs ≡ (tx_at start).inputs ++ inputs_of (kept E start calls)
-    pub records : records_of (kept E start calls) ≡ kept_records E start calls
+    pub records : spent_cells (kept E start calls) ≡ kept_records E start calls
     -- from a readable transaction, or none, what each call hands back is readable, or none
     pub readable_on : readable (option Transaction) start ≡ true → All (λ b. readable (option Transaction) b ≡ true) handed
     -- from an unreadable one every call is refused with 1, and it stays in force

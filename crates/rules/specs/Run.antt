@@ -30,9 +30,9 @@ carried pick [] = []
 carried pick (fine s ∷ vs) = pick s ∷ carried pick vs
 carried pick (refused n l ∷ vs) = carried pick vs
 
-abbrev pub sum : List ℕ → ℕ
-sum [] = 0
-sum (n ∷ ns) = n + sum ns
+abbrev pub sum_of : List ℕ → ℕ
+sum_of [] = 0
+sum_of (n ∷ ns) = n + sum_of ns
 
 -- 0 or more
 abbrev pub NotNegative : ℤ → Type 0
@@ -53,9 +53,9 @@ abbrev pub inputs_of : List Spent → List (List ℕ)
 inputs_of [] = []
 inputs_of (s ∷ ss) = s.input ∷ inputs_of ss
 
-abbrev pub records_of : List Spent → List Cell
-records_of [] = []
-records_of (s ∷ ss) = s.cell ∷ records_of ss
+abbrev pub spent_cells : List Spent → List Cell
+spent_cells [] = []
+spent_cells (s ∷ ss) = s.cell ∷ spent_cells ss
 
 module _ {C S : Type 0} (E : Entry C S) where
   abbrev pub next : List ℕ → C → List ℕ
@@ -101,7 +101,7 @@ module _ {C S : Type 0} (E : Entry C S) where
     -- none of which is negative
     pub natural : All NotNegative (steps m start calls)
     -- and they sum to the surplus of the transaction then in force against the one at the start, over the records kept, in order
-    pub sums : pos (sum (carried pick answers)) ≡ surplus m (tx_at start) (tx_at end) (kept_records start calls)
+    pub sums : pos (sum_of (carried pick answers)) ≡ surplus m (tx_at start) (tx_at end) (kept_records start calls)
 
 -- what a call of a program returns: its answer, and the bytes that it hands back
 pub record Returned (U : Type 0) : Type 0 where
