@@ -59,7 +59,9 @@ fn this_crate() {
 fn what_tools_write() {
     for tool in ["tools/refusals.py", "tools/crates.py"] {
         match Command::new("python3").arg(root().join(tool)).arg("--check").output() {
-            Ok(ran) => assert!(ran.status.success(), "{tool}: {}{}", String::from_utf8_lossy(&ran.stdout), String::from_utf8_lossy(&ran.stderr)),
+            Ok(ran) => {
+                assert!(ran.status.success(), "{tool}: {}{}", String::from_utf8_lossy(&ran.stdout), String::from_utf8_lossy(&ran.stderr))
+            }
             Err(why) => println!("python3 can't be run: {why}"),
         }
     }
