@@ -1,18 +1,12 @@
--- What the calls on lent tables have at hand.
-use mathlib.Core.Path.{◌≡◌, ap, ◌∙◌}
+-- What the calls on lent tables have at hand: what is said of the number of an answer holds of the number that crosses.
+use mathlib.Core.Path.{◌≡◌}
 use Prim.Native.Nat.{ℕ}
 use mathlib.Core.Bool.{Bool, true, false, cond}
 use mathlib.Core.List.{List}
-use Rattle.std.proofs.Common.{Result}
-use Rattle.error.specs.declared.{Refusal.Refusal}
-use Rattle.error.specs.Refusal.{answered}
 use Rattle.units.specs.declared.{Millis.Millis}
-use Rattle.out_points.specs.Tables.{told}
 use Rattle.hold_records.specs.declared.{Taker.Taker}
-use Rattle.hold_records.specs.Holds.{take_cells}
-use Rattle.table_bytes.specs.Lent.{lent_with_two, with_bytes, told_number}
-use Rattle.table_bytes.proofs.LentLaws.{number-two}
-use Rattle.held_bytes.specs.HeldBytes.{held_size, held_of, held_at, held_bytes}
+use Rattle.held_bytes.specs.HeldBytes.{held_table}
+use Rattle.held_bytes.specs.Calls.{LocksHeld, TakesCells}
 
 module _ {watchtower : Bool} (holder : ℕ) where
   pub by_tower : watchtower ≡ true → Taker.Watchtower ≡ cond watchtower Taker.Watchtower (Taker.Funding holder)
@@ -21,8 +15,16 @@ module _ {watchtower : Bool} (holder : ℕ) where
   pub by_funding : watchtower ≡ false → Taker.Funding holder ≡ cond watchtower Taker.Watchtower (Taker.Funding holder)
   by_funding e = rw e
 
-pub taken_by : (s picked spent : List ℕ) (t : Taker) (time : Millis) (out₁ out₂ : List ℕ) (a : Result (Unit {0}) Refusal) (o : List ℕ) {taker : Taker} {n : ℕ} {b₁ b₂ : List ℕ} → taker ≡ t → n ≡ answered a
-    → (told (with_bytes held_at) a o, b₁, b₂) ≡ lent_with_two held_bytes held_size s out₁ out₂ (take_cells (held_of s) picked spent taker time out₁ out₂)
-    → (told_number (with_bytes held_at) n o, b₁, b₂) ≡ lent_with_two held_bytes held_size s out₁ out₂ (take_cells (held_of s) picked spent t time out₁ out₂)
-taken_by s picked spent t time out₁ out₂ a o et en h =
-    number-two (with_bytes held_at) o a en h ∙ ap (λ (k : Taker). lent_with_two held_bytes held_size s out₁ out₂ (take_cells (held_of s) picked spent k time out₁ out₂)) et
+module _ {n m : ℕ} (e : n ≡ m) where
+  pub number_table : {A B : Type 0} {x : A} {y : B} {o : ℕ × A × B} → (m, x, y) ≡ o → (n, x, y) ≡ o
+  number_table h = rw e h
+
+  pub number_list : {A : Type 0} {x : A} {o : ℕ × A} → (m, x) ≡ o → (n, x) ≡ o
+  number_list h = rw e h
+
+  pub number_lock : (s t : List ℕ) (time : Millis) (out after : List ℕ) → LocksHeld held_table s m t time out after → LocksHeld held_table s n t time out after
+  number_lock s t time out after h = rw e h
+
+  pub number_take : (s t picked spent : List ℕ) (taker k : Taker) (time : Millis) (out₁ out₂ after₁ after₂ : List ℕ) → taker ≡ k
+      → TakesCells held_table s m t picked spent taker time out₁ out₂ after₁ after₂ → TakesCells held_table s n t picked spent k time out₁ out₂ after₁ after₂
+  number_take s t picked spent taker k time out₁ out₂ after₁ after₂ f h = rw (e, ← f) h

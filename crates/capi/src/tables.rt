@@ -2,14 +2,11 @@
 // exclusion_marks.
 #![tactic(auto, using(crate::proofs::TableWays::ways))]
 
-ghost use Rattle.std.specs.Prelude.{◌≡◌, cond};
-ghost use Rattle.hold_records.specs.declared.{Taker.Taker};
-ghost use Rattle.hold_records.specs.Holds.{hold_funding, release_for_watchtower, hold_for_watchtower, lock_held, unavailable, take_cells};
-ghost use Rattle.exclusion_entries.specs.Exclusions.{commit_on, remove_on, truncate_on, apply_on, add_on, migrate_on};
-ghost use Rattle.table_bytes.specs.Lent.{lent_table, lent_with, lent_with_two, lent_read, with_bytes, told_number};
-ghost use Rattle.held_bytes.specs.HeldBytes.{held_size, held_of, held_at, held_bytes};
-ghost use Rattle.exclusion_entries.specs.Entries.{excluded_at};
-ghost use Rattle.exclusion_entries.specs.LentMap.{lent_map, lent_tx, lent_list};
+ghost use Rattle.std.specs.Prelude.{◌≡◌};
+ghost use Rattle.held_bytes.specs.HeldBytes.{held_table};
+ghost use Rattle.held_bytes.specs.Calls.{HoldsFunding, HoldsForWatchtower, ReleasesForWatchtower, LocksHeld, NamesUnavailable};
+ghost use Rattle.exclusion_entries.specs.Calls.{Adds, Commits, Removes, Truncates, Migrates, Applies};
+ghost use Rattle.capi.specs.Takes.{taker_for, TakesFor};
 
 use hold_records::Taker;
 use units::{BlockNumber, Millis};
@@ -19,7 +16,7 @@ use units::{BlockNumber, Millis};
 // The funding inputs that `holder` holds now, in place of the ones that it held before.
 #[unsafe(no_mangle)]
 pub extern "C" fn basinpantry_hold_funding(held: &mut [u8], holder: u64, cells: &[u8]) -> u32
-    ensures { told_number (with_bytes held_at) result held.new ≡ lent_table held_bytes held_size held.old (hold_funding (held_of held.old) holder cells.now) }
+    ensures { HoldsFunding held_table held.old result held.new holder cells.now }
 {
     let a = held_bytes::calls::hold_funding(held, holder, cells);
     u32::from(error::number(a))
@@ -28,7 +25,7 @@ pub extern "C" fn basinpantry_hold_funding(held: &mut [u8], holder: u64, cells: 
 // The cells of a transaction that the watchtower sent at `time`.
 #[unsafe(no_mangle)]
 pub extern "C" fn basinpantry_hold_for_watchtower(held: &mut [u8], cells: &[u8], time: u64) -> u32
-    ensures { told_number (with_bytes held_at) result held.new ≡ lent_table held_bytes held_size held.old (hold_for_watchtower (held_of held.old) cells.now (record { 0 = time })) }
+    ensures { HoldsForWatchtower held_table held.old result held.new cells.now (record { 0 = time }) }
 {
     let now = Millis(time);
     let a = held_bytes::calls::hold_for_watchtower(held, cells, now);
@@ -38,7 +35,7 @@ pub extern "C" fn basinpantry_hold_for_watchtower(held: &mut [u8], cells: &[u8],
 // The cells of a transaction that the watchtower could not send are free again.
 #[unsafe(no_mangle)]
 pub extern "C" fn basinpantry_release_for_watchtower(held: &mut [u8], cells: &[u8]) -> u32
-    ensures { told_number (with_bytes held_at) result held.new ≡ lent_table held_bytes held_size held.old (release_for_watchtower (held_of held.old) cells.now) }
+    ensures { ReleasesForWatchtower held_table held.old result held.new cells.now }
 {
     let a = held_bytes::calls::release_for_watchtower(held, cells);
     u32::from(error::number(a))
@@ -47,7 +44,7 @@ pub extern "C" fn basinpantry_release_for_watchtower(held: &mut [u8], cells: &[u
 // Writes the out points of every cell that is held at `time`.
 #[unsafe(no_mangle)]
 pub extern "C" fn basinpantry_lock_held(held: &mut [u8], time: u64, out: &mut [u8]) -> u32
-    ensures { (told_number (with_bytes held_at) result held.new, out.new) ≡ lent_with held_bytes held_size held.old out.old (lock_held (held_of held.old) (record { 0 = time }) out.old) }
+    ensures { LocksHeld held_table held.old result held.new (record { 0 = time }) out.old out.new }
 {
     let now = Millis(time);
     let a = held_bytes::calls::lock_held(held, now, out);
@@ -63,7 +60,7 @@ pub extern "C" fn basinpantry_unavailable(
     time: u64,
     out: &mut [u8],
 ) -> u32
-    ensures { (result, out.new) ≡ lent_read held_size held.now out.old (unavailable (held_of held.now) picked.now spent.now (record { 0 = time }) out.old) }
+    ensures { NamesUnavailable held_table held.now result picked.now spent.now (record { 0 = time }) out.old out.new }
 {
     let now = Millis(time);
     let a = held_bytes::calls::unavailable(held, picked, spent, now, out);
@@ -72,7 +69,7 @@ pub extern "C" fn basinpantry_unavailable(
 
 // Who takes cells: the watchtower, or the funding of `holder`.
 fn taker_for(watchtower: bool, holder: u64) -> Taker
-    ensures { result ≡ cond watchtower Taker.Watchtower (Taker.Funding holder) }
+    ensures { result ≡ taker_for watchtower holder }
 {
     if watchtower {
         return Taker::Watchtower;
@@ -92,7 +89,7 @@ pub extern "C" fn basinpantry_take(
     taken: &mut [u8],
     refused: &mut [u8],
 ) -> u32
-    ensures { (told_number (with_bytes held_at) result held.new, taken.new, refused.new) ≡ lent_with_two held_bytes held_size held.old taken.old refused.old (take_cells (held_of held.old) picked.now spent.now (cond watchtower Taker.Watchtower (Taker.Funding holder)) (record { 0 = time }) taken.old refused.old) }
+    ensures { TakesFor held.old result held.new picked.now spent.now watchtower holder time taken.old refused.old taken.new refused.new }
 {
     let now = Millis(time);
     let taker = taker_for(watchtower, holder);
@@ -105,7 +102,7 @@ pub extern "C" fn basinpantry_take(
 // Enters the inputs of a transaction under its hash.
 #[unsafe(no_mangle)]
 pub extern "C" fn basinpantry_exclusions_add(map: &mut [u8], hash: &[u8], tx: &[u8]) -> u32
-    ensures { told_number (with_bytes excluded_at) result map.new ≡ lent_tx tx.now map.old (add_on (excluded_at map.old) hash.now tx.now) }
+    ensures { Adds map.old result map.new hash.now tx.now }
 {
     let a = exclusions::add(map, hash, tx);
     u32::from(error::number(a))
@@ -114,7 +111,7 @@ pub extern "C" fn basinpantry_exclusions_add(map: &mut [u8], hash: &[u8], tx: &[
 // The transaction of this hash was committed in this block.
 #[unsafe(no_mangle)]
 pub extern "C" fn basinpantry_exclusions_commit(map: &mut [u8], hash: &[u8], block: u64) -> u32
-    ensures { told_number (with_bytes excluded_at) result map.new ≡ lent_map map.old (commit_on (excluded_at map.old) hash.now (record { 0 = block })) }
+    ensures { Commits map.old result map.new hash.now (record { 0 = block }) }
 {
     let number = BlockNumber(block);
     let a = exclusion_marks::commit(map, hash, number);
@@ -124,7 +121,7 @@ pub extern "C" fn basinpantry_exclusions_commit(map: &mut [u8], hash: &[u8], blo
 // Removes the transaction of this hash.
 #[unsafe(no_mangle)]
 pub extern "C" fn basinpantry_exclusions_remove(map: &mut [u8], hash: &[u8]) -> u32
-    ensures { told_number (with_bytes excluded_at) result map.new ≡ lent_map map.old (remove_on (excluded_at map.old) hash.now) }
+    ensures { Removes map.old result map.new hash.now }
 {
     let a = exclusions::remove(map, hash);
     u32::from(error::number(a))
@@ -138,7 +135,7 @@ pub extern "C" fn basinpantry_exclusions_migrate_funding_tx(
     new_hash: &[u8],
     tx: &[u8],
 ) -> u32
-    ensures { told_number (with_bytes excluded_at) result map.new ≡ lent_tx tx.now map.old (migrate_on (excluded_at map.old) old_hash.now new_hash.now tx.now) }
+    ensures { Migrates map.old result map.new old_hash.now new_hash.now tx.now }
 {
     let a = exclusions::migrate_funding_tx(map, old_hash, new_hash, tx);
     u32::from(error::number(a))
@@ -147,7 +144,7 @@ pub extern "C" fn basinpantry_exclusions_migrate_funding_tx(
 // Drops what was committed 13 blocks before the tip, or earlier.
 #[unsafe(no_mangle)]
 pub extern "C" fn basinpantry_exclusions_truncate(map: &mut [u8], tip: u64) -> u32
-    ensures { told_number (with_bytes excluded_at) result map.new ≡ lent_map map.old (truncate_on (excluded_at map.old) (record { 0 = tip })) }
+    ensures { Truncates map.old result map.new (record { 0 = tip }) }
 {
     let number = BlockNumber(tip);
     let a = exclusions::truncate(map, number);
@@ -157,7 +154,7 @@ pub extern "C" fn basinpantry_exclusions_truncate(map: &mut [u8], tip: u64) -> u
 // Writes the out points of all entries, in their order, as a list.
 #[unsafe(no_mangle)]
 pub extern "C" fn basinpantry_exclusions_apply(map: &[u8], out: &mut [u8]) -> u32
-    ensures { (result, out.new) ≡ lent_list map.now out.old (apply_on (excluded_at map.now) out.old) }
+    ensures { Applies map.now result out.old out.new }
 {
     let a = exclusion_marks::apply(map, out);
     u32::from(error::number(a))

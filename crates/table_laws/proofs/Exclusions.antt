@@ -17,13 +17,16 @@ use Rattle.out_points.specs.OutPoints.{Fit, byte32_at, eq_point, has, points}
 use Rattle.error.specs.declared.{Refusal.Refusal}
 use Rattle.error.specs.Refusal.{number, answered}
 use Rattle.std.specs.List.{filter}
-use Rattle.out_points.specs.Tables.{renew, done, refused, told, has_room, with_list}
+use Rattle.error.specs.Outcome.{Outcome, fine, refused, check, check_with, number_of, leaves, ◌>>◌}
+use Rattle.out_points.specs.Tables.{renew, has_room, with_list, writes}
 use Rattle.out_points.proofs.AgainLaws.{written_back}
-use Rattle.table_bytes.specs.Lent.{After, leaving, with_bytes}
-use Rattle.exclusion_entries.specs.Exclusions.{MapEntry, Ruling, has_hash, committed_at, commit_on, without, remove_on, is_recent, truncated, truncate_on, excluded, apply_on, pending, fitting, entering, add_on, entered, migrate_on}
+use Rattle.molecule.specs.Write.{put_at}
+use Rattle.table_bytes.specs.Lent.{on_table, Leaves}
+use Rattle.exclusion_entries.specs.Exclusions.{MapEntry, has_hash, committed_at, commit_on, without, remove_on, is_recent, truncated, truncate_on, excluded, apply_on, pending, fitting, entering, add_on, entered, migrate_on}
 use Rattle.exclusion_entries.specs.Entries.{map_bytes, FitEntry, excluded_at, is_map}
 use Rattle.exclusion_entries.proofs.MapLaws.{map-few, map-count, map-points, map-fits, put_is, zeros_are}
-use Rattle.exclusion_entries.specs.LentMap.{lent_map, lent_tx, left, lent_list}
+use Rattle.exclusion_entries.specs.Calls.{map_table, with_tx, Applies}
+use Rattle.table_laws.proofs.Outcomes.{Fine, checked, refused-fine, tabled, done-is, table-left, moved, left-done, left-refused}
 use Rattle.table_laws.specs.Exclusions as run
 use Rattle.table_laws.specs.Exclusions.{Called, answer_of, StaysMap, StaysWithin, ZerosWithin, RefusedSame, OthersSame, Stands, here, there, replaces, ends, is_done, outlives, StaysEntered, StaysExcluded, AddEnters, MigrateEnters, CommitMarks}
 use Rattle.std.specs.Prelude.{Ok, Err}
@@ -31,13 +34,13 @@ use Rattle.table_laws.specs.Answers.{Answer}
 
 -- ---- what a call's contract says of the bytes that it leaves, and of their entries
 
--- the rule of the call, on the entries of s
-abbrev pub outcome_of : {s t : List ℕ} → Called s t → Ruling
-outcome_of {s} (run.add r hash tx e) = add_on (excluded_at s) hash tx
-outcome_of {s} (run.commit r hash block e) = commit_on (excluded_at s) hash block
-outcome_of {s} (run.remove r hash e) = remove_on (excluded_at s) hash
-outcome_of {s} (run.truncate r tip e) = truncate_on (excluded_at s) tip
-outcome_of {s} (run.migrate r old new tx e) = migrate_on (excluded_at s) old new tx
+-- the outcome of the call, on the entries of s, and on the bytes
+abbrev pub on_entries : {s t : List ℕ} → Called s t → Outcome (List MapEntry)
+on_entries {s} (run.add r hash tx e) = add_on (excluded_at s) hash tx
+on_entries {s} (run.commit r hash block e) = commit_on (excluded_at s) hash block
+on_entries {s} (run.remove r hash e) = remove_on (excluded_at s) hash
+on_entries {s} (run.truncate r tip e) = truncate_on (excluded_at s) tip
+on_entries {s} (run.migrate r old new tx e) = migrate_on (excluded_at s) old new tx
 
 -- the transaction that it was lent, if any, can be read
 abbrev reads : {s t : List ℕ} → Called s t → Bool
@@ -47,83 +50,55 @@ reads (run.remove r hash e) = true
 reads (run.truncate r tip e) = true
 reads (run.migrate r old new tx e) = readable (option Transaction) tx
 
-abbrev ruled : Bool → List ℕ → Ruling → After (List MapEntry)
-ruled b s o = cond b (lent_map s o) (refused 1 s)
+abbrev outcome_of : {s t : List ℕ} → Called s t → Outcome (List MapEntry)
+outcome_of {s} c = check 1 (reads c) >> on_table map_table s (on_entries c)
 
-says : {s t : List ℕ} (c : Called s t) → told (with_bytes excluded_at) (answer_of c) t ≡ ruled (reads c) s (outcome_of c)
-unfolding answer_of lent_tx
+says : {s t : List ℕ} (c : Called s t) → Leaves map_table s (answered (answer_of c)) t (outcome_of c)
+unfolding answer_of with_tx check check_with ◌>>◌
 says (run.add r hash tx e) = e
 says (run.commit r hash block e) = e
 says (run.remove r hash e) = e
 says (run.truncate r tip e) = e
 says (run.migrate r old new tx e) = e
 
--- the entries after it; the bytes after a refusal, and s after a call that is done
-abbrev meant : After (List MapEntry) → List MapEntry
-meant (done p) = p.0
-meant (refused n x) = excluded_at x
-
-abbrev left_or : List ℕ → After (List MapEntry) → List ℕ
-left_or s (done p) = s
-left_or s (refused n x) = x
-
 module _ {s t : List ℕ} (c : Called s t) where
-  bytes_left : t ≡ left (ruled (reads c) s (outcome_of c))
-  unfolding told with_bytes
-  bytes_left = by (answer_of c) ∙ ap left (says c)
-    where
-      by : (a : Answer) → t ≡ left (told (with_bytes excluded_at) a t)
-      by (Ok u) = refl
-      by (Err why) = refl
-
-  entries-left : excluded_at t ≡ meant (ruled (reads c) s (outcome_of c))
-  unfolding told with_bytes
-  entries-left = by (answer_of c) ∙ ap meant (says c)
-    where
-      by : (a : Answer) → excluded_at t ≡ meant (told (with_bytes excluded_at) a t)
-      by (Ok u) = refl
-      by (Err why) = refl
-
+  -- bytes that are no map stay
   other_left : is_map s ≡ false → t ≡ s
-  unfolding lent_map
-  other_left g = bytes_left ∙ rw g (by (reads c))
+  unfolding on_table check check_with ◌>>◌
+  other_left g = table-left map_table s (outcome_of c) (says c) ∙ rw g (by (reads c))
     where
-      by : (b : Bool) → left (cond b (refused 3 s) (refused 1 s)) ≡ s
+      by : (b : Bool) → leaves (check 1 b >> refused 3 []) (λ l. put_at s 0 (map_bytes l)) s ≡ s
       by true = refl
       by false = refl
 
   refused-left : (why : Refusal) → answer_of c ≡ Err why → t ≡ s
-  unfolding told lent_map leaving
-  refused-left why g = ap (left_or s) (sym (ap (λ (a : Answer). told (with_bytes excluded_at) a t) g) ∙ says c) ∙ by (reads c) (is_map s) (outcome_of c)
+  unfolding answered
+  refused-left why g = left-refused map_table s (outcome_of c) (says c) why (ap (λ (a : Answer). answered a) g)
+
+-- ---- for any property of the entries: a call that is done leaves it
+
+module _ (P : List MapEntry → Type 0) {s t : List ℕ} (c : Called s t) where
+  -- of bytes that are no map nothing is asked
+  outcome-fine : (is_map s ≡ true → Fine P (on_entries c)) → Fine P (outcome_of c)
+  unfolding on_table
+  outcome-fine f = checked P 1 (reads c) (on_table map_table s (on_entries c)) (λ e. omega (arith, e)) (by (is_map s) refl)
     where
-      by : (d b : Bool) (a : Ruling) → left_or s (cond d (cond b (leaving map_bytes s a) (refused 3 s)) (refused 1 s)) ≡ s
-      by true true (done l) = refl
-      by true true (refused n x) = refl
-      by true false a = refl
-      by false b a = refl
+      by : (b : Bool) → is_map s ≡ b → Fine P (check 3 b >> on_entries c)
+      by true g = checked P 3 true (on_entries c) (λ e. omega (arith, e)) (f g)
+      by false g = refused-fine P 3 (on_entries c) (λ e. omega (arith, e))
 
--- ---- for any property of the entries: a rule that is done leaves it
+  pub left-fine : P (excluded_at s) → (is_map s ≡ true → Fine P (on_entries c)) → P (excluded_at t)
+  left-fine p f = moved map_table s (outcome_of c) (says c) P (outcome-fine f) p
 
-abbrev pub Fine : (List MapEntry → Type 0) → Ruling → Type 0
-Fine P (done l) = P l
-Fine P (refused n x) = Unit {0}
-
-pub left-fine : (P : List MapEntry → Type 0) {s t : List ℕ} (c : Called s t) → P (excluded_at s) → (is_map s ≡ true → Fine P (outcome_of c)) → P (excluded_at t)
-unfolding lent_map leaving
-left-fine P {s} {t} c p f = subst P (sym (entries-left c)) (by (reads c) (is_map s) refl (outcome_of c) f)
-  where
-    by : (d b : Bool) → is_map s ≡ b → (a : Ruling) → (is_map s ≡ true → Fine P a) → P (meant (cond d (cond b (leaving map_bytes s a) (refused 3 s)) (refused 1 s)))
-    by true true g (done l) f = f g
-    by true true g (refused n x) f = p
-    by true false g a f = p
-    by false b g a f = p
+  -- of a call that is done, the property of the entries that its outcome gives
+  done-fine : answered (answer_of c) ≡ 0 → Fine P (on_entries c) → P (excluded_at t)
+  done-fine z f = left-done map_table s (outcome_of c) (says c) z P (outcome-fine (λ g. f))
 
 module _ (P : List MapEntry → Type 0) where
-  pub checked : (c : Bool) (n : ℕ) (a : Ruling) → Fine P a → Fine P (cond c a (refused n tt))
-  checked true n a g = g
-  checked false n a g = tt
+  pub no_hash : (hash : List ℕ) (o : Outcome (List MapEntry)) → Fine P o → Fine P (check 3 (eqb (length hash) 32) >> o)
+  no_hash hash o f = checked P 3 (eqb (length hash) 32) o (λ e. omega (arith, e)) f
 
-  pub either : (c : Bool) (a b : Ruling) → Fine P a → Fine P b → Fine P (cond c a b)
+  pub either : (c : Bool) (a b : Outcome (List MapEntry)) → Fine P a → Fine P b → Fine P (cond c a b)
   either true a b g h = g
   either false a b g h = h
 
@@ -131,16 +106,16 @@ module _ (P : List MapEntry → Type 0) where
   unfolding fitting
   fits l p = by (leb (length l) 64) (leb (length (excluded l)) 512) refl refl
     where
-      by : (a b : Bool) → leb (length l) 64 ≡ a → leb (length (excluded l)) 512 ≡ b → Fine P (cond a (cond b (done l) (refused 15 tt)) (refused 15 tt))
-      by true true e f = p (leb-true _ _ e) (leb-true _ _ f)
-      by true false e f = tt
-      by false b e f = tt
+      by : (a b : Bool) → leb (length l) 64 ≡ a → leb (length (excluded l)) 512 ≡ b → Fine P (check 15 a >> (check 15 b >> fine l))
+      by true true e f = checked P 15 true (check 15 true >> fine l) (λ e. omega (arith, e)) (checked P 15 true (fine l) (λ e. omega (arith, e)) (p (leb-true _ _ e) (leb-true _ _ f)))
+      by true false e f = checked P 15 true (check 15 false >> fine l) (λ e. omega (arith, e)) (refused-fine P 15 (fine l) (λ e. omega (arith, e)))
+      by false b e f = refused-fine P 15 (check 15 b >> fine l) (λ e. omega (arith, e))
 
   pub enters : (l : List MapEntry) (hash : Byte32) (tx : List ℕ) → P l
       → (length (renew (has_hash hash) (pending hash tx) l) ≤ 64 → length (excluded (renew (has_hash hash) (pending hash tx) l)) ≤ 512 → P (renew (has_hash hash) (pending hash tx) l))
       → Fine P (entering l hash tx)
   unfolding entering
-  enters l hash tx p f = either (eqb (length tx) 0) (done l) (fitting (renew (has_hash hash) (pending hash tx) l)) p (fits (renew (has_hash hash) (pending hash tx) l) f)
+  enters l hash tx p f = either (eqb (length tx) 0) (fine l) (fitting (renew (has_hash hash) (pending hash tx) l)) p (fits (renew (has_hash hash) (pending hash tx) l) f)
 
 -- ---- at most 64 transactions and 512 out points
 
@@ -175,36 +150,42 @@ marked_all hash block (e ∷ l) =
     let (p, q) = marked_all hash block l in
     (ap suc p, ap (λ (ps : List OutPoint). ps ++ excluded (map (committed_at hash block) l)) (marked hash block e) ∙ ap (λ (ps : List OutPoint). e.points ++ ps) q)
 
-small_step : {s t : List ℕ} (c : Called s t) → Small (excluded_at s) → Fine Small (outcome_of c)
+small_step : {s t : List ℕ} (c : Called s t) → Small (excluded_at s) → Fine Small (on_entries c)
 unfolding commit_on remove_on without truncate_on truncated add_on migrate_on
 small_step {s} (run.add r hash tx e) m =
-    checked Small (eqb (length hash) 32) 3 _ (enters Small (excluded_at s) (byte32_at hash 0) tx m (λ a b. (a, b)))
+    no_hash Small hash _ (enters Small (excluded_at s) (byte32_at hash 0) tx m (λ a b. (a, b)))
 small_step {s} (run.commit r hash block e) m =
     let (p, q) = marked_all (byte32_at hash 0) block (excluded_at s) in
-    checked Small (eqb (length hash) 32) 3 (done (map (committed_at (byte32_at hash 0) block) (excluded_at s))) (omega (arith, p, m.0), omega (arith, ap length q, m.1))
+    no_hash Small hash (fine (map (committed_at (byte32_at hash 0) block) (excluded_at s))) (omega (arith, p, m.0), omega (arith, ap length q, m.1))
 small_step {s} (run.remove r hash e) m =
-    checked Small (eqb (length hash) 32) 3 (done (without (byte32_at hash 0) (excluded_at s))) (sifted_small (λ (x : MapEntry). not (has_hash (byte32_at hash 0) x)) (excluded_at s) m)
+    no_hash Small hash (fine (without (byte32_at hash 0) (excluded_at s))) (sifted_small (λ (x : MapEntry). not (has_hash (byte32_at hash 0) x)) (excluded_at s) m)
 small_step {s} (run.truncate r tip e) m = sifted_small (λ (x : MapEntry). is_recent tip x.committed) (excluded_at s) m
 small_step {s} (run.migrate r old new tx e) m =
     let o = byte32_at old 0 in
     let l : List MapEntry = without o (excluded_at s) in
-    checked Small (eqb (length old) 32) 3 _
-    (checked Small (eqb (length new) 32) 3 _
-    (either Small (entered o (excluded_at s)) (entering l (byte32_at new 0) tx) (done (excluded_at s))
+    no_hash Small old _
+    (no_hash Small new _
+    (either Small (entered o (excluded_at s)) (entering l (byte32_at new 0) tx) (fine (excluded_at s))
     (enters Small l (byte32_at new 0) tx (sifted_small (λ (x : MapEntry). not (has_hash o x)) (excluded_at s) m) (λ a b. (a, b))) m))
 
 map_small : (s : List ℕ) → is_map s ≡ true → Small (excluded_at s)
 map_small s g = (omega (arith, map-count s g, map-few s g), map-points s g)
 
 map_step : {s t : List ℕ} → Called s t → is_map t ≡ is_map s
-unfolding lent_map leaving
-map_step {s} {t} c = ap is_map (bytes_left c) ∙ by (reads c) (is_map s) refl (outcome_of c) (λ g. small_step c (map_small s g))
+unfolding on_table
+map_step {s} {t} c = ap is_map (table-left map_table s (outcome_of c) (says c)) ∙ by (is_map s) refl
   where
-    by : (d b : Bool) → is_map s ≡ b → (a : Ruling) → (is_map s ≡ true → Fine Small a) → is_map (left (cond d (cond b (leaving map_bytes s a) (refused 3 s)) (refused 1 s))) ≡ is_map s
-    by true true g (done l) f = let (p, q) = f g in put_is s l g p q ∙ sym g
-    by true true g (refused n x) f = refl
-    by true false g a f = refl
-    by false b g a f = refl
+    still : (o : Outcome (List MapEntry)) → Fine (λ l. is_map (put_at s 0 (map_bytes l)) ≡ is_map s) o → is_map (leaves o (λ l. put_at s 0 (map_bytes l)) s) ≡ is_map s
+    still (fine l) f = f
+    still (refused n l) f = refl
+
+    put : is_map s ≡ true → (o : Outcome (List MapEntry)) → Fine Small o → Fine (λ l. is_map (put_at s 0 (map_bytes l)) ≡ is_map s) o
+    put g (fine l) (p, q) = put_is s l g p q ∙ sym g
+    put g (refused n l) f = f
+
+    by : (b : Bool) → is_map s ≡ b → is_map (leaves (outcome_of c) (λ l. put_at s 0 (map_bytes l)) s) ≡ is_map s
+    by true g = still (outcome_of c) (put g (outcome_of c) (outcome-fine Small c (λ g. small_step c (map_small s g))))
+    by false g = ap is_map (sym (table-left map_table s (outcome_of c) (says c)) ∙ other_left c g)
 
 pub stays_map : StaysMap
 stays_map s t run.none = refl
@@ -264,25 +245,25 @@ stands_enters : (x : MapEntry) (l : List MapEntry) (hash tx : List ℕ) → repl
 unfolding replaces entering
 stands_enters x l hash tx e i = by (eqb (length tx) 0) e
   where
-    by : (b : Bool) → cond b false (has_hash (byte32_at hash 0) x) ≡ false → Fine (Stands x) (cond b (done l) (fitting (renew (has_hash (byte32_at hash 0)) (pending (byte32_at hash 0) tx) l)))
+    by : (b : Bool) → cond b false (has_hash (byte32_at hash 0) x) ≡ false → Fine (Stands x) (cond b (fine l) (fitting (renew (has_hash (byte32_at hash 0)) (pending (byte32_at hash 0) tx) l)))
     by true h = i
     by false h = fits (Stands x) (renew (has_hash (byte32_at hash 0)) (pending (byte32_at hash 0) tx) l) (λ a b. stands-renew x (has_hash (byte32_at hash 0)) (pending (byte32_at hash 0) tx) l h i)
 
-stands_step : (x : MapEntry) {s t : List ℕ} (c : Called s t) → ends x c ≡ false → Stands x (excluded_at s) → Fine (Stands x) (outcome_of c)
+stands_step : (x : MapEntry) {s t : List ℕ} (c : Called s t) → ends x c ≡ false → Stands x (excluded_at s) → Fine (Stands x) (on_entries c)
 unfolding ends commit_on remove_on without truncate_on truncated add_on migrate_on
-stands_step x {s} (run.add r hash tx e) h i = checked (Stands x) (eqb (length hash) 32) 3 _ (stands_enters x (excluded_at s) hash tx h i)
+stands_step x {s} (run.add r hash tx e) h i = no_hash (Stands x) hash _ (stands_enters x (excluded_at s) hash tx h i)
 stands_step x {s} (run.commit r hash block e) h i =
     let g = committed_at (byte32_at hash 0) block in
-    checked (Stands x) (eqb (length hash) 32) 3 (done (map g (excluded_at s)))
+    no_hash (Stands x) hash (fine (map g (excluded_at s)))
     (subst (λ (y : MapEntry). Stands y (map g (excluded_at s))) (unmarked (byte32_at hash 0) block x h) (stands-marked x g (excluded_at s) i))
 stands_step x {s} (run.remove r hash e) h i =
-    checked (Stands x) (eqb (length hash) 32) 3 (done (without (byte32_at hash 0) (excluded_at s))) (stands-keep x (λ (y : MapEntry). not (has_hash (byte32_at hash 0) y)) (excluded_at s) (rw h) i)
+    no_hash (Stands x) hash (fine (without (byte32_at hash 0) (excluded_at s))) (stands-keep x (λ (y : MapEntry). not (has_hash (byte32_at hash 0) y)) (excluded_at s) (rw h) i)
 stands_step x {s} (run.truncate r tip e) h i = stands-keep x (λ (y : MapEntry). is_recent tip y.committed) (excluded_at s) (not-false (is_recent tip x.committed) h) i
 stands_step x {s} (run.migrate r old new tx e) h i =
-    checked (Stands x) (eqb (length old) 32) 3 _ (checked (Stands x) (eqb (length new) 32) 3 _ (by (entered (byte32_at old 0) (excluded_at s)) (has_hash (byte32_at old 0) x) refl h))
+    no_hash (Stands x) old _ (no_hash (Stands x) new _ (by (entered (byte32_at old 0) (excluded_at s)) (has_hash (byte32_at old 0) x) refl h))
   where
     by : (b d : Bool) → has_hash (byte32_at old 0) x ≡ d → cond b (cond d true (replaces new tx x)) false ≡ false
-        → Fine (Stands x) (cond b (entering (filter (λ e. not (has_hash (byte32_at old 0) e)) (excluded_at s)) (byte32_at new 0) tx) (done (excluded_at s)))
+        → Fine (Stands x) (cond b (entering (filter (λ e. not (has_hash (byte32_at old 0) e)) (excluded_at s)) (byte32_at new 0) tx) (fine (excluded_at s)))
     by true true g k = absurd (false≢true (sym k))
     by true false g k = stands_enters x (filter (λ e. not (has_hash (byte32_at old 0) e)) (excluded_at s)) new tx k (stands-keep x (λ (y : MapEntry). not (has_hash (byte32_at old 0) y)) (excluded_at s) (rw g) i)
     by false d g k = i
@@ -329,11 +310,14 @@ excluded-fit [] a = tt
 excluded-fit (e ∷ l) a = fit_append e.points (excluded l) a.0.points-fit (excluded-fit l a.1)
 
 -- an `apply` that is done writes all of them
-applied : (t out after : List ℕ) → (answered {T = Unit {0}} (Ok tt), after) ≡ lent_list t out (apply_on (excluded_at t) out) → (is_map t ≡ true) × (after ≡ with_list (excluded (excluded_at t)) out)
-unfolding answered number lent_list apply_on
+applied : (t out after : List ℕ) → Applies t 0 out after → (is_map t ≡ true) × (after ≡ with_list (excluded (excluded_at t)) out)
+unfolding number_of on_table apply_on check check_with ◌>>◌
 applied t out after e = by (is_map t) (has_room (excluded (excluded_at t)) out) refl e
   where
-    by : (a b : Bool) → is_map t ≡ a → ◌≡◌ {A = ℕ × List ℕ} (0, after) (cond a (cond b (0, with_list (excluded (excluded_at t)) out) (13, out)) (3, out))
+    of : Outcome (List OutPoint) → ℕ × List ℕ
+    of o = (number_of o, writes (λ l. l) o out)
+
+    by : (a b : Bool) → is_map t ≡ a → ◌≡◌ {A = ℕ × List ℕ} (0, after) (of (check 3 a >> (check 13 b >> fine (excluded (excluded_at t)))))
         → (is_map t ≡ true) × (after ≡ with_list (excluded (excluded_at t)) out)
     by true true g f = (g, ap (λ (q : ℕ × List ℕ). q.1) f)
     by true false g f = absurd (let z : ◌≡◌ {A = ℕ} 0 13 = ap (λ (q : ℕ × List ℕ). q.0) f in omega arith)
@@ -348,43 +332,28 @@ stays_excluded x s t i r b out after e p h =
 
 -- ---- where it comes from
 
--- of a call that is done, the property of the entries that its rule gives
-done-fine : (P : List MapEntry → Type 0) {s t : List ℕ} (c : Called s t) → answer_of c ≡ Ok tt → Fine P (outcome_of c) → P (excluded_at t)
-unfolding told with_bytes lent_map leaving
-done-fine P {s} {t} c a f = by (reads c) (is_map s) (outcome_of c) (sym (ap (λ (v : Answer). told (with_bytes excluded_at) v t) a) ∙ says c) f
-  where
-    is_done : After (List MapEntry) → Type 0
-    is_done (done p) = P p.0
-    is_done (refused n x) = Unit {0}
-
-    by : (d b : Bool) (a : Ruling) → ◌≡◌ {A = After (List MapEntry)} (done (excluded_at t, t)) (cond d (cond b (leaving map_bytes s a) (refused 3 s)) (refused 1 s)) → Fine P a → P (excluded_at t)
-    by true true (done l) g f = subst is_done (sym g) f
-    by true true (refused n x) g f = subst is_done (sym g) tt
-    by true false a g f = subst is_done (sym g) tt
-    by false b a g f = subst is_done (sym g) tt
-
 pub add_enters : AddEnters
-unfolding answer_of add_on entering
+unfolding answer_of answered add_on entering
 add_enters s t hash tx z e =
     let P = Stands (pending (byte32_at hash 0) tx) in
     let after = renew (has_hash (byte32_at hash 0)) (pending (byte32_at hash 0) tx) (excluded_at s) in
     done-fine P (run.add (Ok tt) hash tx e) refl
-    (checked P (eqb (length hash) 32) 3 _
+    (no_hash P hash _
     (rw (ne_eqb (length tx) 0 z) (fits P after (λ a b. stands_new (has_hash (byte32_at hash 0)) (pending (byte32_at hash 0) tx) (excluded_at s)))))
 
 pub migrate_enters : MigrateEnters
-unfolding answer_of migrate_on entering
+unfolding answer_of answered migrate_on entering
 migrate_enters s t old new tx z k e =
     let n = byte32_at new 0 in
     let P = Stands (pending n tx) in
     let l : List MapEntry = without (byte32_at old 0) (excluded_at s) in
     done-fine P (run.migrate (Ok tt) old new tx e) refl
-    (checked P (eqb (length old) 32) 3 _
-    (checked P (eqb (length new) 32) 3 _
+    (no_hash P old _
+    (no_hash P new _
     (rw (k, ne_eqb (length tx) 0 z) (fits P (renew (has_hash n) (pending n tx) l) (λ a b. stands_new (has_hash n) (pending n tx) l)))))
 
 pub commit_marks : CommitMarks
-unfolding answer_of commit_on
+unfolding answer_of answered commit_on
 commit_marks x s t hash block i e =
     let g = committed_at (byte32_at hash 0) block in
-    done-fine (Stands (g x)) (run.commit (Ok tt) hash block e) refl (checked (Stands (g x)) (eqb (length hash) 32) 3 (done (map g (excluded_at s))) (stands-marked x g (excluded_at s) i))
+    done-fine (Stands (g x)) (run.commit (Ok tt) hash block e) refl (no_hash (Stands (g x)) hash (fine (map g (excluded_at s))) (stands-marked x g (excluded_at s) i))

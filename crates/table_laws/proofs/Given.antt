@@ -16,11 +16,12 @@ use Rattle.out_points.proofs.AgainLaws.{written_back, points-fit, count_fits}
 use Rattle.hold_records.specs.declared.{Owner.Owner, Hold.Hold, Held.Held, Taker.Taker}
 use Rattle.hold_records.specs.Holds.{records_of, cells_of, is_not_of, is_live, is_busy, is_new, firsts, others, owner_for}
 use Rattle.table_laws.specs.Holds as run
-use Rattle.table_laws.specs.Holds.{Table, by_value, Stands, Took, Locked, InRange, HeldRefused, HeldStands, LockedRefused, NotGiven, StaysHeld, HeldOnce}
-use Rattle.table_laws.proofs.Calls.{unended, Faithful, by_value_lem, left-done, hold-fine, watch-fine, is_free, given, kept, locked-done, take_done}
+use Rattle.table_bytes.specs.Lent.{Table}
+use Rattle.table_laws.specs.Holds.{by_value, Stands, Took, Locked, InRange, HeldRefused, HeldStands, LockedRefused, NotGiven, StaysHeld, HeldOnce}
+use Rattle.table_laws.proofs.Outcomes.{left-done}
+use Rattle.table_laws.proofs.Calls.{unended, hold-fine, watch-fine, is_free, given, kept, locked-done, take_done}
 use Rattle.table_laws.proofs.Holds.{busy_not_given}
 use Rattle.table_laws.proofs.Stands.{stands-keep, stands-has, taken-stands, named-stands, still}
-use Rattle.std.specs.Prelude.{Ok}
 
 -- ---- parts of lists whose numbers fit: they are no longer, and theirs fit too
 
@@ -80,30 +81,30 @@ module _ (f : Hold → Bool) where
 
 -- ---- the written lists, read back
 
-module _ {T O : Type 0} {F : Table T O} (f : Faithful F) where
+module _ {T : Type 0} {F : Table T (List Hold)} where
   module _ {s t : T} {picked spent : List ℕ} {taker : Taker} {now : Millis} {taken refused : List ℕ} (k : Took F s t picked spent taker now taken refused) where
     short : length (points picked) < 2 ^ 32
     short = let a = length-points picked in let b = count_fits picked k.lent in omega arith
 
-    taken_is : points taken ≡ given (F.held s) now (points spent) (points picked)
+    taken_is : points taken ≡ given (F.means s) now (points spent) (points picked)
     taken_is =
-        let g = is_free (F.held s) now (points spent) in
+        let g = is_free (F.means s) now (points spent) in
         let a = firsts-few g [] (points picked) in
         let b = short in
-        ap points (take_done f k).1 ∙ written_back (given (F.held s) now (points spent) (points picked)) k.out₁ (omega arith) (firsts-fit g [] (points picked) (points-fit picked k.lent))
+        ap points (take_done k).1 ∙ written_back (given (F.means s) now (points spent) (points picked)) k.out₁ (omega arith) (firsts-fit g [] (points picked) (points-fit picked k.lent))
 
-    refused-is : points refused ≡ kept (F.held s) now (points spent) (points picked)
+    refused-is : points refused ≡ kept (F.means s) now (points spent) (points picked)
     refused-is =
-        let g = is_free (F.held s) now (points spent) in
+        let g = is_free (F.means s) now (points spent) in
         let a = others-few g [] (points picked) in
         let b = short in
-        ap points (take_done f k).2 ∙ written_back (kept (F.held s) now (points spent) (points picked)) k.out₂ (omega arith) (others-fit g [] (points picked) (points-fit picked k.lent))
+        ap points (take_done k).2 ∙ written_back (kept (F.means s) now (points spent) (points picked)) k.out₂ (omega arith) (others-fit g [] (points picked) (points-fit picked k.lent))
 
-  locked-is : {s t : T} {now : Millis} {after : List ℕ} → InRange (F.held s) → Locked F s t now after → points after ≡ cells_of (unended (F.held s) now)
+  locked-is : {s t : T} {now : Millis} {after : List ℕ} → InRange (F.means s) → Locked F s t now after → points after ≡ cells_of (unended (F.means s) now)
   locked-is {s} {t} {now} {after} i l =
-      let a = keep-few (is_live now) (records_of (F.held s)) in
+      let a = keep-few (is_live now) (F.means s) in
       let b = i.few in
-      ap points (locked-done f l) ∙ written_back (cells_of (unended (F.held s) now)) l.out (omega arith) (keep-fit (is_live now) (records_of (F.held s)) i.fit)
+      ap points (locked-done l) ∙ written_back (cells_of (unended (F.means s) now)) l.out (omega arith) (keep-fit (is_live now) (F.means s) i.fit)
 
 -- ---- the laws
 
@@ -122,9 +123,9 @@ others-has f p before (q ∷ l) e = by (f q) (not (has q before)) (eq_point p q)
     by false u true ft k x y = rw k
     by false u false ft k x y = rw k y
 
-live_busy : (h : Held) (now : Millis) (spent : List OutPoint) (x : Hold) → Stands x (records_of h) → is_live now x ≡ true → is_busy (unended h now) spent x.point ≡ true
+live_busy : (h : List Hold) (now : Millis) (spent : List OutPoint) (x : Hold) → Stands x h → is_live now x ≡ true → is_busy (unended h now) spent x.point ≡ true
 unfolding is_busy
-live_busy h now spent x s l = rw (stands-has x (unended h now) (stands-keep x (is_live now) (records_of h) l s))
+live_busy h now spent x s l = rw (stands-has x (unended h now) (stands-keep x (is_live now) h l s))
 
 -- of one pick, and nothing spent
 one-pick : (left : List Hold) (p : OutPoint)
@@ -136,37 +137,37 @@ one-pick left p = by (has p (cells_of left))
     by true = (rw (point_refl p), refl)
     by false = (refl, rw (point_refl p))
 
--- of any form of table that means one by value
-module _ {T O : Type 0} {F : Table T O} (f : Faithful F) where
+-- of any form of table
+module _ {T : Type 0} {F : Table T (List Hold)} where
   pub refuses_held : HeldRefused F
   refuses_held s x q t picked spent taker now taken refused k l =
-      let b = live_busy (F.held s) now (points spent) x q l in (
-        ap (has x.point) (taken_is f k) ∙ busy_not_given (unended (F.held s) now) (points spent) x.point (points picked) b,
-        ap (has x.point) (refused-is f k) ∙ others-has (is_free (F.held s) now (points spent)) x.point [] (points picked) (ap not b),
+      let b = live_busy (F.means s) now (points spent) x q l in (
+        ap (has x.point) (taken_is k) ∙ busy_not_given (unended (F.means s) now) (points spent) x.point (points picked) b,
+        ap (has x.point) (refused-is k) ∙ others-has (is_free (F.means s) now (points spent)) x.point [] (points picked) (ap not b),
       )
 
   pub leaves-held : HeldStands F
   leaves-held s t x (run.took {picked} {spent} {taker} {now} k p e) =
-      subst (Stands x) (sym (take_done f k).0)
-      (taken-stands (owner_for taker now) p (unended (F.held s) now) (given (F.held s) now (points spent) (points picked)) (sym (ap (has p) (taken_is f k)) ∙ e))
+      subst (Stands x) (sym (take_done k).0)
+      (taken-stands (owner_for taker now) p (unended (F.means s) now) (given (F.means s) now (points spent) (points picked)) (sym (ap (has p) (taken_is k)) ∙ e))
   leaves-held s t x (run.funded {holder} {cells} k p e) =
-      left-done (Stands x) (f.alone s t (Ok tt) _ k.says)
-      (hold-fine (Stands x) (F.held s) holder cells (taken-stands (Owner.Funding holder) p (filter (is_not_of holder) (records_of (F.held s))) (points cells) e))
+      left-done F s _ k.says refl (Stands x)
+      (hold-fine F s (Stands x) holder cells (taken-stands (Owner.Funding holder) p (filter (is_not_of holder) (F.means s)) (points cells) e))
   leaves-held s t x (run.watched {cells} {now} k p e) =
-      left-done (Stands x) (f.alone s t (Ok tt) _ k.says)
-      (watch-fine (Stands x) (F.held s) cells now (named-stands (later now (record { 0 = 1800000 })) p (points cells) (records_of (F.held s)) e))
+      left-done F s _ k.says refl (Stands x)
+      (watch-fine F s (Stands x) cells now (named-stands (later now (record { 0 = 1800000 })) p (points cells) (F.means s) e))
 
   pub refuses_locked : LockedRefused F
   refuses_locked s now i t after l u picked spent taker taken refused k p e g =
-      let h : Held = F.held s in
+      let h : List Hold = F.means s in
       let o = one-pick (unended h now) p in
-      let a : has p (points after) ≡ has p (cells_of (unended h now)) = ap (has p) (locked-is f i l) in
+      let a : has p (points after) ≡ has p (cells_of (unended h now)) = ap (has p) (locked-is i l) in
       let v : given h now (points spent) (points picked) ≡ given h now [] (p ∷ []) = rw (e, g) in
       let w : kept h now (points spent) (points picked) ≡ kept h now [] (p ∷ []) = rw (e, g) in
-      (a ∙ o.0 ∙ sym (ap (has p) (refused-is f k ∙ w)), a ∙ o.1 ∙ sym (ap (λ (x : List OutPoint). not (has p x)) (taken_is f k ∙ v)))
+      (a ∙ o.0 ∙ sym (ap (has p) (refused-is k ∙ w)), a ∙ o.1 ∙ sym (ap (λ (x : List OutPoint). not (has p x)) (taken_is k ∙ v)))
 
   pub holds_on : StaysHeld F
-  holds_on s t x y q cs = let (r, e) = still f x q cs in (r, subst (λ (p : OutPoint). NotGiven F p y t) e (refuses_held t y r))
+  holds_on s t x y q cs = let (r, e) = still x q cs in (r, subst (λ (p : OutPoint). NotGiven F p y t) e (refuses_held t y r))
 
   pub holds_once : HeldOnce F
   holds_once s t u x y k cs = (holds_on t u x y (leaves-held s t x k) cs).1
@@ -174,16 +175,16 @@ module _ {T O : Type 0} {F : Table T O} (f : Faithful F) where
 -- by value
 
 pub held-refused : HeldRefused by_value
-held-refused = refuses_held by_value_lem
+held-refused = refuses_held
 
 pub held-stands : HeldStands by_value
-held-stands = leaves-held by_value_lem
+held-stands = leaves-held
 
 pub locked-refused : LockedRefused by_value
-locked-refused = refuses_locked by_value_lem
+locked-refused = refuses_locked
 
 pub stays_held : StaysHeld by_value
-stays_held = holds_on by_value_lem
+stays_held = holds_on
 
 pub held_once : HeldOnce by_value
-held_once = holds_once by_value_lem
+held_once = holds_once

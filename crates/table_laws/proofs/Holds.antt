@@ -12,10 +12,12 @@ use Rattle.out_points.proofs.EqualLaws.{point-same, point_refl}
 use Rattle.std.specs.List.{filter}
 use Rattle.out_points.specs.Tables.{renew}
 use Rattle.hold_records.specs.declared.{Owner.Owner, Hold.Hold}
-use Rattle.hold_records.specs.Holds.{records_of, held_by, by_owner, cells_of, is_not_of, is_unnamed, is_tower_on, renew_all, is_live, is_busy, is_new, firsts, owner_for}
+use Rattle.hold_records.specs.Holds.{held_by, by_owner, cells_of, is_not_of, is_unnamed, is_tower_on, renew_all, is_live, is_busy, is_new, firsts, owner_for}
 use Rattle.table_laws.specs.Holds as run
-use Rattle.table_laws.specs.Holds.{Table, by_value, Called, Reached, towers, OneEach}
-use Rattle.table_laws.proofs.Calls.{unended, Faithful, by_value_lem, moved, hold-fine, watch-fine, release-fine, locked-fine, take-fine}
+use Rattle.table_bytes.specs.Lent.{Table}
+use Rattle.table_laws.specs.Holds.{by_value, Called, Reached, towers, OneEach}
+use Rattle.table_laws.proofs.Outcomes.{moved}
+use Rattle.table_laws.proofs.Calls.{unended, hold-fine, watch-fine, release-fine, locked-fine, take-fine}
 
 abbrev Single : List Hold → Type 0
 Single l = (p : OutPoint) → towers p l ≤ 1
@@ -205,20 +207,20 @@ funding_single holder f l ps s p =
     let d = s p in
     omega arith
 
-module _ {T O : Type 0} {F : Table T O} (f : Faithful F) where
-  step : {s t : T} → Called F s t → Single (records_of (F.held s)) → Single (records_of (F.held t))
+module _ {T : Type 0} {F : Table T (List Hold)} where
+  step : {s t : T} → Called F s t → Single (F.means s) → Single (F.means t)
   step (run.hold {s} {t} a holder cells e) q =
-      moved Single (f.alone s t a _ e) (hold-fine Single (F.held s) holder cells (funding_single holder (is_not_of holder) (records_of (F.held s)) (points cells) q)) q
+      moved F s _ e Single (hold-fine F s Single holder cells (funding_single holder (is_not_of holder) (F.means s) (points cells) q)) q
   step (run.watch {s} {t} a cells now e) q =
-      moved Single (f.alone s t a _ e) (watch-fine Single (F.held s) cells now (renew_all_lem (later now (record { 0 = 1800000 })) (points cells) (records_of (F.held s)) q)) q
-  step (run.release {s} {t} a cells e) q = moved Single (f.alone s t a _ e) (release-fine Single (F.held s) cells (keep_single (is_unnamed (points cells)) (records_of (F.held s)) q)) q
-  step (run.locked {s} {t} a now out after e) q = moved Single (f.beside s t a out after _ e) (locked-fine Single (F.held s) now out (keep_single (is_live now) (records_of (F.held s)) q)) q
+      moved F s _ e Single (watch-fine F s Single cells now (renew_all_lem (later now (record { 0 = 1800000 })) (points cells) (F.means s) q)) q
+  step (run.release {s} {t} a cells e) q = moved F s _ e Single (release-fine F s Single cells (keep_single (is_unnamed (points cells)) (F.means s) q)) q
+  step (run.locked {s} {t} a now out after e) q = moved F s _ e.0 Single (locked-fine F s Single now out (keep_single (is_live now) (F.means s) q)) q
   step (run.take {s} {t} a picked spent taker now out₁ out₂ after₁ after₂ e) q =
-      moved Single (f.both s t a out₁ out₂ after₁ after₂ _ e)
-      (take-fine Single (F.held s) picked spent taker now out₁ out₂
-      (take_single (unended (F.held s) now) (points spent) (points picked) (owner_for taker now) (keep_single (is_live now) (records_of (F.held s)) q))) q
+      moved F s _ e.0 Single
+      (take-fine F s Single picked spent taker now out₁ out₂
+      (take_single (unended (F.means s) now) (points spent) (points picked) (owner_for taker now) (keep_single (is_live now) (F.means s) q))) q
 
-  single : {s : T} → Reached F s → Single (records_of (F.held s))
+  single : {s : T} → Reached F s → Single (F.means s)
   unfolding towers
   single (run.empty e) = subst Single (sym e) (λ p. omega arith)
   single (run.next r c) = step c (single r)
@@ -227,7 +229,7 @@ module _ {T O : Type 0} {F : Table T O} (f : Faithful F) where
   each_once s r = single r
 
 pub one_each : OneEach by_value
-one_each = each_once by_value_lem
+one_each = each_once
 
 -- ---- who gets a cell
 

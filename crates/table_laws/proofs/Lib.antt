@@ -4,4 +4,5 @@ pub mod Given
 pub mod Holds
 pub mod Lent
 pub mod OneEntry
+pub mod Outcomes
 pub mod Stands

@@ -14,12 +14,16 @@ use Rattle.out_points.specs.OutPoints.{eq_point, has, points}
 use Rattle.out_points.proofs.EqualLaws.{point-same, point_refl}
 use Rattle.std.specs.List.{filter}
 use Rattle.out_points.specs.Tables.{renew}
-use Rattle.hold_records.specs.declared.{Owner.Owner, Hold.Hold, Held.Held}
-use Rattle.hold_records.specs.Holds.{records_of, held_by, by_owner, cells_of, is_not_of, is_unnamed, is_tower_on, renew_all, is_live}
+use Rattle.hold_records.specs.declared.{Owner.Owner, Hold.Hold}
+use Rattle.hold_records.specs.Holds.{held_by, by_owner, cells_of, is_not_of, is_unnamed, is_tower_on, renew_all, is_live}
 use Rattle.watchtower_holds.proofs.RenewLaws.{tower}
 use Rattle.table_laws.specs.Holds as run
-use Rattle.table_laws.specs.Holds.{After, Table, Called, Stands, here, there, kept_if, if_done, after, Followed}
-use Rattle.table_laws.proofs.Calls.{unended, Faithful, Step, Fine, left-done, Refuses, refused_stays, hold-fine, watch-fine, release-fine, locked-fine, take-fine}
+use Rattle.table_bytes.specs.Lent.{Table, Leaves}
+use Rattle.error.specs.Outcome.{Outcome}
+use Rattle.error.specs.Refusal.{answered}
+use Rattle.table_laws.specs.Holds.{Called, Stands, here, there, kept_if, if_done, after, Followed}
+use Rattle.table_laws.proofs.Outcomes.{Fine, left-done, left-refused}
+use Rattle.table_laws.proofs.Calls.{unended, hold-fine, watch-fine, release-fine, locked-fine, take-fine}
 use Rattle.std.specs.Prelude.{Ok, Err}
 use Rattle.table_laws.specs.Answers.{Answer}
 
@@ -163,54 +167,54 @@ unfolding kept_if
 kept x true l k = becomes (k refl) refl
 kept x false l k = gone
 
-by_answer : (x : Hold) (a : Answer) (m : Option Hold) {h g : Held} {o : After} → Step h g o a → Refuses h o → Fine (λ l. Made x l m) h o → Stands x (records_of h) → Made x (records_of g) (if_done a x m)
-unfolding if_done
-by_answer x (Ok _) m st u fine q = left-done (λ l. Made x l m) st fine
-by_answer x (Err why) m st u fine q = becomes (subst (λ (k : Held). Stands x (records_of k)) (sym (refused_stays st u)) q) refl
+by_answer : {T : Type 0} (F : Table T (List Hold)) (s : T) {t : T} (x : Hold) (a : Answer) (m : Option Hold) (o : Outcome (List Hold)) → Leaves F s (answered a) t o → Fine (λ l. Made x l m) o → Stands x (F.means s) → Made x (F.means t) (if_done a x m)
+unfolding if_done answered
+by_answer F s x (Ok _) m o e fine q = left-done F s o e refl (λ l. Made x l m) fine
+by_answer {T} F s x (Err why) m o e fine q = becomes (subst (λ (u : T). Stands x (F.means u)) (sym (left-refused F s o e why refl)) q) refl
 
-module _ {T O : Type 0} {F : Table T O} (f : Faithful F) where
-  made : {s t : T} (x : Hold) (c : Called F s t) → Stands x (records_of (F.held s)) → Made x (records_of (F.held t)) (after x c)
+module _ {T : Type 0} {F : Table T (List Hold)} where
+  made : {s t : T} (x : Hold) (c : Called F s t) → Stands x (F.means s) → Made x (F.means t) (after x c)
   unfolding after
   made x (run.hold {s} {t} a holder cells e) q =
-      by_answer x a _ (f.alone s t a _ e) (hold-fine (λ _. Unit {0}) (F.held s) holder cells tt) (hold-fine (λ l. Made x l _) (F.held s) holder cells (kept x _ _ by)) q
+      by_answer F s x a _ _ e (hold-fine F s (λ l. Made x l _) holder cells (kept x _ _ by)) q
     where
       by : cond (is_not_of holder x) true (has x.point (points cells)) ≡ true
-          → Stands x (filter (is_not_of holder) (records_of (F.held s)) ++ map (held_by (Owner.Funding holder)) (points cells))
+          → Stands x (filter (is_not_of holder) (F.means s) ++ map (held_by (Owner.Funding holder)) (points cells))
       by h = either (is_not_of holder x) refl h
         where
           either : (b : Bool) → is_not_of holder x ≡ b → cond b true (has x.point (points cells)) ≡ true
-              → Stands x (filter (is_not_of holder) (records_of (F.held s)) ++ map (held_by (Owner.Funding holder)) (points cells))
-          either true k h = stands-append x (filter (is_not_of holder) (records_of (F.held s))) _ (stands-keep x (is_not_of holder) (records_of (F.held s)) k q)
+              → Stands x (filter (is_not_of holder) (F.means s) ++ map (held_by (Owner.Funding holder)) (points cells))
+          either true k h = stands-append x (filter (is_not_of holder) (F.means s)) _ (stands-keep x (is_not_of holder) (F.means s) k q)
           either false k h =
-              subst (λ (y : Hold). Stands y (filter (is_not_of holder) (records_of (F.held s)) ++ map (held_by (Owner.Funding holder)) (points cells))) (is-of x holder k)
-              (taken-stands (Owner.Funding holder) x.point (filter (is_not_of holder) (records_of (F.held s))) (points cells) h)
+              subst (λ (y : Hold). Stands y (filter (is_not_of holder) (F.means s) ++ map (held_by (Owner.Funding holder)) (points cells))) (is-of x holder k)
+              (taken-stands (Owner.Funding holder) x.point (filter (is_not_of holder) (F.means s)) (points cells) h)
   made x (run.watch {s} {t} a cells now e) q =
-      by_answer x a _ (f.alone s t a _ e) (watch-fine (λ _. Unit {0}) (F.held s) cells now tt) (watch-fine (λ l. Made x l _) (F.held s) cells now (by (is_unnamed (points cells) x) refl)) q
+      by_answer F s x a _ _ e (watch-fine F s (λ l. Made x l _) cells now (by (is_unnamed (points cells) x) refl)) q
     where
       end : Millis
       end = later now (record { 0 = 1800000 })
 
-      by : (b : Bool) → is_unnamed (points cells) x ≡ b → Made x (renew_all end (records_of (F.held s)) (points cells)) (some (cond b x (tower end x.point)))
-      by true k = becomes (stands_renewed end x (points cells) (records_of (F.held s)) k q) refl
-      by false k = becomes (named-stands end x.point (points cells) (records_of (F.held s)) (is-named x (points cells) k)) refl
+      by : (b : Bool) → is_unnamed (points cells) x ≡ b → Made x (renew_all end (F.means s) (points cells)) (some (cond b x (tower end x.point)))
+      by true k = becomes (stands_renewed end x (points cells) (F.means s) k q) refl
+      by false k = becomes (named-stands end x.point (points cells) (F.means s) (is-named x (points cells) k)) refl
   made x (run.release {s} {t} a cells e) q =
-      by_answer x a _ (f.alone s t a _ e) (release-fine (λ _. Unit {0}) (F.held s) cells tt)
-      (release-fine (λ l. Made x l _) (F.held s) cells (kept x _ _ (λ k. stands-keep x (is_unnamed (points cells)) (records_of (F.held s)) k q))) q
+      by_answer F s x a _ _ e
+      (release-fine F s (λ l. Made x l _) cells (kept x _ _ (λ k. stands-keep x (is_unnamed (points cells)) (F.means s) k q))) q
   made x (run.locked {s} {t} a now out buffer e) q =
-      by_answer x a _ (f.beside s t a out buffer _ e) (locked-fine (λ _. Unit {0}) (F.held s) now out tt)
-      (locked-fine (λ l. Made x l _) (F.held s) now out (kept x _ _ (λ k. stands-keep x (is_live now) (records_of (F.held s)) k q))) q
+      by_answer F s x a _ _ e.0
+      (locked-fine F s (λ l. Made x l _) now out (kept x _ _ (λ k. stands-keep x (is_live now) (F.means s) k q))) q
   made x (run.take {s} {t} a picked spent taker now out₁ out₂ after₁ after₂ e) q =
-      by_answer x a _ (f.both s t a out₁ out₂ after₁ after₂ _ e) (take-fine (λ _. Unit {0}) (F.held s) picked spent taker now out₁ out₂ tt)
-      (take-fine (λ l. Made x l _) (F.held s) picked spent taker now out₁ out₂
-      (kept x _ _ (λ k. stands-append x (unended (F.held s) now) _ (stands-keep x (is_live now) (records_of (F.held s)) k q)))) q
+      by_answer F s x a _ _ e.0
+      (take-fine F s (λ l. Made x l _) picked spent taker now out₁ out₂
+      (kept x _ _ (λ k. stands-append x (unended (F.means s) now) _ (stands-keep x (is_live now) (F.means s) k q)))) q
 
-  still_from : (x : Hold) {s t : T} {y : Hold} → Stands x (records_of (F.held s)) → Followed F x s t y → Stands y (records_of (F.held t)) × (y.point ≡ x.point)
+  still_from : (x : Hold) {s t : T} {y : Hold} → Stands x (F.means s) → Followed F x s t y → Stands y (F.means t) × (y.point ≡ x.point)
   still_from x q run.start = (q, refl)
   still_from x q (run.then {s} {t} {u} {y} {z} cs c e) =
-      let (r, k) = still_from x q cs in by k (subst (Made y (records_of (F.held u))) e (made y c r))
+      let (r, k) = still_from x q cs in by k (subst (Made y (F.means u)) e (made y c r))
     where
-      by : y.point ≡ x.point → Made y (records_of (F.held u)) (some z) → Stands z (records_of (F.held u)) × (z.point ≡ x.point)
+      by : y.point ≡ x.point → Made y (F.means u) (some z) → Stands z (F.means u) × (z.point ≡ x.point)
       by k (becomes m n) = (m, n ∙ k)
 
-  pub still : {s t : T} (x : Hold) {y : Hold} → Stands x (records_of (F.held s)) → Followed F x s t y → Stands y (records_of (F.held t)) × (y.point ≡ x.point)
+  pub still : {s t : T} (x : Hold) {y : Hold} → Stands x (F.means s) → Followed F x s t y → Stands y (F.means t) × (y.point ≡ x.point)
   still x q f = still_from x q f

@@ -1,5 +1,5 @@
--- A list of calls on a lent exclusion map (docs/RULES.md, "Holds and exclusions"). Each step has what the contract of the call says of it: that of `commit` stands in
--- crates/exclusion_marks/src/lib.rt, the others in crates/exclusions/src/lib.rt.
+-- A list of calls on a lent exclusion map (docs/RULES.md, "Holds and exclusions"). Each step has what the contract of the call says of it
+-- (crates/exclusion_entries/specs/Calls.antt).
 use Rattle.std.specs.Prelude.{◌≡◌, ℕ, suc, ◌≤◌, Bool, true, false, not, cond, List, [], ◌∷◌, Ok, Err}
 use lib.{Dec.eqb, ListN.length, ListN.replicate}
 use Rattle.units.specs.declared.BlockNumber.{BlockNumber}
@@ -8,20 +8,18 @@ use Rattle.error.specs.declared.{Refusal.Refusal}
 use Rattle.error.specs.Refusal.{answered}
 use Rattle.out_points.specs.declared.{Byte32.Byte32, OutPoint.OutPoint}
 use Rattle.out_points.specs.OutPoints.{byte32_at, has, points}
-use Rattle.out_points.specs.Tables.{told}
-use Rattle.table_bytes.specs.Lent.{with_bytes}
-use Rattle.exclusion_entries.specs.Exclusions.{MapEntry, has_hash, committed_at, commit_on, remove_on, is_recent, truncate_on, excluded, apply_on, pending, add_on, entered, migrate_on}
+use Rattle.exclusion_entries.specs.Exclusions.{MapEntry, has_hash, committed_at, is_recent, excluded, pending, entered}
 use Rattle.exclusion_entries.specs.Entries.{excluded_at, is_map}
-use Rattle.exclusion_entries.specs.LentMap.{lent_map, lent_tx, lent_list}
+use Rattle.exclusion_entries.specs.Calls.{Adds, Commits, Removes, Truncates, Migrates, Applies}
 use Rattle.table_laws.specs.Answers.{Answer}
 
 -- a call that is lent the bytes s, answers r and leaves the bytes t; `apply` changes none
 pub data Called (s t : List ℕ) : Type 0 where
-  add : (r : Answer) (hash tx : List ℕ) → told (with_bytes excluded_at) r t ≡ lent_tx tx s (add_on (excluded_at s) hash tx) → Called s t
-  commit : (r : Answer) (hash : List ℕ) (block : BlockNumber) → told (with_bytes excluded_at) r t ≡ lent_map s (commit_on (excluded_at s) hash block) → Called s t
-  remove : (r : Answer) (hash : List ℕ) → told (with_bytes excluded_at) r t ≡ lent_map s (remove_on (excluded_at s) hash) → Called s t
-  truncate : (r : Answer) (tip : BlockNumber) → told (with_bytes excluded_at) r t ≡ lent_map s (truncate_on (excluded_at s) tip) → Called s t
-  migrate : (r : Answer) (old new tx : List ℕ) → told (with_bytes excluded_at) r t ≡ lent_tx tx s (migrate_on (excluded_at s) old new tx) → Called s t
+  add : (r : Answer) (hash tx : List ℕ) → Adds s (answered r) t hash tx → Called s t
+  commit : (r : Answer) (hash : List ℕ) (block : BlockNumber) → Commits s (answered r) t hash block → Called s t
+  remove : (r : Answer) (hash : List ℕ) → Removes s (answered r) t hash → Called s t
+  truncate : (r : Answer) (tip : BlockNumber) → Truncates s (answered r) t tip → Called s t
+  migrate : (r : Answer) (old new tx : List ℕ) → Migrates s (answered r) t old new tx → Called s t
 
 unfoldable pub answer_of : {s t : List ℕ} → Called s t → Answer
 answer_of (add r hash tx e) = r
@@ -54,12 +52,12 @@ abbrev pub ZerosWithin : Type 0
 ZerosWithin = (t : List ℕ) → Reached (replicate 21508 0) t → Within t
 
 -- how many entries a hash has: one at most after any list of calls, if so before it, as in the empty map
-unfoldable pub entries_of : Byte32 → List MapEntry → ℕ
-entries_of h [] = 0
-entries_of h (e ∷ l) = cond (has_hash h e) (suc (entries_of h l)) (entries_of h l)
+unfoldable pub entries_with : Byte32 → List MapEntry → ℕ
+entries_with h [] = 0
+entries_with h (e ∷ l) = cond (has_hash h e) (suc (entries_with h l)) (entries_with h l)
 
 abbrev pub OneEach : List ℕ → Type 0
-OneEach s = (h : Byte32) → entries_of h (excluded_at s) ≤ 1
+OneEach s = (h : Byte32) → entries_with h (excluded_at s) ≤ 1
 
 abbrev pub StaysOneEach : Type 0
 StaysOneEach = (s t : List ℕ) → OneEach s → Reached s t → OneEach t
@@ -112,19 +110,18 @@ StaysEntered = (x : MapEntry) (s t : List ℕ) → Stands x (excluded_at s) → 
 -- and so an `apply` that is done writes each of its out points; the table's are bytes, as every lent slice is
 abbrev pub StaysExcluded : Type 0
 StaysExcluded = (x : MapEntry) (s t : List ℕ) → Stands x (excluded_at s) → Outlived x s t
-    → AllBytes t → (out after : List ℕ) → (answered {T = Unit {0}} (Ok tt), after) ≡ lent_list t out (apply_on (excluded_at t) out)
+    → AllBytes t → (out after : List ℕ) → Applies t 0 out after
     → (p : OutPoint) → has p x.points ≡ true → has p (points after) ≡ true
 
 -- where it comes from: a transaction that an `add` entered stands, pending, and so does one to which a known hash was migrated; and one that stood when a `commit`
 -- was done stands, committed if the hash is its own
 abbrev pub AddEnters : Type 0
-AddEnters = (s t hash tx : List ℕ) → (length tx ≡ 0 → ⊥) → told (with_bytes excluded_at) (Ok tt) t ≡ lent_tx tx s (add_on (excluded_at s) hash tx)
-    → Stands (pending (byte32_at hash 0) tx) (excluded_at t)
+AddEnters = (s t hash tx : List ℕ) → (length tx ≡ 0 → ⊥) → Adds s 0 t hash tx → Stands (pending (byte32_at hash 0) tx) (excluded_at t)
 
 abbrev pub MigrateEnters : Type 0
 MigrateEnters = (s t old new tx : List ℕ) → (length tx ≡ 0 → ⊥) → entered (byte32_at old 0) (excluded_at s) ≡ true
-    → told (with_bytes excluded_at) (Ok tt) t ≡ lent_tx tx s (migrate_on (excluded_at s) old new tx) → Stands (pending (byte32_at new 0) tx) (excluded_at t)
+    → Migrates s 0 t old new tx → Stands (pending (byte32_at new 0) tx) (excluded_at t)
 
 abbrev pub CommitMarks : Type 0
-CommitMarks = (x : MapEntry) (s t hash : List ℕ) (block : BlockNumber) → Stands x (excluded_at s) → told (with_bytes excluded_at) (Ok tt) t ≡ lent_map s (commit_on (excluded_at s) hash block)
+CommitMarks = (x : MapEntry) (s t hash : List ℕ) (block : BlockNumber) → Stands x (excluded_at s) → Commits s 0 t hash block
     → Stands (committed_at (byte32_at hash 0) block x) (excluded_at t)

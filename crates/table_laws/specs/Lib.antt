@@ -1,4 +1,3 @@
 pub mod Answers
 pub mod Exclusions
 pub mod Holds
-pub mod LentHolds

@@ -4,7 +4,7 @@
 #![tactic(auto, using(crate::proofs::Ways::ways))]
 
 ghost use Rattle.std.specs.Prelude.{◌≡◌, ◌≤◌, IfOk};
-ghost use Rattle.hold_records.specs.Holds.{outcome_on, hold_funding, release_for_watchtower, hold_for_watchtower, lock_held, take_cells};
+ghost use Rattle.hold_records.specs.Holds.{records_of, told, hold_funding, release_for_watchtower, hold_for_watchtower, lock_held, take_cells, after_lock, after_take};
 ghost use Rattle.table_laws.specs.Holds.{by_value, table_after, Called, Funded, Watched, Locked, Took};
 
 use error::Refusal;
@@ -16,7 +16,7 @@ pub mod lent;
 pub mod maps;
 
 pub fn hold_funding(held: Held, holder: u64, cells: &[u8]) -> Result<Held, Refusal>
-    ensures held_value { outcome_on held result ≡ hold_funding held holder cells.now }
+    ensures held_value { told result ≡ hold_funding (records_of held) holder cells.now }
     ensures count_bound { IfOk result (λ g. g.count ≤ 256) }
     ensures called { Called by_value held (table_after held result) }
     ensures funded { IfOk result (λ g. Funded by_value held g holder cells.now) }
@@ -25,7 +25,7 @@ pub fn hold_funding(held: Held, holder: u64, cells: &[u8]) -> Result<Held, Refus
 }
 
 pub fn release_for_watchtower(held: Held, cells: &[u8]) -> Result<Held, Refusal>
-    ensures held_value { outcome_on held result ≡ release_for_watchtower held cells.now }
+    ensures held_value { told result ≡ release_for_watchtower (records_of held) cells.now }
     ensures count_bound { IfOk result (λ g. g.count ≤ 256) }
     ensures called { Called by_value held (table_after held result) }
 {
@@ -33,7 +33,7 @@ pub fn release_for_watchtower(held: Held, cells: &[u8]) -> Result<Held, Refusal>
 }
 
 pub fn hold_for_watchtower(held: Held, cells: &[u8], time: Millis) -> Result<Held, Refusal>
-    ensures held_value { outcome_on held result ≡ hold_for_watchtower held cells.now time }
+    ensures held_value { told result ≡ hold_for_watchtower (records_of held) cells.now time }
     ensures count_bound { IfOk result (λ g. g.count ≤ 256) }
     ensures called { Called by_value held (table_after held result) }
     ensures watched { IfOk result (λ g. Watched by_value held g cells.now time) }
@@ -42,7 +42,7 @@ pub fn hold_for_watchtower(held: Held, cells: &[u8], time: Millis) -> Result<Hel
 }
 
 pub fn lock_held(held: Held, time: Millis, out: &mut [u8]) -> Result<Held, Refusal>
-    ensures out_after { (outcome_on held result, out.new) ≡ lock_held held time out.old }
+    ensures out_after { (told result, out.new) ≡ after_lock (lock_held (records_of held) time) out.old }
     ensures count_bound { IfOk result (λ g. g.count ≤ 256) }
     ensures called { Called by_value held (table_after held result) }
     ensures locked { IfOk result (λ g. Locked by_value held g time out.new) }
@@ -59,7 +59,7 @@ pub fn take(
     taken: &mut [u8],
     refused: &mut [u8],
 ) -> Result<Held, Refusal>
-    ensures refused_after { (outcome_on held result, taken.new, refused.new) ≡ take_cells held picked.now spent.now taker time taken.old refused.old }
+    ensures after { (told result, taken.new, refused.new) ≡ after_take (take_cells (records_of held) picked.now spent.now taker time) taken.old refused.old }
     ensures count_bound { IfOk result (λ g. g.count ≤ 256) }
     ensures called { Called by_value held (table_after held result) }
     ensures took { IfOk result (λ g. Took by_value held g picked.now spent.now taker time taken.new refused.new) }
