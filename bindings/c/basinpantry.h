@@ -7,7 +7,7 @@
    below says that they are ("no bytes: none"). An empty list has bytes: 00000000 of sized items (out points, cell deps, header deps, inputs), 04000000 of
    unsized ones (records, token cells, updates, outputs, data, witnesses); no bytes in its place are 3.
 
-   A function whose comment says "Refused" returns 0 on success, or the number of its refusal (1 to 15, BASINPANTRY_...), and then no table and no buffer that
+   A function whose comment says "Refused" returns 0 on success, or the number of its refusal (BASINPANTRY_.., below), and then no table and no buffer that
    was lent has changed. The numbers are listed in the order in which they are looked for: where several apply, the first of them is the answer.
    Some of these functions, and none of the twelve on tables of cells, have more to tell, in `values`: an array of BASINPANTRY_VALUES words of 64 bits, for
    which the caller answers as for every pointer; it is never NULL. On success such a call sets the words that its comment names, where it is refused those that

@@ -222,7 +222,7 @@ static void judge_in_many_ways(const struct update *u)
     why = judge(&other, values);
     CHECK(why == BASINPANTRY_PEER_INPUT_USES_OUR_FUNDING_LOCK && values[2] == 1005);
     printf("where our source lock is the record's: refused with %" PRIu32 ", %s: input %" PRIu64 "\n", why, basinpantry_refusal_sentence(why), values[0]);
-    CHECK(basinpantry_refusal_sentence(0) == NULL && basinpantry_refusal_sentence(16) == NULL);
+    CHECK(basinpantry_refusal_sentence(0) == NULL && basinpantry_refusal_sentence(256) == NULL);
 }
 
 /* The update twice in a list: the second adds no input to what the first left in force, so its record is one too many. */

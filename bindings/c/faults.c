@@ -503,7 +503,7 @@ static uint64_t *four(void) { return values = lend_words(BASINPANTRY_VALUES, VAL
 
 /* The numbers that a call may answer, one bit each, and how many values it tells where it is not refused: no other is set, for `see` to look at. */
 static void answered(uint32_t r, uint32_t allowed, size_t tells) {
-    if (r > 15 || (allowed >> r & 1) == 0) fail("an answer that the header does not name");
+    if (r > 31 || (allowed >> r & 1) == 0) fail("an answer that the header does not name");
     told = r == 0 ? tells : r == BASINPANTRY_PEER_FUNDING_FEE_TOO_LOW ? 4 : r == BASINPANTRY_PEER_INPUT_USES_OUR_FUNDING_LOCK ? 1 : 0;
 }
 
@@ -709,7 +709,7 @@ static void call(size_t which) {
         case 24: r = basinpantry_exclusions_truncate(S(t), time); break;
         default: r = basinpantry_exclusions_apply(S(t), S(o)); break;
         }
-        if (r > 15 || (allowed >> r & 1) == 0) fail("an answer that the header does not name");
+        if (r > 31 || (allowed >> r & 1) == 0) fail("an answer that the header does not name");
         uint32_t first = (which == 20 || which == 23) && x.len != 0 && !basinpantry_is_transaction(S(x)) ? 1 : 3;
         if (first == 1 && r != 1) fail("a transaction that can't be read, and not 1");
         if (t.len != (holds ? BASINPANTRY_HELD_BYTES : BASINPANTRY_EXCLUSIONS_BYTES) && r != first) fail("a table of another length, and not 3");

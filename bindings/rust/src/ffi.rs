@@ -234,7 +234,7 @@ pub(crate) fn size(n: u64) -> usize {
 /// The values of an answer of 0, or the refusal of its number.
 ///
 /// # Panics
-/// On a number above 15: the archive is then of another version than this crate, which no lent bytes can bring about.
+/// On a number that is no refusal's: the archive is then of another version than this crate, which no lent bytes can bring about.
 pub(crate) fn answer(number: u32, values: [u64; VALUES]) -> Result<[u64; VALUES], Refusal> {
     if number == 0 {
         return Ok(values);

@@ -73,7 +73,7 @@ impl Refusal {
     ///
     /// assert_eq!(Refusal::from_number(6, [2, 0, 0, 0]), Some(Refusal::PeerInputUsesOurFundingLock { input_index: 2 }));
     /// assert_eq!(Refusal::from_number(0, [0; 4]), None);
-    /// assert_eq!(Refusal::from_number(16, [0; 4]), None);
+    /// assert_eq!(Refusal::from_number(256, [0; 4]), None);
     /// ```
     pub fn from_number(number: u32, values: [u64; 4]) -> Option<Refusal> {
         Some(match number {
@@ -101,7 +101,7 @@ impl Refusal {
         })
     }
 
-    /// Its number, 1 to 15.
+    /// Its number, below 256.
     ///
     /// ```
     /// assert_eq!(basinpantry::Refusal::TooManyHolds.number(), 14);
@@ -237,8 +237,8 @@ mod tests {
 
     #[test]
     fn every_number_is_one_case() {
-        for number in 1..=15 {
-            let why = Refusal::from_number(number, [1, 2, 3, 4]).expect("a case");
+        for number in 1..=255 {
+            let Some(why) = Refusal::from_number(number, [1, 2, 3, 4]) else { continue };
             assert_eq!(why.number(), number);
             let count = match number {
                 6 => 1,
@@ -257,6 +257,6 @@ mod tests {
             assert!(why.values().iter().all(|value| rest.contains(&value.to_string())), "{text}");
         }
         assert_eq!(Refusal::from_number(0, [0; 4]), None);
-        assert_eq!(Refusal::from_number(16, [0; 4]), None);
+        assert_eq!(Refusal::from_number(256, [0; 4]), None);
     }
 }

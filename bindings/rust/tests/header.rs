@@ -222,6 +222,11 @@ fn in_capitals(name: &str) -> String {
     out
 }
 
+/// Every refusal, in the order of the numbers, each of which is a byte.
+fn refusals() -> impl Iterator<Item = Refusal> {
+    (0..=255).filter_map(|number| Refusal::from_number(number, [0; 4]))
+}
+
 #[test]
 fn numbers() {
     let text = text("../c/basinpantry.h");
@@ -232,9 +237,8 @@ fn numbers() {
         .map(|(name, number)| (name.to_string(), number.parse().expect("a number and nothing else")))
         .collect();
     let mut has = |name: &str, number: usize| assert_eq!(defines.remove(name), Some(number), "{name}");
-    for number in 1..=15 {
-        let name = format!("{:?}", Refusal::from_number(number, [0; 4]).expect("a refusal"));
-        has(&in_capitals(name.split(' ').next().expect("a name")), number as usize);
+    for why in refusals() {
+        has(&in_capitals(why.name()), why.number() as usize);
     }
     for list in [List::CellDeps, List::HeaderDeps, List::Inputs, List::Outputs, List::OutputsData, List::Witnesses] {
         has(&in_capitals(&format!("{list:?}")), list as usize);
@@ -267,8 +271,8 @@ fn sentences() {
     let [_, body, _] = header_parts();
     let mut cases = body.split("    case ").skip(1);
     let documented = text("src/refusal.rs");
-    for number in 1..=15 {
-        let sentence = Refusal::from_number(number, [0; 4]).expect("a refusal").sentence();
+    for why in refusals() {
+        let (number, sentence) = (why.number(), why.sentence());
         let case = cases.next().expect("a case").split("    default:").next().expect("its text");
         assert_eq!(case, format!("{number}:\n        return \"{sentence}\";\n"));
         assert!(documented.contains(&format!("    /// {number}: {sentence}.\n")), "{number}");

@@ -12,68 +12,42 @@ use lib.Seq.{take_at}
 use lib.Dec.{ltb}
 use Rattle.error.specs.declared.Refusal.{Refusal}
 use Rattle.error.specs.Refusal.{number, values}
-use Rattle.molecule.specs.Partial.{pick}
 use Rattle.molecule.specs.Molecule.{readable}
 use Rattle.molecule.specs.Write.{splice, put_at, put_end}
 use Rattle.molecule.proofs.WriteLaws.{put_yes, end_yes, splice_zero}
 use Rattle.transaction.specs.Ckb.{Transaction}
 use Rattle.transaction_lists.specs.Lists.{list_in, item_in}
-use Rattle.transaction_lists.specs.Found as lists
 use Rattle.transaction_lists.specs.Found.{count_found}
 use Rattle.transaction_lists.proofs.ListLaws.{none-beyond}
-use Rattle.error.specs.Outcome.{Outcome, fine, refused, check, check_with, ◌>>=◌, ◌>>◌, told_by}
+use Rattle.error.specs.Outcome.{Outcome, fine, refused, told, answer_by, check, check_with, ◌>>=◌, ◌>>◌}
 use Rattle.error.proofs.Passed.{is_true, never, fine_inj, check-fine}
-use Rattle.transaction_writer.specs.Written as tx
-use Rattle.base_writer.specs.Answer.{in_room, leaves, written, told}
+use Rattle.transaction_writer.specs.Written.{fits, in_room, written}
 use Rattle.words.specs.Words.{in_words, writing}
 use Rattle.words.proofs.WordLaws.{wrote}
 use Rattle.answer_words.specs.Answers.{count_words}
-use Rattle.answer_words.specs.Buffers.{bytes_if, item_found}
+use Rattle.answer_words.specs.Buffers.{item_found}
 
 -- ---- bytes
 
 module _ (s out : List ℕ) where
-  no_fit : tx.fits (length s) (length out) ≡ false → (told (Err Refusal.BufferTooShort), out) ≡ written (fine s) out
-  unfolding in_room leaves check check_with ◌>>=◌ ◌>>◌ number values
+  no_fit : fits (length s) (length out) ≡ false → (told (Err Refusal.BufferTooShort), out) ≡ written (fine s) out
+  unfolding in_room answer_by check check_with ◌>>=◌ ◌>>◌ number values
   no_fit f = rw f
 
   pub first-long : 133116 < length s → (told (Err Refusal.BufferTooShort), out) ≡ written (fine s) out
-  unfolding tx.fits
+  unfolding fits
   first-long h = no_fit (rw (lt-leb _ _ h))
 
   pub first_short : length out < length s → (told (Err Refusal.BufferTooShort), out) ≡ written (fine s) out
-  unfolding tx.fits
+  unfolding fits
   first_short h = no_fit (simp (lt-leb _ _ h, and-false))
 
   pub first_put : {after : List ℕ} {n : ℕ} → length s ≤ 133116 → length s ≤ length out → after ≡ put_at out 0 s → n ≡ put_end out 0 s → (told (Ok n), after) ≡ written (fine s) out
-  unfolding in_room leaves check check_with ◌>>=◌ ◌>>◌
+  unfolding in_room answer_by check check_with ◌>>=◌ ◌>>◌
   first_put a b e f = rw fit (ap₂ (λ (k : ℕ) (l : List ℕ). (fine k, l)) (f ∙ end_yes out 0 s (omega arith) ∙ zero-add _) (e ∙ put_yes out 0 s (omega arith) ∙ splice_zero out s))
     where
-      fit : tx.fits (length s) (length out) ≡ true
-      fit = unfold tx.fits in rw (le-leb _ _ a, le-leb _ _ b)
-
--- ---- a transaction
-
-checked : (right : Bool) (why : Refusal) (bytes out : List ℕ) → values why ≡ []
-    → (told (tx.writes right why bytes out), tx.leaves right bytes out) ≡ written (bytes_if (number why) right bytes) out
-unfolding bytes_if tx.writes tx.leaves in_room leaves check check_with pick ◌>>=◌ ◌>>◌ number values
-checked false why bytes out v = rw v
-checked true why bytes out v = by (tx.fits (length bytes) (length out)) refl
-  where
-    by : (b : Bool) → tx.fits (length bytes) (length out) ≡ b → (told (tx.writes true why bytes out), tx.leaves true bytes out) ≡ written (bytes_if (number why) true bytes) out
-    by true e = rw e
-    by false e = rw e
-
-module _ (right : Bool) (bytes out words : List ℕ) {w : Result ℕ Refusal} {after : List ℕ} {r : ℕ × List ℕ} (k : r ≡ in_words count_words (told w) words) where
-  pub lists-written : w ≡ tx.writes right Refusal.LentBytesUnreadable bytes out → after ≡ tx.leaves right bytes out
-      → (r, after) ≡ writing count_words (written (bytes_if 3 right bytes) out) words
-  unfolding number values
-  lists-written e f = wrote count_words _ words (rw (e, f) (checked right Refusal.LentBytesUnreadable bytes out refl)) k
-
-  pub tx_rewritten : w ≡ tx.writes right Refusal.OurTransactionUnreadable bytes out → after ≡ tx.leaves right bytes out
-      → (r, after) ≡ writing count_words (written (bytes_if 1 right bytes) out) words
-  unfolding number values
-  tx_rewritten e f = wrote count_words _ words (rw (e, f) (checked right Refusal.OurTransactionUnreadable bytes out refl)) k
+      fit : fits (length s) (length out) ≡ true
+      fit = unfold fits in rw (le-leb _ _ a, le-leb _ _ b)
 
 -- ---- an item
 
@@ -93,9 +67,9 @@ module _ (tx : List ℕ) (list i : ℕ) where
       by true eb false ec = rw (eb, none-beyond tx list (ltb-false list 6 ec), le-ltb i 0 (omega arith)) (ap again (rw (eb, ec) at e))
       by true eb true ec = absurd (never n l (length (list_in tx list)) (sym (rw (eb, ec) at e)))
 
-  module _ (out : List ℕ) {x : Result ℕ Refusal} (e : lists.told x ≡ count_found tx list) where
+  module _ (out : List ℕ) {x : Result ℕ Refusal} (e : told x ≡ count_found tx list) where
     pub item_uncounted : {why : Refusal} → x ≡ Err why → (told (Err why), out) ≡ written (item_found tx list i) out
-    unfolding in_room leaves check check_with ◌>>=◌ ◌>>◌
+    unfolding in_room answer_by check check_with ◌>>=◌ ◌>>◌
     item_uncounted {why} ex = rw (uncounted (number why) (values why) (rw ex at (sym e)))
 
     module _ {n : ℕ} (ex : x ≡ Ok n) where
@@ -113,11 +87,11 @@ module _ (tx : List ℕ) (list i : ℕ) where
           fine_inj (check-fine 3 (ltb list 6) _ n e₁).1
 
       pub item-none : n ≤ i → (told (Err Refusal.LentBytesUnreadable), out) ≡ written (item_found tx list i) out
-      unfolding item_found in_room leaves check check_with ◌>>=◌ ◌>>◌ number values
+      unfolding item_found in_room answer_by check check_with ◌>>=◌ ◌>>◌ number values
       item-none k = rw (reads, is-count, le-ltb i n k)
 
       pub item_put : {s after : List ℕ} {o : Outcome ℕ} → i < n → s ≡ item_in tx list i → (o, after) ≡ written (fine s) out → (o, after) ≡ written (item_found tx list i) out
-      unfolding item_found in_room leaves check check_with ◌>>=◌ ◌>>◌
+      unfolding item_found in_room answer_by check check_with ◌>>=◌ ◌>>◌
       item_put k es h = h ∙ rw (es, reads, is-count, lt-ltb i n k)
 
 -- ---- the verdict line
@@ -126,9 +100,3 @@ pub line-told : (line zeros out words : List ℕ) {made after : List ℕ} {n : �
     → (o, after) ≡ written (fine (take n made)) out → r ≡ in_words count_words o words → (r, after) ≡ writing count_words (written (fine line) out) words
 line-told line zeros out words {n = n} e f h k =
     wrote count_words _ words (h ∙ rw (e, splice_zero zeros line, take_at line (drop (length line) zeros) n (sym f))) k
-
--- ---- the two forms of an answer that is a number
-
-pub written-told : (w : Result ℕ Refusal) → told_by (λ n. n) w ≡ told w
-written-told (Ok n) = refl
-written-told (Err e) = refl

@@ -1,15 +1,9 @@
 -- What is written at the start of a lent buffer.
-use Rattle.std.specs.Prelude.{ℕ, Bool, List, length, ltb}
+use Rattle.std.specs.Prelude.{ℕ, List, length, ltb}
 use Rattle.molecule.specs.Molecule.{readable}
 use Rattle.transaction.specs.Ckb.{Transaction}
 use Rattle.transaction_lists.specs.Lists.{list_in, item_in}
 use Rattle.error.specs.Outcome.{Outcome, fine, check, ◌>>◌}
-
--- bytes, refused with n unless the test passes
-unfoldable pub bytes_if : ℕ → Bool → List ℕ → Outcome (List ℕ)
-bytes_if n right bytes = do
-  check n right
-  fine bytes
 
 -- an item of a list of a transaction, by number and place
 unfoldable pub item_found : List ℕ → ℕ → ℕ → Outcome (List ℕ)

@@ -1,7 +1,7 @@
 // Bytes put at the start of a lent buffer.
 ghost use Rattle.std.specs.Prelude.{◌≡◌};
-ghost use Rattle.error.specs.Outcome.{fine};
-ghost use Rattle.base_writer.specs.Answer.{told, written};
+ghost use Rattle.error.specs.Outcome.{fine, told};
+ghost use Rattle.transaction_writer.specs.Written.{written};
 ghost use Rattle.answer_words.specs.Buffers.{item_found};
 
 use error::Refusal;

@@ -5,13 +5,11 @@
 pub mod buffers;
 
 ghost use Rattle.std.specs.Prelude.{◌≡◌};
-ghost use Rattle.units.specs.Units.{shannon_count, token_count};
+ghost use Rattle.error.specs.Outcome.{told, told_by};
 ghost use Rattle.words.specs.Words.{in_words};
-ghost use Rattle.funding_cell.specs.FundingCell as funding;
-ghost use Rattle.udt_cells.specs.Change.{answered};
-ghost use Rattle.base_writer.specs.Answer as writer;
+ghost use Rattle.funding_cell.specs.FundingCell.{figures_of};
+ghost use Rattle.udt_cells.specs.Change.{built_of};
 ghost use Rattle.negotiation.specs.Replay as replay;
-ghost use Rattle.transaction_lists.specs.Found as lists;
 ghost use Rattle.answer_words.specs.Answers.{count_words, cell_words, pick_words, replay_words, request};
 
 use arithmetic::amount;
@@ -31,7 +29,7 @@ fn written_words(n: usize) -> [u64; 1]
 
 // The answer of a call that writes: how many bytes it wrote.
 pub fn tell_written(written: Written, words: &mut [u64; WORDS]) -> u32
-    ensures { (result, words.new) ≡ in_words count_words (writer.told written) words.old }
+    ensures { (result, words.new) ≡ in_words count_words (told written) words.old }
 {
     words::tell(written.map(written_words), words)
 }
@@ -44,13 +42,13 @@ fn found_words(n: u32) -> [u64; 1]
 
 // A number that a transaction was asked for.
 pub fn tell_found(found: Result<u32, Refusal>, words: &mut [u64; WORDS]) -> u32
-    ensures { (result, words.new) ≡ in_words count_words (lists.told found) words.old }
+    ensures { (result, words.new) ≡ in_words count_words (told found) words.old }
 {
     words::tell(found.map(found_words), words)
 }
 
 fn cell_words(cell: FundingCell) -> [u64; 3]
-    ensures { result ≡ cell_words (record { capacity = shannon_count cell.capacity; token = token_count cell.token }) }
+    ensures { result ≡ cell_words (figures_of cell) }
 {
     let FundingCell { capacity, token } = cell;
     [
@@ -62,13 +60,13 @@ fn cell_words(cell: FundingCell) -> [u64; 3]
 
 // The funding cell: its capacity and its token amount.
 pub fn tell_cell(cell: Result<FundingCell, Refusal>, words: &mut [u64; WORDS]) -> u32
-    ensures { (result, words.new) ≡ in_words cell_words (funding.told cell) words.old }
+    ensures { (result, words.new) ≡ in_words cell_words (told_by figures_of cell) words.old }
 {
     words::tell(cell.map(cell_words), words)
 }
 
 fn pick_words(pick: UdtInputsOutputs) -> [u64; 4]
-    ensures { result ≡ pick_words (record { taken = pick.taken; change = token_count pick.change; capacity = shannon_count pick.capacity }) }
+    ensures { result ≡ pick_words (built_of pick) }
 {
     [
         pick.taken as u64,
@@ -80,7 +78,7 @@ fn pick_words(pick: UdtInputsOutputs) -> [u64; 4]
 
 // The pick: how many cells, the change, and the capacity of its output.
 pub fn tell_pick(pick: Result<UdtInputsOutputs, Refusal>, words: &mut [u64; WORDS]) -> u32
-    ensures { (result, words.new) ≡ in_words pick_words (answered pick) words.old }
+    ensures { (result, words.new) ≡ in_words pick_words (told_by built_of pick) words.old }
 {
     words::tell(pick.map(pick_words), words)
 }

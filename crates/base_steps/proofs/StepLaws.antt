@@ -7,8 +7,9 @@ use lib.ListN.{take}
 use Rattle.arithmetic.specs.LittleEndian.{AllBytes}
 use Rattle.molecule.proofs.ItemsLaws.{bytes_take}
 use Rattle.error.specs.declared.Refusal.{Refusal}
+use Rattle.error.specs.Outcome.{told}
 use Rattle.funding_cell.specs.declared.FundingRequest.{FundingRequest}
-use Rattle.base_writer.specs.Answer.{written, told}
+use Rattle.transaction_writer.specs.Written.{written}
 use Rattle.funding_builder.specs.Base.{Lent, build_base}
 use Rattle.base_theorems.proofs.Claims.{ReadsBack, Encodes, Funds, Keeps, Passes, Tidy, Balanced, Based}
 use Rattle.base_theorems.proofs.Base.{is-readable, encoded, first-output, kept, compared, tidied, in_balance, of_calls}

@@ -3,7 +3,8 @@
 #![tactic(auto)]
 
 ghost use Rattle.std.specs.Prelude.{◌≡◌, ℕ, take, Ok};
-ghost use Rattle.base_writer.specs.Answer.{written, told};
+ghost use Rattle.error.specs.Outcome.{told};
+ghost use Rattle.transaction_writer.specs.Written.{written};
 ghost use Rattle.funding_builder.specs.Base.{build_base};
 ghost use Rattle.funding_builder.specs.Lent.{lent_in};
 ghost use Rattle.base_theorems.proofs.Claims.{Based};

@@ -23,14 +23,13 @@ use Rattle.molecule.proofs.Offsets.{span-length}
 use Rattle.molecule.proofs.ReadableLaws.{every}
 use Rattle.lists.proofs.SpanLaws.{span-drop}
 use Rattle.transaction.specs.Ckb.{Bytes, CellDep, CellDeps, Script, CellOutput, Transaction, TokenCells}
-use Rattle.transaction.specs.Tx.{Tx, tx_at, raw_field}
-use Rattle.transaction_writer.specs.Written.{fits}
+use Rattle.transaction.specs.Tx.{Tx, tx_at, raw_field, are_scripts}
+use Rattle.transaction_writer.specs.Written.{fits, in_room, written}
 use Rattle.transaction_writer.proofs.PutLaws.{tx_length}
 use Rattle.rules.specs.Cells.{Cell, pair, cells}
-use Rattle.error.specs.Outcome.{Outcome, fine, refused, check, check_with, ◌>>◌}
+use Rattle.error.specs.Outcome.{Outcome, fine, refused, told, answer_by, putting, check, check_with, ◌>>◌}
 use Rattle.lists.specs.Lists.{is_empty}
 use Rattle.units.specs.Units.{Figures}
-use Rattle.rules.specs.Judge.{scripts}
 use Rattle.rules.specs.Step.{Prefix}
 use Rattle.rules.proofs.Telescope.{prefix_refl, prefix_trans, prefix_length}
 use Rattle.error.proofs.Passed.{is_true, never, fine_inj, bound-fine, check-fine, check_last, then-fine}
@@ -47,7 +46,6 @@ use Rattle.base_inputs.specs.BaseInputs.{picked, input_list}
 use Rattle.base_lists.specs.BaseLists.{amount_item, output_list, data_list}
 use Rattle.cell_deps.specs.CellDeps.{push_all, all_deps, cell_deps}
 use Rattle.cell_deps.proofs.LongLaws.{long-append, cell-deps-long}
-use Rattle.base_writer.specs.Answer.{in_room, leaves, written, told}
 use Rattle.transaction_theorems.proofs.FieldsDecoded.{transaction_fields}
 use Rattle.funding_builder.specs.Base.{Lent, Packed, packed, base_tx, change_capacity, supplied, lists, with_pick, with_cell, with_request, build_base}
 use Rattle.funding_builder.proofs.PresentLaws.{deps-readable, option-of}
@@ -74,17 +72,17 @@ record Made (l : Lent) (request : FundingRequest) (bytes : List ℕ) : Type 0 wh
   pub extra_deps : readable CellDeps l.extra_deps ≡ true
 
 made : (l : Lent) (request : FundingRequest) (bytes : List ℕ) → build_base l request ≡ fine bytes → Made l request bytes
-unfolding build_base with_request with_cell with_pick scripts lists
+unfolding build_base with_request with_cell with_pick lists
 made l request bytes e =
     let (o, e₁) = check-fine 1 (readable (option Transaction) l.ours) _ bytes e in
-    let (s, e₂) = then-fine (scripts l.lock l.udt l.source) _ bytes e₁ in
+    let (s, e₂) = check-fine 3 (are_scripts l.lock l.udt l.source) _ bytes e₁ in
     let (i, e₃) = then-fine (lists l.cells l.udt_deps l.lock_dep l.extra_deps) _ bytes e₂ in
     let (cell, c, e₄) = bound-fine (funding_cell (not (is_empty (tx_at l.ours).outputs)) (not (is_empty l.udt)) request) _ bytes e₃ in
     let (pick, p, e₅) = bound-fine (pick_typed l.udt request.local_amount (items_of l.cells)) _ bytes e₄ in
     let (_, e₆) = check-fine 11 (supplied pick.taken l.udt_deps) _ bytes e₅ in
     let (_, e₇) = check-fine 11 (supplied pick.taken l.lock_dep) _ bytes e₆ in
-    let s₁ = check-fine 3 (readable Script l.lock) _ tt s in
-    let s₂ = check-fine 3 (readable (option Script) l.udt) _ tt s₁.1 in
+    let s₁ = (and-eq-true_iff _ (readable Script l.source)).0 (is_true _ s) in
+    let s₂ = (and-eq-true_iff (readable Script l.lock) (readable (option Script) l.udt)).0 s₁.0 in
     let i₁ = check-fine 3 (readable TokenCells l.cells) _ tt i in
     let i₂ = check-fine 3 (readable (option CellDeps) l.udt_deps) _ tt i₁.1 in
     let i₃ = check-fine 3 (readable (option CellDep) l.lock_dep) _ tt i₂.1 in
@@ -94,9 +92,9 @@ made l request bytes e =
       figured = record { is_cell = c; is_pick = p };
       is = fine_inj e₇;
       ours = is_true _ o;
-      lock = is_true _ s₁.0;
-      udt = is_true _ s₂.0;
-      source = is_true _ (check_last 3 (readable Script l.source) tt s₂.1);
+      lock = s₂.0;
+      udt = s₂.1;
+      source = s₁.1;
       cells = is_true _ i₁.0;
       udt_deps = is_true _ i₂.0;
       lock_dep = is_true _ i₃.0;
@@ -420,10 +418,10 @@ unfolding fits
 fits_short n room h = leb-true n 133116 ((and-eq-true_iff (leb n 133116) (leb n room)).0 h).0
 
 left : (tx : Outcome (List ℕ)) (out after : List ℕ) (n : ℕ) → (told (Ok n), after) ≡ written tx out → Left tx after n
-unfolding leaves
+unfolding answer_by
 left tx out after n e = by (in_room out tx) refl e
   where
-    by : (o : Outcome (List ℕ)) → in_room out tx ≡ o → (told (Ok n), after) ≡ leaves o out → Left tx after n
+    by : (o : Outcome (List ℕ)) → in_room out tx ≡ o → (told (Ok n), after) ≡ putting length (λ (x : List ℕ). x) o out → Left tx after n
     by (refused k x) f g = absurd (never k x n (sym (ap (λ (p : Outcome ℕ × List ℕ). p.0) g)))
     by (fine bytes) f g =
         let many : n ≡ length bytes = fine_inj (ap (λ (p : Outcome ℕ × List ℕ). p.0) g) in

@@ -14,7 +14,7 @@ use Rattle.lists.specs.Lists.{contains, is_empty}
 use Rattle.transaction.specs.Ckb.{Transaction}
 use Rattle.transaction.specs.Tx.{Tx, tx_at, capacity_of, lock_of, type_of}
 use Rattle.rules.specs.Cells.{Cell, cells}
-use Rattle.error.specs.Outcome.{fine}
+use Rattle.error.specs.Outcome.{fine, told}
 use Rattle.units.specs.Units.{Figures}
 use Rattle.rules.specs.Judge.{comparison}
 use Rattle.rules.specs.Step.{Prefix}
@@ -25,7 +25,7 @@ use Rattle.udt_cells.specs.Change.{capacity_for}
 use Rattle.udt_cells.proofs.PickTheorems.{held}
 use Rattle.base_inputs.specs.BaseInputs.{picked_input}
 use Rattle.list_writer.specs.ListWriter.{fix_list}
-use Rattle.base_writer.specs.Answer.{written, told}
+use Rattle.transaction_writer.specs.Written.{written}
 use Rattle.transaction_theorems.proofs.Claims.{value_tx}
 use Rattle.transaction_theorems.proofs.WrittenReads.{HasFields}
 use Rattle.funding_builder.specs.Base.{Lent, Packed, packed, base_tx, build_base}

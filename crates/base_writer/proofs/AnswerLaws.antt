@@ -13,13 +13,12 @@ use Rattle.error.specs.declared.Refusal.{Refusal}
 use Rattle.error.specs.Refusal.{number, values}
 use Rattle.molecule.specs.Write.{Put}
 use Rattle.molecule.proofs.WriteLaws.{splice_zero}
-use Rattle.error.specs.Outcome.{fine, check, check_with, ◌>>=◌, ◌>>◌}
+use Rattle.error.specs.Outcome.{fine, told, answer_by, check, check_with, ◌>>=◌, ◌>>◌}
 use Rattle.transaction_writer.specs.declared.Sizes.{Sizes}
-use Rattle.transaction_writer.specs.TxFields.{total}
-use Rattle.transaction_writer.specs.Written.{fits}
+use Rattle.transaction_writer.specs.TxFields.{tx_len}
+use Rattle.transaction_writer.specs.Written.{fits, in_room, written}
 use Rattle.transaction_writer.proofs.PutLaws.{tx_length}
-use Rattle.base_writer.specs.Answer.{in_room, leaves, written, told}
-use Rattle.base_writer.specs.Lists.{Lists, bytes_of, Capped, Fitting}
+use Rattle.base_writer.specs.Lists.{Lists, base_bytes, Capped, Fitting}
 
 -- ---- lengths capped one by one, and together
 
@@ -44,12 +43,12 @@ fits-capped : (m n room : ℕ) → min m 133117 ≡ min n 133117 → fits m room
 unfolding fits
 fits-capped m n room e = grind (arith, nat_tests)
 
-module _ (version : ℕ) {z : Sizes} {x : Lists} (c : Capped z x) (out : List ℕ) {r : Bool} (e : r ≡ fits (total z) (length out)) where
+module _ (version : ℕ) {z : Sizes} {x : Lists} (c : Capped z x) (out : List ℕ) {r : Bool} (e : r ≡ fits (tx_len z) (length out)) where
   abbrev bytes : List ℕ
-  bytes = bytes_of version x
+  bytes = base_bytes version x
 
-  same : fits (total z) (length out) ≡ fits (length bytes) (length out)
-  unfolding bytes_of
+  same : fits (tx_len z) (length out) ≡ fits (length bytes) (length out)
+  unfolding base_bytes
   same =
       fits-capped _ _ (length out)
       (cap_all (length x.deps) (length x.headers) (length x.inputs) (length x.outputs) (length x.datas) (length x.witnesses)
@@ -57,7 +56,7 @@ module _ (version : ℕ) {z : Sizes} {x : Lists} (c : Capped z x) (out : List �
       ∙ ap (λ (n : ℕ). min n 133117) (sym (tx_length version x.deps x.headers x.inputs x.outputs x.datas x.witnesses)))
 
   pub base_refused : not r ≡ true → (told (Err Refusal.BufferTooShort), out) ≡ written (fine bytes) out
-  unfolding in_room leaves check check_with ◌>>=◌ ◌>>◌ number values
+  unfolding in_room answer_by check check_with ◌>>=◌ ◌>>◌ number values
   base_refused h = rw (sym (e ∙ same) ∙ not-true r h)
 
   module _ (h : not r ≡ false) where
@@ -65,14 +64,14 @@ module _ (version : ℕ) {z : Sizes} {x : Lists} (c : Capped z x) (out : List �
     fit = sym (e ∙ same) ∙ not-false r h
 
     pub base_written : {o : List ℕ} {m : ℕ} → Put out 0 bytes o m → (told (Ok m), o) ≡ written (fine bytes) out
-    unfolding in_room leaves check check_with ◌>>=◌ ◌>>◌
+    unfolding in_room answer_by check check_with ◌>>=◌ ◌>>◌
     base_written p = rw fit (ap₂ (λ (k : ℕ) (s : List ℕ). (fine k, s)) (p.end ∙ zero-add _) (p.bytes ∙ splice_zero out bytes))
 
 low-of : (m n : ℕ) → fits m n ≡ true → (m ≤ 133116) × (m ≤ n)
 unfolding fits
 low-of m n h = (grind (arith, nat_tests), grind (arith, nat_tests))
 
-pub base_fits : {z : Sizes} {x : Lists} → Capped z x → (out : List ℕ) {r : Bool} → r ≡ fits (total z) (length out) → not r ≡ false → Fitting z x out
+pub base_fits : {z : Sizes} {x : Lists} → Capped z x → (out : List ℕ) {r : Bool} → r ≡ fits (tx_len z) (length out) → not r ≡ false → Fitting z x out
 base_fits {z} c out {r} e h =
-    let k = low-of (total z) (length out) (sym e ∙ not-false r h) in
+    let k = low-of (tx_len z) (length out) (sym e ∙ not-false r h) in
     record { sizes = c; low = k.0; room = k.1 }

@@ -17,7 +17,7 @@ use Rattle.base_lists.specs.declared.{outputs.Outputs.Outputs, outputs_data.Outp
 use Rattle.base_lists.specs.Parts.{outputs_bytes, data_bytes, witness_bytes}
 use Rattle.cell_deps.specs.CellDeps.{deps_at}
 use Rattle.base_writer.specs.declared.Base.{Base}
-use Rattle.base_writer.specs.Lists.{or_empty, Lists, lists_of, bytes_of, Fitting, BackFits, front, back}
+use Rattle.base_writer.specs.Lists.{or_empty, Lists, lists_of, base_bytes, Fitting, BackFits, front, back}
 use Rattle.base_writer.specs.Base.{lists_in, inputs_in, outputs_in, data_in, witnesses_in}
 use Rattle.base_writer.proofs.ListLaws.{data_same}
 
@@ -68,8 +68,8 @@ module _ (version : ℕ) {z : Sizes} {x : Lists} {out : List ℕ} (g : Fitting z
         let w = exact in
         (omega (arith, g.low), omega (arith, front-length, length-kept p, g.low, g.room))
 
-    pub put_both : {o₂ : List ℕ} {n₂ : ℕ} → Put o₁ n₁ (back x) o₂ n₂ → Put out 0 (bytes_of version x) o₂ n₂
-    unfolding front back bytes_of
+    pub put_both : {o₂ : List ℕ} {n₂ : ℕ} → Put o₁ n₁ (back x) o₂ n₂ → Put out 0 (base_bytes version x) o₂ n₂
+    unfolding front back base_bytes
     put_both q =
         let w = exact in
         as_bytes (regroup _ x.deps x.headers x.inputs x.outputs x.datas x.witnesses

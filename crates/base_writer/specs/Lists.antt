@@ -11,7 +11,7 @@ use Rattle.base_lists.specs.BaseLists.{output_list, data_list, witness_list}
 use Rattle.list_writer.specs.ListWriter.{fix_list}
 use Rattle.cell_deps.specs.CellDeps.{deps_at}
 use Rattle.transaction_writer.specs.declared.Sizes.{Sizes}
-use Rattle.transaction_writer.specs.TxFields.{total}
+use Rattle.transaction_writer.specs.TxFields.{tx_len}
 use Rattle.base_writer.specs.declared.Plan.{Plan}
 
 -- a list of sized items; the empty one where there are no bytes
@@ -63,8 +63,8 @@ lists_of t l x p = record {
   witnesses = join (witness_list (fix_count t.inputs) p.taken);
 }
 
-unfoldable pub bytes_of : ℕ → Lists → List ℕ
-bytes_of version x = tx_bytes version x.deps x.headers x.inputs x.outputs x.datas x.witnesses
+unfoldable pub base_bytes : ℕ → Lists → List ℕ
+base_bytes version x = tx_bytes version x.deps x.headers x.inputs x.outputs x.datas x.witnesses
 
 -- ---- what the functions inside promise one another
 
@@ -80,8 +80,8 @@ pub record Capped (z : Sizes) (x : Lists) : Type 0 where
 -- the sizes are those of the lists, and there is room for all
 pub record Fitting (z : Sizes) (x : Lists) (out : List ℕ) : Type 0 where
   pub sizes : Capped z x
-  pub low : total z ≤ 133116
-  pub room : total z ≤ length out
+  pub low : tx_len z ≤ 133116
+  pub room : tx_len z ≤ length out
 
 -- there is room for the last three
 abbrev pub BackFits : ℕ → Lists → List ℕ → Type 0

@@ -4,9 +4,9 @@
 ghost use Rattle.std.specs.Prelude.{◌≡◌, ◌-◌};
 ghost use Rattle.molecule.specs.Layout.{item_count};
 ghost use Rattle.molecule.specs.Write.{Put};
-ghost use Rattle.error.specs.Outcome.{fine};
-ghost use Rattle.base_writer.specs.Answer.{written, told};
-ghost use Rattle.base_writer.specs.Lists.{or_empty, bytes_of, Capped, Fitting, BackFits, front, back};
+ghost use Rattle.error.specs.Outcome.{fine, told};
+ghost use Rattle.transaction_writer.specs.Written.{written};
+ghost use Rattle.base_writer.specs.Lists.{or_empty, base_bytes, Capped, Fitting, BackFits, front, back};
 ghost use Rattle.base_writer.specs.Base.{lists_in, inputs_in, outputs_in, data_in, witnesses_in};
 
 use base_inputs::Inputs;
@@ -151,7 +151,7 @@ impl<'a> Base<'a> {
     #[tactic(auto, using(crate::proofs::PutLaws::back_fits))]
     fn put(&self, out: &mut [u8], z: Sizes) -> usize
         requires { Fitting z (lists_in self.now) out.old }
-        ensures { Put out.old 0 (bytes_of self.now.present.version (lists_in self.now)) out.new result }
+        ensures { Put out.old 0 (base_bytes self.now.present.version (lists_in self.now)) out.new result }
     {
         let at = self.put_front(out, z);
         self.put_back(out, at)
@@ -160,7 +160,7 @@ impl<'a> Base<'a> {
     // Writes the transaction to the start of out. Refused with 13, and out as it was, where it is over out or over 133,116 bytes.
     #[tactic(auto, using(crate::proofs::AnswerLaws::base_refused, crate::proofs::AnswerLaws::base_fits))]
     pub fn write(&self, out: &mut [u8]) -> Written
-        ensures { (told result, out.new) ≡ written (fine (bytes_of self.now.present.version (lists_in self.now))) out.old }
+        ensures { (told result, out.new) ≡ written (fine (base_bytes self.now.present.version (lists_in self.now))) out.old }
     {
         let z = self.sizes();
         if !z.fit(out.len()) {

@@ -8,7 +8,7 @@ use Rattle.words.proofs.WordLaws.{wrote}
 use Rattle.funding_cell.specs.declared.FundingRequest.{FundingRequest}
 use Rattle.funding_cell.specs.FundingCell.{build_funding_cell}
 use Rattle.udt_cells.specs.Change.{Built, udt_inputs_outputs}
-use Rattle.base_writer.specs.Answer.{written}
+use Rattle.transaction_writer.specs.Written.{written}
 use Rattle.funding_builder.specs.Base.{Lent, build_base}
 use Rattle.answer_words.specs.Answers.{cell_words, pick_words, count_words}
 

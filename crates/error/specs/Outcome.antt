@@ -1,6 +1,6 @@
 -- What a call answers: a value, or a refusal with its number and the numbers listed (docs/RULES.md, "The form each place takes"). Checks are written one after
 -- another in a `do` block.
-use Rattle.std.specs.Prelude.{ℕ, Bool, true, false, List, [], Result, Ok, Err}
+use Rattle.std.specs.Prelude.{ℕ, Bool, true, false, List, [], ◌++◌, length, drop, Result, Ok, Err}
 use Rattle.std.proofs.Math.Option.{Option, none, some}
 use Rattle.error.specs.declared.Refusal.{Refusal}
 use Rattle.error.specs.Refusal.{number, values}
@@ -47,6 +47,21 @@ abbrev pub leaves {ℓ} : {A : Type 0} {B : Type ℓ} → Outcome A → (A → B
 leaves (fine a) f b = f a
 leaves (refused n l) f b = b
 
+-- ---- a call that writes to the start of a lent buffer
+
+-- the buffer: it begins with these, and what is beyond them keeps its value
+abbrev pub put_first : List ℕ → List ℕ → List ℕ
+put_first xs out = xs ++ drop (length xs) out
+
+-- what is answered of what a call makes
+unfoldable pub answer_by : {M A : Type 0} → (M → A) → Outcome M → Outcome A
+answer_by f (fine m) = fine (f m)
+answer_by f (refused n l) = refused n l
+
+-- its answer, and the buffer after it, by what it makes
+abbrev pub putting : {M A : Type 0} → (M → A) → (M → List ℕ) → Outcome M → List ℕ → Outcome A × List ℕ
+putting answer bytes made out = (answer_by answer made, leaves made (λ m. put_first (bytes m) out) out)
+
 -- ---- what code answers
 
 abbrev pub refusal : {A : Type 0} → Refusal → Outcome A
@@ -56,3 +71,7 @@ refusal e = refused (number e) (values e)
 abbrev pub told_by : {T A : Type 0} → (T → A) → Result T Refusal → Outcome A
 told_by f (Ok x) = fine (f x)
 told_by f (Err e) = refusal e
+
+-- of a call that answers a number
+abbrev pub told : Result ℕ Refusal → Outcome ℕ
+told = told_by (λ n. n)

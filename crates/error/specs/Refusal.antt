@@ -62,7 +62,8 @@ answered (Err why) = number why
 unfoldable pub sentence : Refusal → List ℕ
 sentence Refusal.OurTransactionUnreadable = codes "our own transaction's bytes are no transaction"
 sentence Refusal.PeerTransactionUnreadable = codes "the peer's bytes are no transaction"
-sentence Refusal.LentBytesUnreadable = codes "a lent script, list, record, hash or table is unreadable, the records are not one for each added input, or there is no such list or item"
+sentence Refusal.LentBytesUnreadable =
+    codes "a lent script, list, record, hash or table is unreadable, the records are not one for each added input, or there is no such list or item"
 sentence Refusal.PeerFundingTxExceedsLimit = codes "the peer's transaction is over the size limit, or adds too many inputs, outputs or cell deps"
 sentence Refusal.InvalidPeerFundingTx = codes "the peer's funding transaction is invalid"
 sentence (Refusal.PeerInputUsesOurFundingLock index) = codes "an input that the peer added spends a cell under our own source lock"

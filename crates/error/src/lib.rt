@@ -1,4 +1,5 @@
-// Why a request is refused: the numbers 1 to 15, with the values that each carries, and its sentence for people.
+// Why a request is refused: a number for programs, the values that it carries, and its sentence for people. What goes case by case is written by
+// tools/refusals.py, from refusals.txt.
 #![tactic(auto, using(crate::proofs::Ways::ways), unfolding(crate::specs::Refusal::sentence, crate::specs::Refusal::number, crate::specs::Refusal::values, crate::specs::Refusal::answered))]
 
 ghost use Rattle.std.specs.Prelude.{◌≡◌, length, get_or, Some};

@@ -6,11 +6,10 @@ use Rattle.molecule.specs.Items.{join}
 use Rattle.molecule.specs.Layout.{items_of}
 use Rattle.molecule.specs.Molecule.{readable, option}
 use Rattle.transaction.specs.Ckb.{TokenCells, CellDep, CellDeps, Transaction}
-use Rattle.transaction.specs.Tx.{tx_at, raw_field}
+use Rattle.transaction.specs.Tx.{tx_at, raw_field, are_scripts}
 use Rattle.error.specs.Outcome.{Outcome, fine, check, ◌>>=◌, ◌>>◌}
 use Rattle.lists.specs.Lists.{is_empty}
 use Rattle.units.specs.Units.{Figures}
-use Rattle.rules.specs.Judge.{scripts}
 use Rattle.transaction_writer.specs.Written.{tx_bytes}
 use Rattle.funding_cell.specs.declared.FundingRequest.{FundingRequest}
 use Rattle.funding_cell.specs.FundingCell.{funding_cell}
@@ -119,6 +118,6 @@ build_base l request = do
   -- our transaction unreadable
   check 1 (readable (option Transaction) l.ours)
   -- a script or lent list unreadable
-  scripts l.lock l.udt l.source
+  check 3 (are_scripts l.lock l.udt l.source)
   lists l.cells l.udt_deps l.lock_dep l.extra_deps
   with_request l request

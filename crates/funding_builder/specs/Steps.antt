@@ -1,6 +1,6 @@
 -- What the functions inside promise one another; no public contract cites it.
 use Rattle.std.specs.Prelude.{◌≡◌, ℕ, ◌≤◌, ◌<◌, true, List, length}
-use Rattle.units.specs.Units.{shannon_count, token_count, Figures}
+use Rattle.units.specs.Units.{shannon_count, token_count}
 use Rattle.units.specs.declared.{Shannons.Shannons, Tokens.Tokens}
 use Rattle.molecule.specs.Molecule.{readable, option}
 use Rattle.transaction.specs.Ckb.{Script, CellDep, CellDeps, Transaction}
@@ -8,7 +8,6 @@ use Rattle.transaction.specs.Tx.{raw_field}
 use Rattle.list_writer.specs.ListWriter.{if_positive}
 use Rattle.cell_deps.specs.CellDeps.{cell_deps}
 use Rattle.cell_deps.specs.declared.DepLists.{DepLists}
-use Rattle.udt_cells.specs.Pick.{Pick}
 use Rattle.base_writer.specs.declared.Plan.{Plan}
 use Rattle.funding_builder.specs.Base.{Lent, change_capacity}
 
@@ -40,10 +39,3 @@ pub record Planned (p : Plan) (capacity : Shannons) (token : Tokens) (taken : �
   pub picked : p.taken ≡ taken
   pub left : p.change ≡ change
   pub back : shannon_count p.change_capacity ≡ change_capacity (token_count change) source udt
-
--- a funding cell and a pick by their figures
-abbrev pub cell_of : Shannons → Tokens → Figures
-cell_of capacity token = record { capacity = shannon_count capacity; token = token_count token }
-
-abbrev pub pick_of : ℕ → Tokens → Pick
-pick_of taken change = record { taken = taken; change = token_count change }

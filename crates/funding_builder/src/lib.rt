@@ -1,5 +1,5 @@
 // The base transaction of our own side: the funding cell, the tokens that we bring, and what the present transaction has already.
-#![tactic(auto, using(crate::proofs::Ways::ways), unfolding(crate::specs::Base::lists, crate::specs::Base::with_pick, crate::specs::Base::with_cell, crate::specs::Base::with_request, crate::specs::Base::build_base, base_writer::specs::Answer::in_room, base_writer::specs::Answer::leaves, error::specs::Outcome::check, error::specs::Outcome::check_with, error::specs::Refusal::number, error::specs::Refusal::values))]
+#![tactic(auto, using(crate::proofs::Ways::ways), unfolding(crate::specs::Base::lists, crate::specs::Base::with_pick, crate::specs::Base::with_cell, crate::specs::Base::with_request, crate::specs::Base::build_base, transaction_writer::specs::Written::in_room, error::specs::Outcome::answer_by, error::specs::Outcome::check, error::specs::Outcome::check_with, error::specs::Refusal::number, error::specs::Refusal::values))]
 
 mod assemble;
 
@@ -7,10 +7,12 @@ ghost use Rattle.std.specs.Prelude.{◌≡◌, true, ◌<◌};
 ghost use Rattle.units.specs.Units.{token_count};
 ghost use Rattle.molecule.specs.Molecule.{readable, option};
 ghost use Rattle.transaction.specs.Ckb.{CellDep, CellDeps};
-ghost use Rattle.error.specs.Outcome.{check};
-ghost use Rattle.base_writer.specs.Answer.{written, told};
+ghost use Rattle.error.specs.Outcome.{check, told};
+ghost use Rattle.transaction_writer.specs.Written.{written};
+ghost use Rattle.funding_cell.specs.FundingCell.{figures_of};
+ghost use Rattle.udt_cells.specs.Pick.{pick_of};
 ghost use Rattle.funding_builder.specs.Base.{lists, supplied, with_pick, with_cell, with_request, build_base};
-ghost use Rattle.funding_builder.specs.Lent.{lent_in, cell_in, pick_in};
+ghost use Rattle.funding_builder.specs.Lent.{lent_in};
 ghost use Rattle.funding_builder.specs.Steps.{Readable};
 
 use assemble::Assembly;
@@ -72,7 +74,7 @@ impl<'a> Lent<'a> {
     // Assembles the base transaction behind the pick; 11 where tokens were picked and deps are missing.
     fn with_pick(&self, cell: FundingCell, picked: Picked, out: &mut [u8]) -> Written
         requires { Readable (lent_in self.now) }
-        ensures { (told result, out.new) ≡ written (with_pick (lent_in self.now) (cell_in cell) (pick_in picked)) out.old }
+        ensures { (told result, out.new) ≡ written (with_pick (lent_in self.now) (figures_of cell) (pick_of picked)) out.old }
     {
         if !is_supplied(picked.taken, self.udt_deps) {
             return Err(Refusal::MissingCellDep);
@@ -91,7 +93,7 @@ impl<'a> Lent<'a> {
     // Picks token cells for the wanted amount, and writes the base transaction.
     fn with_cell(&self, cell: FundingCell, wanted: Tokens, out: &mut [u8]) -> Written
         requires { Readable (lent_in self.now) }
-        ensures { (told result, out.new) ≡ written (with_cell (lent_in self.now) (cell_in cell) (token_count wanted)) out.old }
+        ensures { (told result, out.new) ≡ written (with_cell (lent_in self.now) (figures_of cell) (token_count wanted)) out.old }
     {
         let picked = udt_cells::pick_typed(self.cells, self.udt, wanted)?;
         self.with_pick(cell, picked, out)

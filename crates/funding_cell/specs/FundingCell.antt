@@ -1,22 +1,21 @@
 -- The funding cell's figures (docs/RULES.md, "Our own side"): "Funding cell, untyped: local amount plus local reserve, each figure below 2^64, and, if the
 -- present transaction has outputs, remote amount plus remote reserve. Unfunded, the remote figures are unread. Typed: amounts sum in 128 bits as data,
 -- reserves sum as capacity."
-use Rattle.std.specs.Prelude.{ℕ, ◌+◌, ◌^◌, Bool, true, false, not, cond, List, ltb, Option, Result}
+use Rattle.std.specs.Prelude.{ℕ, ◌+◌, ◌^◌, Bool, true, false, not, cond, List, ltb, Option}
 use Rattle.std.specs.Option.{option_map}
 use Rattle.arithmetic.specs.Amount.{sum}
 use Rattle.units.specs.declared.Shannons.{Shannons}
-use Rattle.error.specs.declared.Refusal.{Refusal}
 use Rattle.units.specs.Units.{in_shannons, shannon_count, token_count, Figures}
 use Rattle.molecule.specs.Molecule.{readable, option}
 use Rattle.transaction.specs.Ckb.{Script}
-use Rattle.error.specs.Outcome.{Outcome, fine, check, given, ◌>>=◌, ◌>>◌, told_by}
+use Rattle.error.specs.Outcome.{Outcome, fine, check, given, ◌>>=◌, ◌>>◌}
 use Rattle.transaction.specs.Tx.{read_ours}
 use Rattle.lists.specs.Lists.{is_empty}
 use Rattle.funding_cell.specs.declared.{FundingRequest.FundingRequest, FundingCell.FundingCell}
 
--- the figures of an answer in numbers
-abbrev pub told : Result FundingCell Refusal → Outcome Figures
-told = told_by (λ c. record { capacity = shannon_count c.capacity; token = token_count c.token })
+-- in numbers
+abbrev pub figures_of : FundingCell → Figures
+figures_of c = record { capacity = shannon_count c.capacity; token = token_count c.token }
 
 -- a figure or sum too wide is 7 (where a sum is below 2^64, so is each figure)
 unfoldable pub cell_of : ℕ → ℕ → Outcome Figures

@@ -3,7 +3,8 @@
 
 ghost use Rattle.std.specs.Prelude.{◌≡◌, true, false};
 ghost use Rattle.units.specs.Units.{shannon_count, token_count};
-ghost use Rattle.funding_cell.specs.FundingCell.{told, counted, reserves, cell_of, funding_cell, build_funding_cell};
+ghost use Rattle.error.specs.Outcome.{told_by};
+ghost use Rattle.funding_cell.specs.FundingCell.{figures_of, counted, reserves, cell_of, funding_cell, build_funding_cell};
 
 use error::Refusal;
 use transaction::fields;
@@ -42,7 +43,7 @@ fn counted(funded: bool, request: FundingRequest) -> FundingRequest
 
 // A cell of so many shannons and tokens, if its capacity is a number of 64 bits.
 fn cell_of(capacity: Shannons, token: Tokens) -> Result<FundingCell, Refusal>
-    ensures { told result ≡ cell_of (shannon_count capacity) (token_count token) }
+    ensures { told_by figures_of result ≡ cell_of (shannon_count capacity) (token_count token) }
 {
     if capacity > Shannons::from(u64::MAX) {
         return Err(Refusal::OverflowError);
@@ -61,7 +62,7 @@ fn reserves(request: FundingRequest) -> Option<Shannons>
 
 // The cell where all figures of the request count. Typed, the reserves are its capacity, and amounts are tokens.
 fn typed_cell(request: FundingRequest) -> Result<FundingCell, Refusal>
-    ensures { told result ≡ funding_cell true true request }
+    ensures { told_by figures_of result ≡ funding_cell true true request }
 {
     let capacity = reserves(request).ok_or(Refusal::OverflowError)?;
     let token = Tokens(request.local_amount)
@@ -72,7 +73,7 @@ fn typed_cell(request: FundingRequest) -> Result<FundingCell, Refusal>
 
 // Untyped, amounts are capacity too.
 fn untyped_cell(request: FundingRequest) -> Result<FundingCell, Refusal>
-    ensures { told result ≡ funding_cell true false request }
+    ensures { told_by figures_of result ≡ funding_cell true false request }
 {
     let reserved = reserves(request).ok_or(Refusal::OverflowError)?;
     let amounts = Shannons(request.local_amount)
@@ -88,7 +89,7 @@ pub fn funding_cell(
     typed: bool,
     request: FundingRequest,
 ) -> Result<FundingCell, Refusal>
-    ensures { told result ≡ funding_cell funded typed request }
+    ensures { told_by figures_of result ≡ funding_cell funded typed request }
 {
     let figures = counted(funded, request);
     if typed {
@@ -104,7 +105,7 @@ pub fn build_funding_cell(
     udt: &[u8],
     request: FundingRequest,
 ) -> Result<FundingCell, Refusal>
-    ensures { told result ≡ build_funding_cell ours.now udt.now request }
+    ensures { told_by figures_of result ≡ build_funding_cell ours.now udt.now request }
 {
     if !transaction::is_optional_transaction(ours) {
         return Err(Refusal::OurTransactionUnreadable);

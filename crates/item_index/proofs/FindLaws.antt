@@ -13,7 +13,7 @@ use Rattle.std.proofs.lemmas.List.{get_or-take}
 use Rattle.std.specs.Option.{option_eq}
 use Rattle.std.specs.Prelude.{nat_eq, Some, None, unwrap_or}
 use Rattle.std.specs.declared.cmp.Ordering.{Ordering}
-use Rattle.std.specs.Ordering.{is_lt}
+use Rattle.std.specs.Ordering.{is_lt, ordering_index}
 use Rattle.std.specs.List.{position, position_or_len}
 use Rattle.std.specs.Borrow.{Bor}
 use Rattle.std.specs.Fn.{Mut, Called, ComputesKey}
@@ -27,7 +27,7 @@ use Rattle.lists.proofs.LoopLaws.{at_place}
 use Rattle.lists.proofs.EqualLaws.{not_so, eq_refl, eq_true}
 use Rattle.item_index.specs.Order.{is_before, order_of}
 use Rattle.item_index.specs.Index.{Stands, Index, place_in}
-use Rattle.item_index.proofs.OrderLaws.{three, before_not, before-later, before_earlier, before_differs, before_other, order_less, order-more, order_same}
+use Rattle.item_index.proofs.OrderLaws.{three, before_not, after_is, after_trans, before-later, before_earlier, before_differs, before_other, order_less, order-more, order_same}
 use Rattle.item_index.proofs.ComesLaws.{item_late, not_first}
 use Rattle.item_index.proofs.MergeLaws.{rises_same, rises_on}
 
@@ -107,6 +107,20 @@ lt_is x y = by (is_before x y) (is_before y x)
     by true c = refl
     by false true = refl
     by false false = refl
+
+-- of y, and z that does not come before it
+pub ranked : (y z x : List ℕ) → is_before z y ≡ false → ordering_index (order_of y x) ≤ ordering_index (order_of z x)
+unfolding order_of
+ranked y z x h = by (is_before y x) refl (is_before x y) refl
+  where
+    more : is_before z x ≡ false → (c : Bool) → 1 ≤ ordering_index (cond false Ordering.Less (cond c Ordering.Greater Ordering.Equal))
+    more e true = omega arith
+    more e false = omega arith
+
+    by : (b : Bool) → is_before y x ≡ b → (c : Bool) → is_before x y ≡ c → ordering_index (cond b Ordering.Less (cond c Ordering.Greater Ordering.Equal)) ≤ ordering_index (order_of z x)
+    by true e c w = omega arith
+    by false e true w = rw (← after_is z x (before_earlier x y z w h)) (omega arith)
+    by false e false w = let t : is_before z x ≡ false = after_trans x y z e h in rw t (more t (is_before x z))
 
 module _ (f : ℕ → List ℕ) (s x : List ℕ) (o : Index f (length s) s) where
   pub parted : IsPartitionedBy (λ p. is_lt (order_of (f p) x)) s

@@ -1,10 +1,10 @@
 -- Where the items of a list of a transaction stand (ours: docs/DECISIONS.md, "The C interface", "Reading by number").
 use Rattle.std.specs.Prelude.{◌≡◌, ℕ, ◌+◌, ◌*◌, ◌≤◌}
-use mathlib.Core.List.{List, [], ◌∷◌, ◌++◌, flatten}
-use lib.{Dec.leb, ListN.length, ListN.drop}
+use mathlib.Core.List.{List, [], ◌∷◌, flatten}
+use lib.{Dec.leb, ListN.length}
 use Rattle.molecule.specs.Layout.{span, part, part_start, field_of, field_start, fix_item, fix_start, item_of, item_start, entry_of, entry_start}
 use Rattle.transaction.specs.Tx.{raw_field, raw_start}
-use Rattle.error.specs.Outcome.{Outcome, fine, refused, check, ◌>>=◌, ◌>>◌}
+use Rattle.error.specs.Outcome.{Outcome, fine, check, ◌>>=◌, ◌>>◌, putting}
 use Rattle.transaction_lists.specs.Lists.{item_in, place_in}
 use Rattle.transaction_lists.specs.Found.{count_found}
 use Rattle.item_places.specs.declared.Place.{Place}
@@ -59,7 +59,6 @@ places_found tx list room = do
   check 13 (leb (2 * n) room)
   fine (places_of tx list n)
 
--- how many items there are, and the buffer: it begins with their words, and what is beyond keeps its value; after a refusal all is as it was
-unfoldable pub listed : Outcome (List (List ℕ)) → List ℕ → Outcome ℕ × List ℕ
-listed (fine ps) out = (fine (length ps), flatten ps ++ drop (length (flatten ps)) out)
-listed (refused n l) out = (refused n l, out)
+-- a call that lists these places: how many there are, and the buffer after it
+abbrev pub listed : Outcome (List (List ℕ)) → List ℕ → Outcome ℕ × List ℕ
+listed found out = putting length flatten found out

@@ -6,7 +6,7 @@ ghost use mathlib.Core.List.{flatten};
 ghost use Rattle.molecule.specs.Write.{splice};
 ghost use Rattle.transaction_lists.specs.Kinds.{number_of};
 ghost use Rattle.transaction_lists.specs.Lists.{list_in};
-ghost use Rattle.transaction_lists.specs.Found.{told};
+ghost use Rattle.error.specs.Outcome.{told};
 ghost use Rattle.item_places.specs.Places.{onward, places_of, places_found, listed};
 ghost use Rattle.item_places.specs.Places.{PartAt, FieldAt, FixAt, ItemAt, EntryAt, RawAt, AnItemIn};
 

@@ -1,6 +1,6 @@
 -- Every row is what the definitions compute.
 use mathlib.Core.Path.{refl}
-use Rattle.udt_cells.specs.Change.{put_first, with_change, lent, unless_refused, udt_inputs_outputs}
+use Rattle.udt_cells.specs.Change.{with_output, with_change, lent, udt_made, udt_inputs_outputs}
 use Rattle.known_cases.specs.Rows.{AllRight}
 use Rattle.known_cases.proofs.Rows.{◌and◌, done}
 use Rattle.known_bases.specs.Picks.{picks, sizes, changes}
@@ -15,5 +15,5 @@ unfolding computing
 known_sizes = refl and done
 
 pub known_changes : AllRight changes
-unfolding computing put_first with_change lent unless_refused udt_inputs_outputs
+unfolding computing with_output with_change lent udt_made udt_inputs_outputs
 known_changes = refl and refl and refl and refl and refl and refl and refl and refl and done

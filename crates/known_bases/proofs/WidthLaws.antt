@@ -16,15 +16,14 @@ use Rattle.molecule.proofs.ItemsLaws.{length-join}
 use Rattle.molecule.proofs.MoleculeLaws.{decode-encode}
 use Rattle.molecule.proofs.Valid.{fixed, has_bytes, valid}
 use Rattle.transaction.specs.Ckb.{Byte32, Bytes, Script}
-use Rattle.error.specs.Outcome.{Outcome, fine, refused, check, check_with, ◌>>=◌, ◌>>◌}
+use Rattle.error.specs.Outcome.{Outcome, fine, refused, answer_by, check, check_with, ◌>>=◌, ◌>>◌}
 use Rattle.units.specs.Units.{Figures}
 use Rattle.cell_output.specs.CellOutput.{cell_output}
 use Rattle.cell_output.proofs.CellOutputLaws.{output-length}
 use Rattle.list_writer.specs.ListWriter.{fix_list}
-use Rattle.transaction_writer.specs.Written.{fits}
+use Rattle.transaction_writer.specs.Written.{fits, in_room, written}
 use Rattle.transaction_writer.proofs.PutLaws.{tx_length}
 use Rattle.udt_cells.specs.Pick.{Pick}
-use Rattle.base_writer.specs.Answer.{in_room, leaves, written}
 use Rattle.funding_builder.specs.Base.{Packed, packed, base_tx, build_base}
 use Rattle.known_cases.specs.Cases.{our_lock, room}
 use Rattle.known_bases.specs.Bases.{request, scripts, wide_lock, numbers, answer, buffer}
@@ -121,11 +120,11 @@ module _ (lock : List ℕ) where
 
     module _ (out : List ℕ) where
       too_wide : 133116 < 197 + length lock → written (build_base (scripts lock [] our_lock) (request 5)) out ≡ (refused 13 [], out)
-      unfolding in_room leaves fits check check_with ◌>>=◌ ◌>>◌
+      unfolding in_room answer_by fits check check_with ◌>>=◌ ◌>>◌
       too_wide h = rw (base_is, base_length, lt-leb (197 + length lock) 133116 h)
 
       wide_enough : 197 + length lock ≤ 133116 → 197 + length lock ≤ length out → written (build_base (scripts lock [] our_lock) (request 5)) out ≡ (fine (197 + length lock), packed under ++ drop (197 + length lock) out)
-      unfolding in_room leaves fits check check_with ◌>>=◌ ◌>>◌
+      unfolding in_room answer_by fits check check_with ◌>>=◌ ◌>>◌
       wide_enough h k = rw (base_is, base_length, le-leb (197 + length lock) 133116 h, le-leb (197 + length lock) (length out) k, base_length)
 
 -- ---- the widest that is written, and a byte more

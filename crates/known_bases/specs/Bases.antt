@@ -8,7 +8,7 @@ use Rattle.molecule.specs.Molecule.{Value, encode}
 use Rattle.transaction.specs.Ckb.{Script, CellDep, CellDeps, CellInput, TokenCell, TokenCells}
 use Rattle.error.specs.Outcome.{Outcome, fine, refused}
 use Rattle.funding_cell.specs.declared.{FundingRequest.FundingRequest}
-use Rattle.base_writer.specs.Answer.{written}
+use Rattle.transaction_writer.specs.Written.{written}
 use Rattle.funding_builder.specs.Base.{Lent, build_base}
 use Rattle.known_cases.specs.Rows.{Row, ◌gives◌}
 use Rattle.known_cases.specs.Cases.{plain_script, expected_lock, our_lock, token_type, input, inputs, dep, header, output, plain, token, amount, room, transaction, spending}

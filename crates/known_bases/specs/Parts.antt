@@ -1,18 +1,17 @@
 -- The other calls of our own side, and the writers of a transaction, worked through: lent bytes that reach each of their refusals, and what then stands in the buffer. What they do when they
 -- are not refused is among the known outcomes (crates/known_outcomes), but for figures of the funding cell on which wrong rules answer otherwise. proofs/KnownParts.antt proves all rows at once.
-use Rattle.std.specs.Prelude.{ℕ, ◌-◌, ◌^◌, List, [], ◌∷◌, ◌++◌, replicate, Result, Ok, Err}
+use Rattle.std.specs.Prelude.{ℕ, ◌-◌, ◌^◌, List, [], ◌∷◌, ◌++◌, replicate}
 use Rattle.units.specs.Units.{in_shannons}
-use Rattle.error.specs.declared.{Refusal.Refusal}
-use Rattle.error.specs.Refusal.{number}
 use Rattle.molecule.specs.Molecule.{Value, encode, readable}
 use Rattle.transaction.specs.Ckb.{TokenCell, TokenCells, Transaction}
 use Rattle.error.specs.Outcome.{Outcome, fine, refused}
 use Rattle.funding_cell.specs.declared.{FundingRequest.FundingRequest}
 use Rattle.funding_cell.specs.FundingCell.{build_funding_cell}
 use Rattle.udt_cells.specs.Change.{Built, udt_inputs_outputs}
-use Rattle.transaction_writer.specs.Written.{tx_bytes, in_form, writes, leaves}
+use Rattle.transaction_writer.specs.Written.{tx_bytes, in_form, bytes_if, written}
 use Rattle.known_cases.specs.Rows.{Row, ◌gives◌}
 use Rattle.known_cases.specs.Cases.{our_lock, token_type, plain, amount, room, spending, bare, usual, numbers}
+use Rattle.known_bases.specs.Bases as bases
 use Rattle.known_bases.specs.Bases.{token_cell, three_cells, no_list}
 
 -- ---- the funding cell
@@ -54,9 +53,11 @@ cell_list l = encode TokenCells l
 
 -- ---- writing
 
-abbrev written_numbers : Result ℕ Refusal → List ℕ
-written_numbers (Ok n) = 0 ∷ n ∷ []
-written_numbers (Err why) = number why ∷ []
+-- the number, and how many bytes are written; and the buffer
+abbrev wrote : Outcome (List ℕ) → ℕ → List ℕ
+wrote bytes n =
+    let r = written bytes (room n) in
+    bases.numbers r.0 ++ r.1
 
 -- a transaction of empty lists, one of them in another form, written from its fields; and one read and written again
 abbrev none4 : List ℕ
@@ -66,12 +67,10 @@ abbrev no_items : List ℕ
 no_items = 4 ∷ 0 ∷ 0 ∷ 0 ∷ []
 
 abbrev write : List ℕ → ℕ → List ℕ
-write witnesses n =
-    written_numbers (writes (in_form none4 none4 none4 no_items no_items witnesses) Refusal.LentBytesUnreadable (tx_bytes 0 none4 none4 none4 no_items no_items witnesses) (room n))
-    ++ leaves (in_form none4 none4 none4 no_items no_items witnesses) (tx_bytes 0 none4 none4 none4 no_items no_items witnesses) (room n)
+write witnesses n = wrote (bytes_if 3 (in_form none4 none4 none4 no_items no_items witnesses) (tx_bytes 0 none4 none4 none4 no_items no_items witnesses)) n
 
 abbrev rewrite : List ℕ → ℕ → List ℕ
-rewrite s n = written_numbers (writes (readable Transaction s) Refusal.OurTransactionUnreadable s (room n)) ++ leaves (readable Transaction s) s (room n)
+rewrite s n = wrote (bytes_if 1 (readable Transaction s) s) n
 
 abbrev empty_tx : List ℕ
 empty_tx = tx_bytes 0 none4 none4 none4 no_items no_items no_items

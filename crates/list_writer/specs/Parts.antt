@@ -5,15 +5,15 @@ use Rattle.list_writer.specs.ListWriter.{joined}
 use Rattle.list_writer.specs.Around.{around, list_size, head_of}
 
 -- its length and its header, by lengths
-abbrev pub total : Lengths → ℕ
-total l = list_size l.first l.items.list.now l.items.count l.last
+abbrev pub list_len : Lengths → ℕ
+list_len l = list_size l.first l.items.list.now l.items.count l.last
 
 abbrev pub head_in : Lengths → List ℕ
 head_in l = head_of l.first l.items.list.now l.items.count l.last
 
 -- the list in bytes, and its length
-abbrev pub bytes_of : Parts → List ℕ
-bytes_of p = around (joined p.first.now) p.items.list.now p.items.count (joined p.last.now)
+abbrev pub list_bytes : Parts → List ℕ
+list_bytes p = around (joined p.first.now) p.items.list.now p.items.count (joined p.last.now)
 
 abbrev pub size_of : Parts → ℕ
 size_of p = list_size (length (joined p.first.now)) p.items.list.now p.items.count (length (joined p.last.now))

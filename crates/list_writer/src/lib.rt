@@ -9,7 +9,7 @@ ghost use Rattle.molecule.specs.Items.{unwords};
 ghost use Rattle.molecule.specs.Write.{put_at, put_end, Put};
 ghost use Rattle.list_writer.specs.ListWriter.{joined, item_or, later, if_positive, put_list, put_list_end};
 ghost use Rattle.list_writer.specs.Around.{head_size, places, fits_at, Room};
-ghost use Rattle.list_writer.specs.Parts.{total, head_in, bytes_of, size_of, lengths_of};
+ghost use Rattle.list_writer.specs.Parts.{list_len, head_in, list_bytes, size_of, lengths_of};
 
 use molecule::write;
 
@@ -175,7 +175,7 @@ pub struct Lengths<'a> {
 impl Lengths<'_> {
     // How long the list is. More items than a transaction has places for are not looked at.
     pub fn total(self) -> usize
-        ensures { result ≡ min (total self.entry) 133117 }
+        ensures { result ≡ min (list_len self.entry) 133117 }
     {
         if self.items.count > MAX_BYTES / 4 {
             return MAX_BYTES + 1;
@@ -188,7 +188,7 @@ impl Lengths<'_> {
     // Puts its header.
     #[tactic(auto, using(molecule::proofs::WriteLaws::end_yes, crate::proofs::JoinLaws::word_lengths))]
     fn put_head(self, out: &mut [u8], at: usize) -> usize
-        requires { Room out.old at (total self) }
+        requires { Room out.old at (list_len self) }
         ensures put { Put out.old at (head_in self.entry) out.new result }
         ensures value { result ≡ at + head_size self.entry.items.count self.entry.last }
     {
@@ -224,7 +224,7 @@ impl<'a> Parts<'a> {
     #[tactic(auto, using(molecule::proofs::WriteLaws::end_yes))]
     fn put_whole(self, out: &mut [u8], at: usize) -> usize
         requires { Room out.old at (size_of self) }
-        ensures { Put out.old at (bytes_of self.entry) out.new result }
+        ensures { Put out.old at (list_bytes self.entry) out.new result }
     {
         let at = self.lengths().put_head(out, at);
         let at = put_all(out, at, self.first);
@@ -234,8 +234,8 @@ impl<'a> Parts<'a> {
 
     // Puts the list. Where it does not fit a transaction and the buffer nothing is written, and the place that is answered is the one that was given.
     pub fn put(self, out: &mut [u8], at: usize) -> usize
-        ensures out_after { out.new ≡ put_list out.old at (bytes_of self.entry) }
-        ensures value { result ≡ put_list_end out.old at (bytes_of self.entry) }
+        ensures out_after { out.new ≡ put_list out.old at (list_bytes self.entry) }
+        ensures value { result ≡ put_list_end out.old at (list_bytes self.entry) }
     {
         if !fits(self.lengths().total(), at, out.len()) {
             return at;

@@ -1,12 +1,11 @@
 -- What a transaction is asked for by number, and why it is refused (ours: docs/DECISIONS.md, "The C interface", "Reading by number"; the numbers are those of the table in
 -- docs/RULES.md, "A peer's update arrives": 1 "our bytes unreadable", 3 for what is lent and is not in its form).
-use Rattle.std.specs.Prelude.{ℕ, List, Result}
-use Rattle.error.specs.declared.Refusal.{Refusal}
+use Rattle.std.specs.Prelude.{ℕ, List}
 use lib.{Dec.ltb, ListN.length}
 use Rattle.molecule.specs.Molecule.{readable}
 use Rattle.transaction.specs.Ckb.{Transaction}
 use Rattle.transaction.specs.Tx.{tx_at}
-use Rattle.error.specs.Outcome.{Outcome, fine, check, ◌>>◌, told_by}
+use Rattle.error.specs.Outcome.{Outcome, fine, check, ◌>>◌}
 use Rattle.transaction_lists.specs.Lists.{list_in}
 
 unfoldable pub version_found : List ℕ → Outcome ℕ
@@ -23,7 +22,3 @@ count_found tx list = do
   -- no such list
   check 3 (ltb list 6)
   fine (length (list_in tx list))
-
--- the number and figures of each answer
-abbrev pub told : Result ℕ Refusal → Outcome ℕ
-told = told_by (λ n. n)

@@ -5,9 +5,10 @@ ghost use Rattle.std.specs.Prelude.{◌≡◌, true, length};
 ghost use Rattle.molecule.specs.Layout.{inside};
 ghost use Rattle.molecule.specs.Molecule.{readable};
 ghost use Rattle.transaction.specs.Ckb.{Transaction};
+ghost use Rattle.error.specs.Outcome.{told};
 ghost use Rattle.transaction_lists.specs.Kinds.{number_of, Decodes};
 ghost use Rattle.transaction_lists.specs.Lists.{list_in, item_in, place_in};
-ghost use Rattle.transaction_lists.specs.Found.{told, version_found, count_found};
+ghost use Rattle.transaction_lists.specs.Found.{version_found, count_found};
 
 use error::Refusal;
 use reader::lists as reading;

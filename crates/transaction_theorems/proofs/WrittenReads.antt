@@ -1,7 +1,7 @@
 -- The bytes that `write_transaction` writes are a transaction with exactly the given fields: they are readable (`written-readable`), each field
 -- reads back as it was given (`written_fields`), and they are the schema's encoding of the fields' values (`written-encodes`).
--- `fits_reads` says the first two where the bytes fit, `wrote_reads` where the answer is `Ok`, and `wrote_bytes` that the buffer then holds them.
-use mathlib.Core.Path.{◌≡◌, refl, ap, ◌∙◌}
+-- `fits_reads` says the first two where the bytes fit, `wrote_reads` where the call answers how many they are, and `wrote_bytes` that the buffer then holds them.
+use mathlib.Core.Path.{◌≡◌, refl, sym, ap, ◌∙◌}
 use Prim.Native.Nat.{ℕ, ◌^◌, ◌<◌, ◌≤◌}
 use mathlib.Core.Bool.{Bool, true, false, and-eq-true_iff}
 use mathlib.Core.List.{List, [], ◌∷◌}
@@ -13,8 +13,8 @@ use lib.ListN.{length, take}
 use lib.Seq.{take_at, take_all}
 use Rattle.arithmetic.specs.LittleEndian.{le, to_le, AllBytes, u32_at}
 use Rattle.arithmetic.proofs.LittleEndianLaws.{length-to_le, le-to_le, num_some}
-use Rattle.error.specs.declared.Refusal.{Refusal}
-use Rattle.molecule.specs.Partial.{pick}
+use Rattle.error.specs.Outcome.{Outcome, fine, answer_by, check, check_with, ◌>>=◌, ◌>>◌}
+use Rattle.error.proofs.Passed.{never, fine_inj}
 use Rattle.molecule.specs.Items.{split}
 use Rattle.molecule.specs.Layout.{span, field_of}
 use Rattle.molecule.specs.Molecule.{fixvec, dynvec, Value, size, encode, decode, readable}
@@ -25,8 +25,7 @@ use Rattle.molecule.proofs.MoleculeLaws.{encode-decode}
 use Rattle.molecule.proofs.DecodedLaws.{split_fields, encode-array-byte}
 use Rattle.transaction.specs.Ckb.{Uint32, Byte32, Bytes, CellInput, CellDep, CellOutput, RawTransaction, Transaction}
 use Rattle.transaction.specs.Tx.{raw_field, witnesses_of, tx_at}
-use Rattle.std.specs.Prelude.{Result, Ok, Err}
-use Rattle.transaction_writer.specs.Written.{raw_bytes, tx_bytes, in_form, fits, writes, leaves}
+use Rattle.transaction_writer.specs.Written.{raw_bytes, tx_bytes, in_form, fits, bytes_if, in_room, written}
 use Rattle.transaction_writer.proofs.PutLaws.{raw_length, tx_length}
 
 -- what the bytes s say their fields are: the version, and each list in its list form
@@ -45,14 +44,16 @@ read_word v h =
     let l = length-to_le 4 v in
     num_some 4 (to_le 4 v) 0 (omega arith) ∙ ap le (take_all 4 (to_le 4 v) (omega arith)) ∙ le-to_le 4 v (omega arith)
 
--- only where both tests pass is the answer `Ok`, and then it is the length
-answered : (p q : Bool) (refusal : Refusal) (m n : ℕ)
-    → Ok n ≡ pick p (pick q (Ok m) (Err Refusal.BufferTooShort)) (Err refusal)
-    → (p ≡ true) × (q ≡ true) × (m ≡ n)
-unfolding pick
-answered true true refusal m n h = (refl, refl, cc)
-answered true false refusal m n h = let z : ◌≡◌ {A = ℕ} 0 1 = cc in absurd (omega arith)
-answered false q refusal m n h = let z : ◌≡◌ {A = ℕ} 0 1 = cc in absurd (omega arith)
+-- bytes that were written were right, and there was room
+wrote : (right : Bool) (bytes out : List ℕ) (number n : ℕ) → fine n ≡ (written (bytes_if number right bytes) out).0
+    → (right ≡ true) × (fits (length bytes) (length out) ≡ true) × (length bytes ≡ n)
+unfolding bytes_if in_room answer_by check check_with ◌>>=◌ ◌>>◌
+wrote true bytes out number n h = by (fits (length bytes) (length out)) refl
+  where
+    by : (b : Bool) → fits (length bytes) (length out) ≡ b → (true ≡ true) × (fits (length bytes) (length out) ≡ true) × (length bytes ≡ n)
+    by true e = (refl, e, sym (fine_inj (rw e at h)))
+    by false e = absurd (never 13 [] n (sym (rw e at h)))
+wrote false bytes out number n h = absurd (never number [] n (sym h))
 
 module _ (v : ℕ) (a b c d e w : List ℕ) where
   abbrev raw : List ℕ
@@ -118,18 +119,17 @@ module _ (v : ℕ) (a b c d e w : List ℕ) where
 
   -- ---- where `write_transaction` answers that it wrote n bytes
 
-  module _ (refusal : Refusal) (out : List ℕ) (n : ℕ) (h : Ok n ≡ writes (in_form a b c d e w) refusal (tx_bytes v a b c d e w) out) where
+  module _ (number : ℕ) (out after : List ℕ) (n : ℕ) (h : (fine n, after) ≡ written (bytes_if number (in_form a b c d e w) (tx_bytes v a b c d e w)) out) where
     passed : (in_form a b c d e w ≡ true) × (fits (length tx) (length out) ≡ true) × (length tx ≡ n)
-    unfolding writes
-    passed = answered _ _ refusal _ n h
+    passed = wrote (in_form a b c d e w) tx out number n (ap (λ (r : Outcome ℕ × List ℕ). r.0) h)
 
     pub wrote_reads : v < 2 ^ 32 → (readable Transaction (tx_bytes v a b c d e w) ≡ true) × HasFields (tx_bytes v a b c d e w) v a b c d e w
     wrote_reads low = fits_reads (length out) low passed.0 passed.1
 
     -- the first n bytes of the buffer are the transaction
-    pub wrote_bytes : take n (leaves (in_form a b c d e w) (tx_bytes v a b c d e w) out) ≡ tx_bytes v a b c d e w
-    unfolding leaves
-    wrote_bytes = rw (passed.0, passed.1) (take_at tx _ n passed.2)
+    pub wrote_bytes : take n after ≡ tx_bytes v a b c d e w
+    unfolding bytes_if in_room check check_with ◌>>=◌ ◌>>◌
+    wrote_bytes = let e : after ≡ (written (bytes_if number (in_form a b c d e w) tx) out).1 = ap (λ (r : Outcome ℕ × List ℕ). r.1) h in rw e (rw (passed.0, passed.1) (take_at tx _ n passed.2))
 
   -- ---- the schema's encoding
 

@@ -15,7 +15,7 @@ use Rattle.molecule.proofs.WriteLaws.{did, and_put, as_bytes}
 use Rattle.list_writer.proofs.SpanLaws.{unwords-append}
 use Rattle.transaction_writer.specs.declared.{TxFields.TxFields, Sizes.Sizes}
 use Rattle.transaction_writer.specs.Written.{raw_bytes, tx_bytes, tx_head, fits, put_head, head_end, tx_size}
-use Rattle.transaction_writer.specs.TxFields.{bytes_of, sizes_of, total}
+use Rattle.transaction_writer.specs.TxFields.{fields_bytes, sizes_of, tx_len}
 
 -- ---- the head
 
@@ -107,15 +107,15 @@ module _ (v : ℕ) (a b c d e : List ℕ) where
 module _ (f : TxFields) where
   fields_runs : tx_head f.version (length f.deps.now) (length f.headers.now) (length f.inputs.now) (length f.outputs.now) (length f.datas.now) (length f.witnesses.now)
       ++ (f.deps.now ++ (f.headers.now ++ (f.inputs.now ++ (f.outputs.now ++ (f.datas.now ++ (f.witnesses.now ++ []))))))
-      ≡ bytes_of f
+      ≡ fields_bytes f
   unfolding flatten
   fields_runs = rw (← head_runs f.version f.deps.now f.headers.now f.inputs.now f.outputs.now f.datas.now f.witnesses.now) (simp (append_assoc, append-nil))
 
-  pub put_fields : {z : Sizes} {out o₁ o₂ : List ℕ} {n₁ n₂ : ℕ} → z ≡ sizes_of f → (total (sizes_of f) ≤ length out) × (total (sizes_of f) ≤ 133116)
+  pub put_fields : {z : Sizes} {out o₁ o₂ : List ℕ} {n₁ n₂ : ℕ} → z ≡ sizes_of f → (tx_len (sizes_of f) ≤ length out) × (tx_len (sizes_of f) ≤ 133116)
       → o₁ ≡ put_head out f.version z.deps z.headers z.inputs z.outputs z.datas z.witnesses → n₁ ≡ head_end out z.deps z.headers z.inputs z.outputs z.datas z.witnesses
       → o₂ ≡ put_at o₁ n₁ (f.deps.now ++ (f.headers.now ++ (f.inputs.now ++ (f.outputs.now ++ (f.datas.now ++ (f.witnesses.now ++ []))))))
       → n₂ ≡ put_end o₁ n₁ (f.deps.now ++ (f.headers.now ++ (f.inputs.now ++ (f.outputs.now ++ (f.datas.now ++ (f.witnesses.now ++ []))))))
-      → Put out 0 (bytes_of f) o₂ n₂
+      → Put out 0 (fields_bytes f) o₂ n₂
   put_fields {out = out} ez h eh nh d k =
       let l = head_length f.version (length f.deps.now) (length f.headers.now) (length f.inputs.now) (length f.outputs.now) (length f.datas.now) (length f.witnesses.now) in
       let p = head_did f.version (length f.deps.now) (length f.headers.now) (length f.inputs.now) (length f.outputs.now) (length f.datas.now) (length f.witnesses.now) out h.1 h.0 (rw ez at eh) (rw ez at nh) in

@@ -3,15 +3,14 @@ use mathlib.Core.Path.{◌≡◌, sym, ap, ◌∙◌, subst}
 use Prim.Native.Nat.{ℕ}
 use mathlib.Core.Bool.{Bool, true, ◌&&◌, and-eq-true_iff}
 use mathlib.Core.List.{List}
-use Rattle.std.specs.Prelude.{Result}
 use native.Mathlib.Omega.{arith}
 use borrow.Author.Tests.{eqb-true}
 use lib.ListN.{length}
 use lib.Seq.{take_all}
 use Rattle.arithmetic.specs.LittleEndian.{le, to_le, AllBytes, u32_at}
 use Rattle.arithmetic.proofs.LittleEndianLaws.{to_le-le, num_some}
-use Rattle.error.specs.declared.Refusal.{Refusal}
-use Rattle.molecule.specs.Partial.{All, pick}
+use Rattle.error.specs.Outcome.{Outcome, check, check_with, ◌>>◌}
+use Rattle.molecule.specs.Partial.{All}
 use Rattle.molecule.specs.Items.{join}
 use Rattle.molecule.specs.Molecule.{fixvec, dynvec, table, Fields, end, ◌&◌, size, readable}
 use Rattle.molecule.proofs.Valid.{fixed}
@@ -22,8 +21,8 @@ use Rattle.molecule.proofs.HeaderLaws.{count, split_n, table-readable}
 use Rattle.transaction.specs.Ckb.{Uint32, Byte32, Bytes, CellInput, CellDep, CellOutput, RawTransaction, Transaction}
 use Rattle.transaction.specs.Tx.{raw_field, witnesses_of, tx_at}
 use Rattle.transaction_writer.specs.declared.TxFields.{TxFields}
-use Rattle.transaction_writer.specs.Written.{raw_bytes, tx_bytes, in_form, writes, leaves}
-use Rattle.transaction_writer.specs.TxFields.{AreTxFields, bytes_of, are_in_form}
+use Rattle.transaction_writer.specs.Written.{raw_bytes, tx_bytes, in_form, bytes_if, written}
+use Rattle.transaction_writer.specs.TxFields.{AreTxFields, fields_bytes, are_in_form}
 
 -- ---- a readable table is its fields joined
 
@@ -103,15 +102,13 @@ module _ (s out : List ℕ) {r : Bool} {f : TxFields} (q : r ≡ readable Transa
   good : readable Transaction s ≡ true
   good = sym q ∙ n
 
-  same_bytes : bytes_of f ≡ s
+  same_bytes : fields_bytes f ≡ s
   same_bytes = rw (e.version, e.deps, e.headers, e.inputs, e.outputs, e.datas, e.witnesses) (written_again s good bytes)
 
   same_form : are_in_form f ≡ true
   same_form = rw (e.deps, e.headers, e.inputs, e.outputs, e.datas, e.witnesses) (lists_in_form s good)
 
-  pub rewrote : {x : Result ℕ Refusal} → x ≡ writes (are_in_form f) Refusal.LentBytesUnreadable (bytes_of f) out → x ≡ writes (readable Transaction s) Refusal.OurTransactionUnreadable s out
-  unfolding writes pick
+  pub rewrote : {x : Outcome ℕ} {after : List ℕ} → (x, after) ≡ written (bytes_if 3 (are_in_form f) (fields_bytes f)) out
+      → (x, after) ≡ written (bytes_if 1 (readable Transaction s) s) out
+  unfolding bytes_if check check_with ◌>>◌
   rewrote h = h ∙ rw (same_form, same_bytes, good)
-
-  pub rewrote_leaves : {after : List ℕ} → after ≡ leaves (are_in_form f) (bytes_of f) out → after ≡ leaves (readable Transaction s) s out
-  rewrote_leaves h = h ∙ rw (same_form, same_bytes, good)

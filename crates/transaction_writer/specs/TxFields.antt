@@ -14,8 +14,9 @@ pub record AreTxFields (f : TxFields) (s : List ℕ) : Type 0 where
   pub datas : f.datas.now ≡ raw_field s 5
   pub witnesses : f.witnesses.now ≡ witnesses_of s
 
-abbrev pub bytes_of : TxFields → List ℕ
-bytes_of f = tx_bytes f.version f.deps.now f.headers.now f.inputs.now f.outputs.now f.datas.now f.witnesses.now
+-- the transaction in bytes
+abbrev pub fields_bytes : TxFields → List ℕ
+fields_bytes f = tx_bytes f.version f.deps.now f.headers.now f.inputs.now f.outputs.now f.datas.now f.witnesses.now
 
 -- each list is in its form
 abbrev pub are_in_form : TxFields → Bool
@@ -32,5 +33,5 @@ sizes_of f = record {
 }
 
 -- how long a transaction with lists of these lengths is
-abbrev pub total : Sizes → ℕ
-total z = 44 + z.deps + z.headers + z.inputs + z.outputs + z.datas + z.witnesses
+abbrev pub tx_len : Sizes → ℕ
+tx_len z = 44 + z.deps + z.headers + z.inputs + z.outputs + z.datas + z.witnesses

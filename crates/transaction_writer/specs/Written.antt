@@ -1,11 +1,11 @@
--- Writing a transaction from its fields (RFC 0019): the version, and each list in its list form; and what a call that writes answers and leaves
--- in the lent buffer (docs/RULES.md: 3 for a list that is not in its form, 13 over the lent buffer or 133,116 bytes).
-use Rattle.std.specs.Prelude.{ℕ, ◌+◌, Bool, ◌&&◌, cond, List, [], ◌∷◌, ◌++◌, length, drop, leb, Result, Ok, Err}
+-- Writing a transaction from its fields (RFC 0019): the version, and each list in its list form; and what a call that writes answers and leaves in the lent buffer
+-- (docs/RULES.md, "A peer's update arrives", row "writing", and above the table "Lent bytes beyond those written keep their value"; "The three demands", 1: after
+-- a refusal every lent output byte is as before).
+use Rattle.std.specs.Prelude.{ℕ, ◌+◌, Bool, ◌&&◌, cond, List, [], ◌∷◌, ◌++◌, length, leb}
 use Rattle.arithmetic.specs.LittleEndian.{to_le}
-use Rattle.error.specs.declared.Refusal.{Refusal}
+use Rattle.error.specs.Outcome.{Outcome, fine, check, ◌>>=◌, ◌>>◌, putting}
 use Rattle.molecule.specs.Items.{join, unwords}
 use Rattle.molecule.specs.Molecule.{fixvec, dynvec, readable}
-use Rattle.molecule.specs.Partial.{pick}
 use Rattle.molecule.specs.Write.{splice}
 use Rattle.transaction.specs.Ckb.{Byte32, Bytes, CellInput, CellDep, CellOutput}
 
@@ -40,16 +40,22 @@ put_head out version a b c d e f = cond (fits (44 + a + b + c + d + e + f) (leng
 unfoldable pub head_end : List ℕ → ℕ → ℕ → ℕ → ℕ → ℕ → ℕ → ℕ
 head_end out a b c d e f = cond (fits (44 + a + b + c + d + e + f) (length out)) 44 0
 
--- the answer of a call that writes: refused where its arguments are not right, then where the bytes do not fit
-unfoldable pub writes : Bool → Refusal → List ℕ → List ℕ → Result ℕ Refusal
-writes right refusal bytes out =
-    pick right
-    (pick (fits (length bytes) (length out)) (Ok (length bytes)) (Err Refusal.BufferTooShort))
-    (Err refusal)
+-- bytes, or the refusal n where what they are made from is not right
+unfoldable pub bytes_if : ℕ → Bool → List ℕ → Outcome (List ℕ)
+bytes_if n right bytes = do
+  check n right
+  fine bytes
 
--- the buffer after it: the bytes, and what stood behind them; after a refusal all is as it was
-unfoldable pub leaves : Bool → List ℕ → List ℕ → List ℕ
-leaves right bytes out = cond (right && fits (length bytes) (length out)) (bytes ++ drop (length bytes) out) out
+-- over the lent buffer or 133,116 bytes
+unfoldable pub in_room : List ℕ → Outcome (List ℕ) → Outcome (List ℕ)
+in_room out made = do
+  bytes ← made
+  check 13 (fits (length bytes) (length out))
+  fine bytes
+
+-- a call that writes these bytes, or is refused as they are: how many they are, and the buffer after it
+abbrev pub written : Outcome (List ℕ) → List ℕ → Outcome ℕ × List ℕ
+written made out = putting length (λ bytes. bytes) (in_room out made) out
 
 -- how long a transaction is
 abbrev pub tx_size : List ℕ → List ℕ → List ℕ → List ℕ → List ℕ → List ℕ → ℕ

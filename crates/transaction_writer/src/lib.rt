@@ -6,8 +6,9 @@ ghost use Rattle.arithmetic.specs.LittleEndian.{AllBytes};
 ghost use Rattle.molecule.specs.Molecule.{readable};
 ghost use Rattle.molecule.specs.Write.{Put};
 ghost use Rattle.transaction.specs.Ckb.{Transaction};
-ghost use Rattle.transaction_writer.specs.Written.{tx_head, fits, put_head, head_end, writes, leaves};
-ghost use Rattle.transaction_writer.specs.TxFields.{AreTxFields, total, bytes_of, are_in_form, sizes_of};
+ghost use Rattle.error.specs.Outcome.{told};
+ghost use Rattle.transaction_writer.specs.Written.{tx_head, fits, put_head, head_end, bytes_if, written};
+ghost use Rattle.transaction_writer.specs.TxFields.{AreTxFields, tx_len, fields_bytes, are_in_form, sizes_of};
 
 use error::Refusal;
 use list_writer::{MAX_BYTES, capped, put_all, put_words};
@@ -30,7 +31,7 @@ pub struct Sizes {
 impl Sizes {
     // How long the transaction is; MAX_BYTES + 1 for all that is longer.
     pub fn total(self) -> usize
-        ensures { result ≡ min (total self) 133117 }
+        ensures { result ≡ min (tx_len self) 133117 }
     {
         let n = capped(44, self.deps);
         let n = capped(n, self.headers);
@@ -43,7 +44,7 @@ impl Sizes {
     // Whether it fits 133,116 bytes, and a buffer of `room` bytes.
     #[tactic(auto, using(std::proofs::lemmas::Bool::Decides::nat_tests), unfolding(crate::specs::Written::fits))]
     pub fn fit(self, room: usize) -> bool
-        ensures { result ≡ fits (total self) room }
+        ensures { result ≡ fits (tx_len self) room }
     {
         let n = self.total();
         n <= MAX_BYTES && n <= room
@@ -52,7 +53,7 @@ impl Sizes {
 
 // Puts both tables' headers and the version.
 fn put_headers(out: &mut [u8], version: u32, z: Sizes) -> usize
-    requires { (44 ≤ length out.old) × (total z ≤ 133116) }
+    requires { (44 ≤ length out.old) × (tx_len z ≤ 133116) }
     ensures { Put out.old 0 (tx_head version z.deps z.headers z.inputs z.outputs z.datas z.witnesses) out.new result }
 {
     let o2 = 32 + z.deps as u32;
@@ -136,8 +137,8 @@ impl<'a> TxFields<'a> {
 
     // Puts the transaction at the start of out.
     fn put(self, out: &mut [u8]) -> usize
-        requires { (total (sizes_of self) ≤ length out.old) × (total (sizes_of self) ≤ 133116) }
-        ensures { Put out.old 0 (bytes_of self.entry) out.new result }
+        requires { (tx_len (sizes_of self) ≤ length out.old) × (tx_len (sizes_of self) ≤ 133116) }
+        ensures { Put out.old 0 (fields_bytes self.entry) out.new result }
     {
         let at = put_head(out, self.version, self.sizes());
         put_all(
@@ -157,10 +158,9 @@ impl<'a> TxFields<'a> {
 
 // Writes a transaction from its fields, each list in its list form, to the start of out. Refused, and out as it was: a list that is not in its form
 // (3), a transaction over out or over 133,116 bytes (13).
-#[tactic(auto, using(std::proofs::lemmas::Bool::Decides::nat_tests, crate::proofs::PutLaws::tx_length, molecule::proofs::WriteLaws::splice_zero), unfolding(crate::specs::Written::writes, crate::specs::Written::leaves, crate::specs::Written::fits, molecule::specs::Partial::pick))]
+#[tactic(auto, using(error::proofs::Outcomes::outcomes, std::proofs::lemmas::Bool::Decides::nat_tests, crate::proofs::PutLaws::tx_length, molecule::proofs::WriteLaws::splice_zero), unfolding(crate::specs::Written::bytes_if, crate::specs::Written::in_room, crate::specs::Written::fits, error::specs::Outcome::answer_by, error::specs::Outcome::check, error::specs::Outcome::check_with, error::specs::Refusal::number, error::specs::Refusal::values))]
 pub fn write_transaction(f: TxFields, out: &mut [u8]) -> Written
-    ensures value { result ≡ writes (are_in_form f.entry) Refusal.LentBytesUnreadable (bytes_of f.entry) out.old }
-    ensures out_after { out.new ≡ leaves (are_in_form f.entry) (bytes_of f.entry) out.old }
+    ensures { (told result, out.new) ≡ written (bytes_if 3 (are_in_form f.entry) (fields_bytes f.entry)) out.old }
 {
     if !f.are_in_form() {
         return Err(Refusal::LentBytesUnreadable);
@@ -180,10 +180,9 @@ pub fn are_bytes(s: &[u8])
 
 // Reads the fields of a transaction and writes them to the start of out: the same bytes again. Refused, and out as it was: bytes that are no
 // transaction (1), a transaction over out or over 133,116 bytes (13).
-#[tactic(auto, unfolding(crate::specs::Written::writes, crate::specs::Written::leaves, molecule::specs::Partial::pick))]
+#[tactic(auto, using(error::proofs::Outcomes::outcomes), unfolding(crate::specs::Written::bytes_if, crate::specs::Written::in_room, error::specs::Outcome::answer_by, error::specs::Outcome::check, error::specs::Outcome::check_with, error::specs::Refusal::number, error::specs::Refusal::values))]
 pub fn rewrite(s: &[u8], out: &mut [u8]) -> Written
-    ensures value { result ≡ writes (readable Transaction s.now) Refusal.OurTransactionUnreadable s.now out.old }
-    ensures out_after { out.new ≡ leaves (readable Transaction s.now) s.now out.old }
+    ensures { (told result, out.new) ≡ written (bytes_if 1 (readable Transaction s.now) s.now) out.old }
 {
     if !transaction::is_transaction(s) {
         return Err(Refusal::OurTransactionUnreadable);

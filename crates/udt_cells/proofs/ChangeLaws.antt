@@ -1,19 +1,19 @@
 -- Laws of specs/Change.antt: one for each way out of the functions.
 use Rattle.std.proofs.Common.{Option, Some, None}
 use mathlib.Core.Path.{◌≡◌, sym, ap, ap₂, ◌∙◌}
-use Prim.Native.Nat.{ℕ, ◌+◌, ◌-◌, ◌^◌, ◌≤◌, ◌<◌, min}
+use Prim.Native.Nat.{ℕ, ◌+◌, ◌^◌, ◌≤◌, ◌<◌, min}
 use mathlib.Core.Bool.{Bool, true}
 use mathlib.Core.List.{List, ◌++◌}
 use native.Mathlib.Nat.{le_trans}
 use native.Mathlib.Omega.{arith}
 use borrow.Author.Tests.{lt-ltb}
-use lib.ListN.{length, drop, length-take, length-drop}
+use lib.ListN.{length, drop}
 use Rattle.arithmetic.specs.LittleEndian.{AllBytes}
 use Rattle.units.specs.declared.{Shannons.Shannons}
 use Rattle.units.specs.Units.{in_shannons, shannon_count}
 use Rattle.units.specs.Fee.{change_shannons, change_capacity}
 use Rattle.molecule.specs.Molecule.{readable, option}
-use Rattle.molecule.specs.Layout.{part, field_of, content}
+use Rattle.molecule.specs.Layout.{field_of, content}
 use Rattle.molecule.specs.Write.{put_at}
 use Rattle.molecule.proofs.LayoutLaws.{part_short}
 use Rattle.molecule.proofs.ReadableLaws.{dynamic, below}
@@ -22,6 +22,8 @@ use Rattle.transaction.specs.Ckb.{Script, TokenCells}
 use Rattle.transaction.specs.Tx.{args_of}
 use Rattle.error.specs.Outcome.{fine, check, check_with, ◌>>◌}
 use Rattle.error.proofs.Passed.{is_true, check-fine, check_last}
+use Rattle.error.proofs.Outcomes.{outcomes}
+use Rattle.std.proofs.lemmas.Bool.Decides.{nat_tests}
 use Rattle.cell_output.specs.CellOutput.{cell_output}
 use Rattle.udt_cells.specs.Change.{capacity_for, lent}
 use Rattle.cell_output.proofs.CellOutputLaws.{output-length}
@@ -79,4 +81,4 @@ module _ (cells type source : List ℕ) (r : Bool) (er : check 3 r ≡ lent cell
   lent-option = let (a, e) = check-fine 3 _ _ tt lent-fine in let (b, f) = check-fine 3 _ _ tt e in is_true _ b
 
 -- of the change as it is written
-pub ruleset changed = (output-length, put_at_start)
+pub ruleset changed = (outcomes, nat_tests, output-length, put_at_start)

@@ -1,12 +1,11 @@
 -- The token pick (docs/RULES.md, "Our own side"): "Token pick, for a typed request with local amount above 0: cells in list order until the total reaches it;
 -- later cells are unread." Its row of the table: "by cell: data under 16 bytes (12); total 2^128 or more (10); list ended short (9)".
-use Rattle.std.specs.Prelude.{ℕ, ◌+◌, ◌-◌, ◌^◌, cond, List, [], ◌∷◌, length, take, leb, ltb, Result}
+use Rattle.std.specs.Prelude.{ℕ, ◌+◌, ◌-◌, ◌^◌, cond, List, [], ◌∷◌, length, take, leb, ltb}
 use Rattle.arithmetic.specs.LittleEndian.{le}
 use Rattle.units.specs.Units.{token_count}
 use Rattle.transaction.specs.Tx.{data_of}
-use Rattle.error.specs.Outcome.{Outcome, fine, refused, check, ◌>>=◌, ◌>>◌, told_by}
+use Rattle.error.specs.Outcome.{Outcome, fine, refused, check, ◌>>=◌, ◌>>◌}
 use Rattle.lists.specs.Lists.{is_empty}
-use Rattle.error.specs.declared.Refusal.{Refusal}
 use Rattle.udt_cells.specs.declared.Picked.{Picked}
 
 -- how many of the first cells are taken, and what they hold over the wanted amount
@@ -14,9 +13,9 @@ pub record Pick : Type 0 where
   pub taken : ℕ
   pub change : ℕ
 
--- the figures of an answer in numbers
-abbrev pub told : Result Picked Refusal → Outcome Pick
-told = told_by (λ p. record { taken = p.taken; change = token_count p.change })
+-- in numbers
+abbrev pub pick_of : Picked → Pick
+pick_of p = record { taken = p.taken; change = token_count p.change }
 
 -- a total with the amount of one more cell
 unfoldable pub plus_cell : ℕ → List ℕ → Outcome ℕ

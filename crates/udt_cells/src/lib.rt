@@ -1,5 +1,5 @@
 // The token cells that our side pays with: the pick among those that are lent, and the change that is left of them.
-#![tactic(auto, using(crate::proofs::Ways::ways), unfolding(crate::specs::Pick::pick_typed, crate::specs::Change::lent, crate::specs::Change::udt_inputs_outputs, crate::specs::Change::unless_refused, error::specs::Outcome::check, error::specs::Outcome::check_with, error::specs::Refusal::number, error::specs::Refusal::values))]
+#![tactic(auto, using(crate::proofs::Ways::ways), unfolding(crate::specs::Pick::pick_typed, crate::specs::Change::lent, crate::specs::Change::udt_made, crate::specs::Change::udt_inputs_outputs, error::specs::Outcome::answer_by, error::specs::Outcome::check, error::specs::Outcome::check_with, error::specs::Refusal::number, error::specs::Refusal::values))]
 
 ghost use Rattle.std.specs.Prelude.{◌≡◌, true, ◌^◌, ◌<◌, min, length};
 ghost use Rattle.units.specs.Units.{token_count};
@@ -9,8 +9,8 @@ ghost use Rattle.molecule.specs.Layout.{item_of, items_of};
 ghost use Rattle.transaction.specs.Ckb.{Script};
 ghost use Rattle.transaction.specs.Tx.{args_of};
 ghost use Rattle.error.specs.Outcome.{check, told_by};
-ghost use Rattle.udt_cells.specs.Pick.{told, plus_cell, pick_from, pick_typed};
-ghost use Rattle.udt_cells.specs.Change.{answered, capacity_for, with_change, lent, udt_inputs_outputs};
+ghost use Rattle.udt_cells.specs.Pick.{pick_of, plus_cell, pick_from, pick_typed};
+ghost use Rattle.udt_cells.specs.Change.{built_of, capacity_for, with_change, putting_made, lent, udt_inputs_outputs};
 
 use error::Refusal;
 use list_writer::MAX_BYTES;
@@ -48,7 +48,7 @@ fn plus_cell(cells: &[u8], i: usize, total: Tokens) -> Result<Tokens, Refusal>
 
 // Takes cells in list order until their total reaches what is wanted: none where that is 0. Later cells are not read.
 pub fn pick(cells: &[u8], wanted: Tokens) -> Result<Picked, Refusal>
-    ensures { told result ≡ pick_from (token_count wanted) 0 0 (items_of cells.now) }
+    ensures { told_by pick_of result ≡ pick_from (token_count wanted) 0 0 (items_of cells.now) }
 {
     let n = molecule::item_count(cells) as usize;
     let mut total = Tokens::ZERO;
@@ -64,7 +64,7 @@ pub fn pick(cells: &[u8], wanted: Tokens) -> Result<Picked, Refusal>
 
 // The pick of a request: nothing where it is untyped.
 pub fn pick_typed(cells: &[u8], udt: &[u8], local_amount: Tokens) -> Result<Picked, Refusal>
-    ensures { told result ≡ pick_typed udt.now (token_count local_amount) (items_of cells.now) }
+    ensures { told_by pick_of result ≡ pick_typed udt.now (token_count local_amount) (items_of cells.now) }
 {
     if udt.is_empty() {
         return Ok(Picked {
@@ -90,7 +90,7 @@ pub fn change_capacity(source: &[u8], udt: &[u8]) -> Option<Shannons>
 }
 
 // Writes the change output, if there is change, to the start of out.
-#[tactic(auto, using(crate::proofs::ChangeLaws::changed), unfolding(crate::specs::Change::with_change, crate::specs::Change::put_first, units::specs::Fee::change_capacity, error::specs::Refusal::number, error::specs::Refusal::values))]
+#[tactic(auto, using(crate::proofs::ChangeLaws::changed), unfolding(crate::specs::Change::with_change, crate::specs::Change::with_output, transaction_writer::specs::Written::fits, units::specs::Fee::change_capacity, error::specs::Outcome::answer_by, error::specs::Outcome::check, error::specs::Outcome::check_with, error::specs::Refusal::number, error::specs::Refusal::values))]
 fn put_change(
     picked: Picked,
     udt: &[u8],
@@ -98,7 +98,7 @@ fn put_change(
     out: &mut [u8],
 ) -> Result<UdtInputsOutputs, Refusal>
     requires { (readable Script source.now ≡ true) × (readable (option Script) udt.now ≡ true) }
-    ensures { (answered result, out.new) ≡ with_change source.now udt.now picked.taken (token_count picked.change) out.old }
+    ensures { (told_by built_of result, out.new) ≡ putting_made (with_change source.now udt.now (pick_of picked) (length out.old)) out.old }
 {
     let Picked { taken, change } = picked;
     if change == Tokens::ZERO {
@@ -142,7 +142,7 @@ pub fn build_udt_inputs_outputs(
     local_amount: Tokens,
     out: &mut [u8],
 ) -> Result<UdtInputsOutputs, Refusal>
-    ensures { (answered result, out.new) ≡ udt_inputs_outputs cells.now udt.now source.now (token_count local_amount) out.old }
+    ensures { (told_by built_of result, out.new) ≡ udt_inputs_outputs cells.now udt.now source.now (token_count local_amount) out.old }
 {
     if !are_readable(cells, udt, source) {
         return Err(Refusal::LentBytesUnreadable);
