@@ -17,7 +17,7 @@ grown_by g = record { capacity = shannon_count g.capacity; token = token_count g
 abbrev pub account_of : Both → ℕ → Brought → Growth → Ruled Figures
 account_of b rate brought g =
     accounts b.udt.now (unfunded (tx_at b.ours.tx.now)) (shannon_count brought.capacity) (known (told_by token_count brought.token))
-      (added (tx_at b.ours.tx.now) (tx_at b.peer.tx.now)) rate (length b.peer.tx.now + 4) (grown_by g)
+    (added (tx_at b.ours.tx.now) (tx_at b.peer.tx.now)) rate (length b.peer.tx.now + 4) (grown_by g)
 
 -- the rules' contribution by what records bring in
 abbrev pub contribution_of : List ℕ → List ℕ → List ℕ → Brought → ℕ → Ruled Figures

@@ -5,15 +5,13 @@ use mathlib.Core.List.{List, [], ◌∷◌}
 use native.Mathlib.Omega.{arith}
 use borrow.Author.Tests.{leb-true}
 use lib.ListN.{replicate}
-use Rattle.out_points.specs.Tables as table
-use Rattle.table_bytes.specs.Lent.{leaving}
+use Rattle.error.specs.Outcome.{fine}
 use Rattle.exclusion_entries.specs.Exclusions.{truncate_on}
-use Rattle.exclusion_entries.specs.Entries.{map_bytes, FitEntry}
-use Rattle.exclusion_entries.specs.LentMap.{left}
+use Rattle.exclusion_entries.specs.Entries.{FitEntry}
 use Rattle.known_cases.specs.Rows.{AllRight}
 use Rattle.known_cases.specs.Cases.{bare}
 use Rattle.known_cases.proofs.Rows.{◌and◌, done}
-use Rattle.known_exclusions.specs.Exclusions.{add, commit, zeros, lent, hash, room, listed, pending_of, committed_of, transactions, pending7, committed7, one, two, three, twice, excluded_by, no_map, unread, full, works, doubled, lists}
+use Rattle.known_exclusions.specs.Exclusions.{on_bytes, left, add, commit, zeros, lent, hash, room, listed, pending_of, committed_of, transactions, pending7, committed7, one, two, three, twice, excluded_by, no_map, unread, full, works, doubled, lists}
 use Rattle.known_exclusions.proofs.Computing.{computing}
 use Rattle.known_exclusions.proofs.LentLaws.{Holds, add-on, commit-on, remove-on, truncate-on, migrate-on, apply-on, left-holds, zeros-hold, lent-holds, pending-fits, committed-fits, transactions-fit}
 
@@ -142,9 +140,9 @@ committed-holds : Holds at100 committed7
 unfolding computing
 committed-holds = left-holds added7 committed7 (commit-on added7 (hash 7) 100) (leb-true _ _ refl) (leb-true _ _ refl) (fits7, tt)
 
-kept : (tip : ℕ) → truncate_on committed7 (record { 0 = tip }) ≡ table.done committed7 → excluded_by tip ≡ 0 ∷ 0 ∷ 1 ∷ []
+kept : (tip : ℕ) → truncate_on committed7 (record { 0 = tip }) ≡ fine committed7 → excluded_by tip ≡ 0 ∷ 0 ∷ 1 ∷ []
 unfolding computing
-kept tip e = ap listed (apply-on (left-holds committed-holds committed7 (truncate-on committed-holds tip ∙ ap (leaving map_bytes at100) e) (leb-true _ _ refl) (leb-true _ _ refl) (fits7, tt)) (room 2))
+kept tip e = ap listed (apply-on (left-holds committed-holds committed7 (truncate-on committed-holds tip ∙ ap (on_bytes at100) e) (leb-true _ _ refl) (leb-true _ _ refl) (fits7, tt)) (room 2))
 
 pub kept-at_99 : excluded_by 99 ≡ 0 ∷ 0 ∷ 1 ∷ []
 unfolding computing

@@ -15,45 +15,47 @@ use Rattle.molecule.proofs.Offsets.{span-length}
 use Rattle.molecule.proofs.WriteLaws.{put_yes}
 use Rattle.transaction.specs.Ckb.{Transaction}
 use Rattle.out_points.specs.OutPoints.{Fit}
-use Rattle.table_bytes.specs.Lent.{After, leaving}
-use Rattle.exclusion_entries.specs.Exclusions.{MapEntry, Ruling, commit_on, remove_on, truncate_on, excluded, apply_on, add_on, migrate_on}
+use Rattle.error.specs.Outcome.{Outcome, check, check_with, ◌>>◌}
+use Rattle.out_points.specs.Tables.{after_list}
+use Rattle.table_bytes.specs.Lent.{on_table}
+use Rattle.exclusion_entries.specs.Exclusions.{MapEntry, commit_on, remove_on, truncate_on, excluded, apply_on, add_on, migrate_on}
 use Rattle.exclusion_entries.specs.Entries.{block_of, map_bytes, FitEntry, excluded_at, is_map}
 use Rattle.exclusion_entries.proofs.MapLaws.{map-long, map-size, map-zeros, zeros_are, put_is, splice-back}
-use Rattle.exclusion_entries.specs.LentMap.{lent_map, lent_tx, left, lent_list}
+use Rattle.exclusion_entries.specs.Calls.{map_table, with_tx}
 use Rattle.known_cases.specs.Cases.{point}
-use Rattle.known_exclusions.specs.Exclusions.{add, commit, remove, truncate, migrate, apply, leaves, zeros, lent, entry, pending_of, committed_of}
+use Rattle.known_exclusions.specs.Exclusions.{on_bytes, add, commit, remove, truncate, migrate, apply, left, puts, zeros, lent, entry, pending_of, committed_of}
 
 pub record Holds (s : List ℕ) (l : List MapEntry) : Type 0 where
   pub form : is_map s ≡ true
   pub means : excluded_at s ≡ l
 
 module _ {s : List ℕ} {l : List MapEntry} (h : Holds s l) where
-  on : (o : List MapEntry → Ruling) → lent_map s (o (excluded_at s)) ≡ leaving map_bytes s (o l)
-  unfolding lent_map
+  on : (o : List MapEntry → Outcome (List MapEntry)) → on_bytes s (on_table map_table s (o (excluded_at s))) ≡ on_bytes s (o l)
+  unfolding on_table check check_with ◌>>◌
   on o = rw (h.form, h.means)
 
   -- with a transaction that can be read
-  on_tx : (o : List MapEntry → Ruling) (tx : List ℕ) → readable (option Transaction) tx ≡ true → lent_tx tx s (o (excluded_at s)) ≡ leaving map_bytes s (o l)
-  unfolding lent_tx
+  on_tx : (o : List MapEntry → Outcome (List MapEntry)) (tx : List ℕ) → readable (option Transaction) tx ≡ true → on_bytes s (with_tx tx (on_table map_table s (o (excluded_at s)))) ≡ on_bytes s (o l)
+  unfolding with_tx check check_with ◌>>◌
   on_tx o tx y = rw y (on o)
 
-  pub add-on : (hash tx : List ℕ) → readable (option Transaction) tx ≡ true → add s hash tx ≡ leaving map_bytes s (add_on l hash tx)
+  pub add-on : (hash tx : List ℕ) → readable (option Transaction) tx ≡ true → add s hash tx ≡ on_bytes s (add_on l hash tx)
   add-on hash tx = on_tx (λ (k : List MapEntry). add_on k hash tx) tx
 
-  pub commit-on : (hash : List ℕ) (block : ℕ) → commit s hash block ≡ leaving map_bytes s (commit_on l hash (record { 0 = block }))
+  pub commit-on : (hash : List ℕ) (block : ℕ) → commit s hash block ≡ on_bytes s (commit_on l hash (record { 0 = block }))
   commit-on hash block = on (λ (k : List MapEntry). commit_on k hash (record { 0 = block }))
 
-  pub remove-on : (hash : List ℕ) → remove s hash ≡ leaving map_bytes s (remove_on l hash)
+  pub remove-on : (hash : List ℕ) → remove s hash ≡ on_bytes s (remove_on l hash)
   remove-on hash = on (λ (k : List MapEntry). remove_on k hash)
 
-  pub truncate-on : (tip : ℕ) → truncate s tip ≡ leaving map_bytes s (truncate_on l (record { 0 = tip }))
+  pub truncate-on : (tip : ℕ) → truncate s tip ≡ on_bytes s (truncate_on l (record { 0 = tip }))
   truncate-on tip = on (λ (k : List MapEntry). truncate_on k (record { 0 = tip }))
 
-  pub migrate-on : (old new tx : List ℕ) → readable (option Transaction) tx ≡ true → migrate s old new tx ≡ leaving map_bytes s (migrate_on l old new tx)
+  pub migrate-on : (old new tx : List ℕ) → readable (option Transaction) tx ≡ true → migrate s old new tx ≡ on_bytes s (migrate_on l old new tx)
   migrate-on old new tx = on_tx (λ (k : List MapEntry). migrate_on k old new tx) tx
 
-  pub apply-on : (out : List ℕ) → apply s out ≡ apply_on l out
-  unfolding lent_list
+  pub apply-on : (out : List ℕ) → apply s out ≡ after_list (apply_on l) out
+  unfolding on_table check check_with ◌>>◌
   apply-on out = rw (h.form, h.means)
 
   pub put_holds : (k : List MapEntry) → length k ≤ 64 → length (excluded k) ≤ 512 → All FitEntry k → Holds (put_at s 0 (map_bytes k)) k
@@ -63,8 +65,8 @@ module _ {s : List ℕ} {l : List MapEntry} (h : Holds s l) where
   }
 
   -- after a call that is done
-  pub left-holds : {o : After (List MapEntry)} (k : List MapEntry) → o ≡ leaves s k → length k ≤ 64 → length (excluded k) ≤ 512 → All FitEntry k → Holds (left o) k
-  left-holds k e a b f = subst (λ (x : After (List MapEntry)). Holds (left x) k) (sym e) (put_holds k a b f)
+  pub left-holds : {o : Outcome (List MapEntry) × List ℕ} (k : List MapEntry) → o ≡ puts s k → length k ≤ 64 → length (excluded k) ≤ 512 → All FitEntry k → Holds (left o) k
+  left-holds k e a b f = subst (λ (x : Outcome (List MapEntry) × List ℕ). Holds (left x) k) (sym e) (put_holds k a b f)
 
 pub zeros-hold : Holds zeros []
 zeros-hold = record { form = zeros_are; means = map-zeros }

@@ -14,11 +14,10 @@ use Rattle.molecule.specs.Layout.{fix_count}
 use Rattle.molecule.proofs.Valid.{fixed}
 use Rattle.molecule.proofs.HeaderLaws.{fixvec-readable}
 use Rattle.transaction.specs.Ckb.{OutPoint, OutPoints}
-use Rattle.out_points.specs.Tables.{refused}
-use Rattle.hold_records.specs.declared.{Held.Held}
+use Rattle.error.specs.Outcome.{refused, check, check_with, ◌>>◌}
+use Rattle.hold_records.specs.declared.{Hold.Hold}
 use Rattle.hold_records.specs.Holds.{hold_funding}
 use Rattle.known_cases.specs.Rows.{AllRight}
-use Rattle.known_cases.specs.Cases.{holds_of}
 use Rattle.known_cases.proofs.Rows.{◌and◌, done}
 use Rattle.known_holds.specs.Holds.{returning, long, locking, taking, longest, naming}
 use Rattle.known_holds.proofs.Computing.{computing}
@@ -31,9 +30,9 @@ known_returning =
     and refl and refl and refl and refl and refl and refl and refl and refl and refl and refl and refl and done
 
 -- by its length, since no proof goes over so many bytes
-long-refused : (h : Held) (holder n k : ℕ) → 2 ^ 32 ≤ 4 + k → hold_funding h holder (to_le 4 n ++ replicate k 0) ≡ refused 3 h
-unfolding hold_funding fixed
-long-refused h holder n k long =
+long-refused : (l : List Hold) (holder n k : ℕ) → 2 ^ 32 ≤ 4 + k → hold_funding l holder (to_le 4 n ++ replicate k 0) ≡ refused 3 []
+unfolding hold_funding fixed check check_with ◌>>◌
+long-refused l holder n k long =
     let s : List ℕ = to_le 4 n ++ replicate k 0 in
     let e : length s ≡ 4 + k = length-append (to_le 4 n) (replicate k 0) ∙ ap₂ ◌+◌ (length-to_le 4 n) (length-replicate k 0) in
     let r : readable OutPoints s ≡ false =
@@ -41,7 +40,7 @@ long-refused h holder n k long =
     rw r
 
 pub known_long : AllRight long
-known_long = long-refused (holds_of []) 1 119304647 (36 * 119304647) (omega arith) and done
+known_long = long-refused [] 1 119304647 (36 * 119304647) (omega arith) and done
 
 pub known_locking : AllRight locking
 unfolding computing

@@ -15,13 +15,14 @@ use Rattle.transaction.specs.Ckb.{OutPoint as OutPointForm, OutPoints}
 use Rattle.out_points.specs.declared.{OutPoint.OutPoint}
 use Rattle.out_points.specs.OutPoints.{Fit, points, point_list}
 use Rattle.std.specs.List.{filter}
-use Rattle.out_points.specs.Tables.{Outcome, done, refused, has_room, with_list}
+use Rattle.error.specs.Outcome.{Outcome, fine, refused, check, check_with, ◌>>=◌, ◌>>◌}
+use Rattle.out_points.specs.Tables.{has_room, with_list}
 use Rattle.out_points.proofs.ListLaws.{length-points, length_list}
 use Rattle.out_points.proofs.AgainLaws.{list_back}
-use Rattle.hold_records.specs.declared.{Hold.Hold, Held.Held, Taker.Taker}
-use Rattle.hold_records.specs.Holds.{records_of, is_busy, is_new, firsts, others, take_cells}
-use Rattle.known_cases.specs.Cases.{ms, holds_of, room}
-use Rattle.known_holds.specs.Holds.{A, of1, none}
+use Rattle.hold_records.specs.declared.{Hold.Hold, Taker.Taker}
+use Rattle.hold_records.specs.Holds.{is_busy, is_new, firsts, others, take_these, take_free, take_cells, after_take}
+use Rattle.known_cases.specs.Cases.{ms, room}
+use Rattle.known_holds.specs.Holds.{A, of1, none, takes}
 use Rattle.known_holds.proofs.Computing.{computing}
 
 -- ---- a list of n picks is read as these
@@ -63,12 +64,12 @@ unfolding computing
 is-spent = refl
 
 module _ (n : ℕ) (h : 4 + 36 * n < 2 ^ 32) (out₁ out₂ : List ℕ) where
-  abbrev end : Bool → Bool → Outcome Held (List Hold) × List ℕ × List ℕ
-  end a b = cond a (cond b (done [], with_list [] out₁, with_list (replicate n A) out₂) (refused 13 (holds_of []), out₁, out₂)) (refused 13 (holds_of []), out₁, out₂)
+  abbrev end : Bool → Bool → Outcome (List Hold) × List ℕ × List ℕ
+  end a b = cond a (cond b (fine [], with_list [] out₁, with_list (replicate n A) out₂) (refused 13 [], out₁, out₂)) (refused 13 [], out₁, out₂)
 
-  spent-picks : take_cells (holds_of []) (point_list (replicate n A)) (of1 A) (Taker.Funding 1) (ms 1000) out₁ out₂ ≡ end (has_room [] out₁) (has_room (replicate n A) out₂)
-  unfolding take_cells records_of
-  spent-picks =
+  spent-end : takes [] (point_list (replicate n A)) (of1 A) (Taker.Funding 1) (ms 1000) out₁ out₂ ≡ end (has_room [] out₁) (has_room (replicate n A) out₂)
+  unfolding take_cells take_free take_these check check_with ◌>>=◌ ◌>>◌
+  spent-end =
       let l : length (replicate n A) ≡ n = length-replicate n A in
       rw (
         is-readable (replicate n A) (omega arith) (all_fit n),
@@ -78,6 +79,12 @@ module _ (n : ℕ) (h : 4 + 36 * n < 2 ^ 32) (out₁ out₂ : List ℕ) where
         none-taken (λ p. not (is_busy [] (A ∷ []) p)) A is-spent n,
         all_refused (λ p. not (is_busy [] (A ∷ []) p)) A is-spent n,
       )
+      (by (has_room [] out₁) (has_room (replicate n A) out₂))
+    where
+      by : (a b : Bool) → after_take (λ b₁ b₂. check 13 a >> (check 13 b >> fine (record { records = []; taken = []; rest = replicate n A }))) out₁ out₂ ≡ end a b
+      by true true = refl
+      by true false = refl
+      by false b = refl
 
 none-room : has_room [] (room 4) ≡ true
 unfolding computing
@@ -94,7 +101,7 @@ module _ (n k : ℕ) (e : k ≡ 4 + 36 * n) where
   room-long : length (room k) ≡ k
   room-long = length-replicate k 7
 
-  pub spent-fit : k ≤ 133116 → take_cells (holds_of []) (point_list (replicate n A)) (of1 A) (Taker.Funding 1) (ms 1000) (room 4) (room k) ≡ (done [], none, point_list (replicate n A))
+  pub spent-fit : k ≤ 133116 → takes [] (point_list (replicate n A)) (of1 A) (Taker.Funding 1) (ms 1000) (room 4) (room k) ≡ (fine [], none, point_list (replicate n A))
   unfolding has_room with_list
   spent-fit h =
       let a = long in
@@ -103,12 +110,12 @@ module _ (n k : ℕ) (e : k ≡ 4 + 36 * n) where
       let d : length (room k) ≤ length (point_list (replicate n A)) = omega arith in
       let w : with_list (replicate n A) (room k) ≡ point_list (replicate n A) =
       ap (λ (x : List ℕ). point_list (replicate n A) ++ x) (drop_of_length-le (room k) d) ∙ append-nil (point_list (replicate n A)) in
-      spent-picks n (omega arith) (room 4) (room k) ∙ rw (none-room, r, none_written, w)
+      spent-end n (omega arith) (room 4) (room k) ∙ rw (none-room, r, none_written, w)
 
-  pub spent-over : 133116 < k → 4 + 36 * n < 2 ^ 32 → take_cells (holds_of []) (point_list (replicate n A)) (of1 A) (Taker.Funding 1) (ms 1000) (room 4) (room k) ≡ (refused 13 (holds_of []), room 4, room k)
+  pub spent-over : 133116 < k → 4 + 36 * n < 2 ^ 32 → takes [] (point_list (replicate n A)) (of1 A) (Taker.Funding 1) (ms 1000) (room 4) (room k) ≡ (refused 13 [], room 4, room k)
   unfolding has_room
   spent-over h m =
       let a = long in
       let b = room-long in
       let r : has_room (replicate n A) (room k) ≡ false = lt-leb (length (point_list (replicate n A))) (min (length (room k)) 133116) (omega arith) in
-      spent-picks n m (room 4) (room k) ∙ rw (none-room, r)
+      spent-end n m (room 4) (room k) ∙ rw (none-room, r)

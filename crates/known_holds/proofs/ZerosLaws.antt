@@ -10,15 +10,15 @@ use lib.Seq.{drop-append-add}
 use Rattle.arithmetic.specs.LittleEndian.{to_le}
 use Rattle.arithmetic.proofs.LittleEndianLaws.{length-to_le}
 use Rattle.molecule.specs.Layout.{part, span, fix_item, word}
-use Rattle.hold_records.specs.declared.{Hold.Hold, Held.Held, Taker.Taker}
-use Rattle.hold_records.specs.Holds.{hold_funding, hold_for_watchtower, release_for_watchtower, lock_held, unavailable, take_cells}
+use Rattle.hold_records.specs.declared.{Hold.Hold, Taker.Taker}
+use Rattle.hold_records.specs.Holds.{records_of, hold_funding, hold_for_watchtower, release_for_watchtower}
 use Rattle.table_bytes.specs.declared.{Place.Place}
 use Rattle.table_bytes.specs.Places.{place_at, place_of}
-use Rattle.table_bytes.specs.Lent.{lent_table, lent_with, lent_with_two, lent_read}
-use Rattle.held_bytes.specs.HeldBytes.{owner_of, hold_of, held_of, held_bytes}
+use Rattle.table_bytes.specs.Lent.{on_table}
+use Rattle.held_bytes.specs.HeldBytes.{owner_of, hold_of, held_of, held_at, held_table}
 use Rattle.known_cases.specs.Cases.{ms, point}
 use Rattle.known_holds.specs.Holds.{funding}
-use Rattle.known_holds.specs.LentHolds.{hold, watch, release, lock, named, takes, zeros, of_zeros}
+use Rattle.known_holds.specs.LentHolds.{on_bytes, hold, watch, release, lock_on, lock, named_on, named, takes_on, takes, zeros, of_zeros}
 use Rattle.known_holds.proofs.Computing.{computing}
 
 drop-same : (x k m n : ℕ) → m ≡ k + n → drop k (replicate m x) ≡ replicate n x
@@ -71,30 +71,30 @@ unfolding span
 records_are n i zero h = refl
 records_are n i (suc k) h = rw (place_is n i (omega arith), hold-is, records_are n (suc i) k (omega arith))
 
-abbrev meant : ℕ → Held
-meant n = record { records = of_zeros 256; count = word (zeros n) 0 }
+abbrev meant : ℕ → List Hold
+meant n = take (word (zeros n) 0) (of_zeros 256)
 
-zeros_mean : (n : ℕ) → held_of (zeros n) ≡ meant n
-unfolding held_of
-zeros_mean n = ap (λ (l : List Hold). record { records = l; count = word (zeros n) 0 }) (records_are n 0 256 (omega arith))
+zeros_mean : (n : ℕ) → held_at (zeros n) ≡ meant n
+unfolding held_at held_of records_of
+zeros_mean n = ap (λ (l : List Hold). take (word (zeros n) 0) l) (records_are n 0 256 (omega arith))
 
 -- ---- the calls
 
 module _ (n : ℕ) where
-  pub hold-zeros : (holder : ℕ) (cells : List ℕ) → hold (zeros n) holder cells ≡ lent_table held_bytes 12292 (zeros n) (hold_funding (meant n) holder cells)
-  hold-zeros holder cells = ap (λ (h : Held). lent_table held_bytes 12292 (zeros n) (hold_funding h holder cells)) (zeros_mean n)
+  pub hold-zeros : (holder : ℕ) (cells : List ℕ) → hold (zeros n) holder cells ≡ on_bytes (zeros n) (on_table held_table (zeros n) (hold_funding (meant n) holder cells))
+  hold-zeros holder cells = ap (λ (h : List Hold). on_bytes (zeros n) (on_table held_table (zeros n) (hold_funding h holder cells))) (zeros_mean n)
 
-  pub watch-zeros : (cells : List ℕ) (now : ℕ) → watch (zeros n) cells now ≡ lent_table held_bytes 12292 (zeros n) (hold_for_watchtower (meant n) cells (ms now))
-  watch-zeros cells now = ap (λ (h : Held). lent_table held_bytes 12292 (zeros n) (hold_for_watchtower h cells (ms now))) (zeros_mean n)
+  pub watch-zeros : (cells : List ℕ) (now : ℕ) → watch (zeros n) cells now ≡ on_bytes (zeros n) (on_table held_table (zeros n) (hold_for_watchtower (meant n) cells (ms now)))
+  watch-zeros cells now = ap (λ (h : List Hold). on_bytes (zeros n) (on_table held_table (zeros n) (hold_for_watchtower h cells (ms now)))) (zeros_mean n)
 
-  pub release-zeros : (cells : List ℕ) → release (zeros n) cells ≡ lent_table held_bytes 12292 (zeros n) (release_for_watchtower (meant n) cells)
-  release-zeros cells = ap (λ (h : Held). lent_table held_bytes 12292 (zeros n) (release_for_watchtower h cells)) (zeros_mean n)
+  pub release-zeros : (cells : List ℕ) → release (zeros n) cells ≡ on_bytes (zeros n) (on_table held_table (zeros n) (release_for_watchtower (meant n) cells))
+  release-zeros cells = ap (λ (h : List Hold). on_bytes (zeros n) (on_table held_table (zeros n) (release_for_watchtower h cells))) (zeros_mean n)
 
-  pub lock-zeros : (now : ℕ) (out : List ℕ) → lock (zeros n) now out ≡ lent_with held_bytes 12292 (zeros n) out (lock_held (meant n) (ms now) out)
-  lock-zeros now out = ap (λ (h : Held). lent_with held_bytes 12292 (zeros n) out (lock_held h (ms now) out)) (zeros_mean n)
+  pub lock-zeros : (now : ℕ) (out : List ℕ) → lock (zeros n) now out ≡ lock_on (meant n) (zeros n) now out
+  lock-zeros now out = ap (λ (h : List Hold). lock_on h (zeros n) now out) (zeros_mean n)
 
-  pub named-zeros : (picked spent : List ℕ) (now : ℕ) (out : List ℕ) → named (zeros n) picked spent now out ≡ lent_read 12292 (zeros n) out (unavailable (meant n) picked spent (ms now) out)
-  named-zeros picked spent now out = ap (λ (h : Held). lent_read 12292 (zeros n) out (unavailable h picked spent (ms now) out)) (zeros_mean n)
+  pub named-zeros : (picked spent : List ℕ) (now : ℕ) (out : List ℕ) → named (zeros n) picked spent now out ≡ named_on (meant n) (zeros n) picked spent now out
+  named-zeros picked spent now out = ap (λ (h : List Hold). named_on h (zeros n) picked spent now out) (zeros_mean n)
 
-  pub takes-zeros : (picked spent : List ℕ) (taker : Taker) (now : ℕ) (out₁ out₂ : List ℕ) → takes (zeros n) picked spent taker now out₁ out₂ ≡ lent_with_two held_bytes 12292 (zeros n) out₁ out₂ (take_cells (meant n) picked spent taker (ms now) out₁ out₂)
-  takes-zeros picked spent taker now out₁ out₂ = ap (λ (h : Held). lent_with_two held_bytes 12292 (zeros n) out₁ out₂ (take_cells h picked spent taker (ms now) out₁ out₂)) (zeros_mean n)
+  pub takes-zeros : (picked spent : List ℕ) (taker : Taker) (now : ℕ) (out₁ out₂ : List ℕ) → takes (zeros n) picked spent taker now out₁ out₂ ≡ takes_on (meant n) (zeros n) picked spent taker now out₁ out₂
+  takes-zeros picked spent taker now out₁ out₂ = ap (λ (h : List Hold). takes_on h (zeros n) picked spent taker now out₁ out₂) (zeros_mean n)

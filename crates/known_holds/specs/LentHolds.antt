@@ -1,38 +1,57 @@
--- The calls on a lent table of holds worked through, from the definitions of their contracts (crates/held_bytes/src/calls.rt): for each call an example of each answer that it has, with the whole
+-- The calls on a lent table of holds worked through, from the definitions of their contracts (crates/held_bytes/specs/Calls.antt): for each call an example of each answer that it has, with the whole
 -- bytes of the table and of the buffers after it. proofs/KnownLentHolds.antt proves all rows.
 use Rattle.std.specs.Prelude.{ℕ, ◌-◌, ◌*◌, length, replicate}
 use mathlib.Core.List.{List, [], ◌∷◌, ◌++◌, flatten}
 use Rattle.arithmetic.specs.LittleEndian.{to_le}
 use Rattle.out_points.specs.declared.{OutPoint.OutPoint}
 use Rattle.out_points.specs.OutPoints.{point_bytes, point_list}
-use Rattle.out_points.specs.Tables.{done, refused}
+use Rattle.error.specs.Outcome.{Outcome, fine, refused, leaves}
+use Rattle.molecule.specs.Write.{put_at}
+use Rattle.out_points.specs.Tables.{writes, after_list}
 use Rattle.hold_records.specs.declared.{Hold.Hold, Taker.Taker}
-use Rattle.hold_records.specs.Holds.{hold_funding, hold_for_watchtower, release_for_watchtower, lock_held, unavailable, take_cells}
-use Rattle.table_bytes.specs.Lent.{After, lent_table, lent_with, lent_with_two, lent_read}
-use Rattle.held_bytes.specs.HeldBytes.{held_of, held_bytes}
+use Rattle.hold_records.specs.Holds.{cells_of, hold_funding, hold_for_watchtower, release_for_watchtower, lock_held, unavailable, take_cells, records_after}
+use Rattle.table_bytes.specs.Lent.{on_table}
+use Rattle.held_bytes.specs.HeldBytes.{held_at, held_bytes, held_table}
 use Rattle.known_cases.specs.Rows.{Row, ◌gives◌}
 use Rattle.known_cases.specs.Cases.{ms, point, room}
 use Rattle.known_holds.specs.Holds.{A, B, C, funding, tower, of1, of2, none, no_list}
 
--- ---- the calls on bytes s
+-- ---- the calls on bytes s: the outcome, the bytes after it, and the buffers
 
-abbrev pub hold : List ℕ → ℕ → List ℕ → After (List Hold)
-hold s holder cells = lent_table held_bytes 12292 s (hold_funding (held_of s) holder cells)
+abbrev pub on_bytes : List ℕ → Outcome (List Hold) → Outcome (List Hold) × List ℕ
+on_bytes s o = (o, leaves o (λ l. put_at s 0 (held_bytes l)) s)
 
-abbrev pub watch : List ℕ → List ℕ → ℕ → After (List Hold)
-watch s cells now = lent_table held_bytes 12292 s (hold_for_watchtower (held_of s) cells (ms now))
+abbrev pub hold : List ℕ → ℕ → List ℕ → Outcome (List Hold) × List ℕ
+hold s holder cells = on_bytes s (on_table held_table s (hold_funding (held_at s) holder cells))
 
-abbrev pub release : List ℕ → List ℕ → After (List Hold)
-release s cells = lent_table held_bytes 12292 s (release_for_watchtower (held_of s) cells)
+abbrev pub watch : List ℕ → List ℕ → ℕ → Outcome (List Hold) × List ℕ
+watch s cells now = on_bytes s (on_table held_table s (hold_for_watchtower (held_at s) cells (ms now)))
 
-abbrev pub lock : List ℕ → ℕ → List ℕ → After (List Hold) × List ℕ
-lock s now out = lent_with held_bytes 12292 s out (lock_held (held_of s) (ms now) out)
+abbrev pub release : List ℕ → List ℕ → Outcome (List Hold) × List ℕ
+release s cells = on_bytes s (on_table held_table s (release_for_watchtower (held_at s) cells))
+
+-- where s means l
+abbrev pub lock_on : List Hold → List ℕ → ℕ → List ℕ → (Outcome (List Hold) × List ℕ) × List ℕ
+lock_on l s now out =
+    let o = on_table held_table s (lock_held l (ms now) out) in
+    (on_bytes s o, writes cells_of o out)
+
+abbrev pub lock : List ℕ → ℕ → List ℕ → (Outcome (List Hold) × List ℕ) × List ℕ
+lock s now out = lock_on (held_at s) s now out
+
+abbrev pub named_on : List Hold → List ℕ → List ℕ → List ℕ → ℕ → List ℕ → ℕ × List ℕ
+named_on l s picked spent now out = after_list (λ b. on_table held_table s (unavailable l picked spent (ms now) b)) out
 
 abbrev pub named : List ℕ → List ℕ → List ℕ → ℕ → List ℕ → ℕ × List ℕ
-named s picked spent now out = lent_read 12292 s out (unavailable (held_of s) picked spent (ms now) out)
+named s picked spent now out = named_on (held_at s) s picked spent now out
 
-abbrev pub takes : List ℕ → List ℕ → List ℕ → Taker → ℕ → List ℕ → List ℕ → After (List Hold) × List ℕ × List ℕ
-takes s picked spent taker now out₁ out₂ = lent_with_two held_bytes 12292 s out₁ out₂ (take_cells (held_of s) picked spent taker (ms now) out₁ out₂)
+abbrev pub takes_on : List Hold → List ℕ → List ℕ → List ℕ → Taker → ℕ → List ℕ → List ℕ → (Outcome (List Hold) × List ℕ) × List ℕ × List ℕ
+takes_on l s picked spent taker now out₁ out₂ =
+    let o = on_table held_table s (take_cells l picked spent taker (ms now) out₁ out₂) in
+    (on_bytes s (records_after o), writes (λ k. k.taken) o out₁, writes (λ k. k.rest) o out₂)
+
+abbrev pub takes : List ℕ → List ℕ → List ℕ → Taker → ℕ → List ℕ → List ℕ → (Outcome (List Hold) × List ℕ) × List ℕ × List ℕ
+takes s picked spent taker now out₁ out₂ = takes_on (held_at s) s picked spent taker now out₁ out₂
 
 -- ---- tables in bytes
 
@@ -80,68 +99,68 @@ longer = room 12293
 
 -- ---- `hold_funding`
 
-abbrev pub funded : List (Row (After (List Hold)))
+abbrev pub funded : List (Row (Outcome (List Hold) × List ℕ))
 funded =
     -- what is done is put over the bytes, and those behind it keep their value; a record of no named kind is written as the watchtower's
-    (hold empty 1 (of1 A) gives done (funding 1 A ∷ [], table 1 (funding_place 1 A ∷ [])))
-    ∷ (hold odd 1 none gives done (tower 5 A ∷ [], table 1 (tower_place 5 A ∷ [])))
+    (hold empty 1 (of1 A) gives (fine (funding 1 A ∷ []), table 1 (funding_place 1 A ∷ [])))
+    ∷ (hold odd 1 none gives (fine (tower 5 A ∷ []), table 1 (tower_place 5 A ∷ [])))
     -- a refusal leaves them: 3, bytes of another length, or the list; 14
-    ∷ (hold shorter 1 (of1 A) gives refused 3 shorter)
-    ∷ (hold longer 1 (of1 A) gives refused 3 longer)
-    ∷ (hold empty 1 no_list gives refused 3 empty)
-    ∷ (hold (zeros 256) 1 (of1 A) gives refused 14 (zeros 256))
+    ∷ (hold shorter 1 (of1 A) gives (refused 3 [], shorter))
+    ∷ (hold longer 1 (of1 A) gives (refused 3 [], longer))
+    ∷ (hold empty 1 no_list gives (refused 3 [], empty))
+    ∷ (hold (zeros 256) 1 (of1 A) gives (refused 14 [], zeros 256))
     ∷ []
 
 -- ---- `hold_for_watchtower`
 
-abbrev pub watched : List (Row (After (List Hold)))
+abbrev pub watched : List (Row (Outcome (List Hold) × List ℕ))
 watched =
     -- a new record goes last, a renewed one keeps its place, and its kind is then the named one
-    (watch empty (of1 A) 1000 gives done (tower 1801000 A ∷ [], table 1 (tower_place 1801000 A ∷ [])))
-    ∷ (watch two (of2 C A) 1000 gives done (tower 1801000 A ∷ funding 7 B ∷ tower 1801000 C ∷ [], table 3 (tower_place 1801000 A ∷ funding_place 7 B ∷ tower_place 1801000 C ∷ [])))
-    ∷ (watch odd (of1 A) 1000 gives done (tower 1801000 A ∷ [], table 1 (tower_place 1801000 A ∷ [])))
+    (watch empty (of1 A) 1000 gives (fine (tower 1801000 A ∷ []), table 1 (tower_place 1801000 A ∷ [])))
+    ∷ (watch two (of2 C A) 1000 gives (fine (tower 1801000 A ∷ funding 7 B ∷ tower 1801000 C ∷ []), table 3 (tower_place 1801000 A ∷ funding_place 7 B ∷ tower_place 1801000 C ∷ [])))
+    ∷ (watch odd (of1 A) 1000 gives (fine (tower 1801000 A ∷ []), table 1 (tower_place 1801000 A ∷ [])))
     -- 3, bytes of another length, or the list
-    ∷ (watch shorter (of1 A) 1000 gives refused 3 shorter)
-    ∷ (watch longer (of1 A) 1000 gives refused 3 longer)
-    ∷ (watch two no_list 1000 gives refused 3 two)
+    ∷ (watch shorter (of1 A) 1000 gives (refused 3 [], shorter))
+    ∷ (watch longer (of1 A) 1000 gives (refused 3 [], longer))
+    ∷ (watch two no_list 1000 gives (refused 3 [], two))
     -- 256 records pass, one more is 14; a count beyond the places means all of them, and stays as it was
-    ∷ (watch (zeros 255) (of1 A) 1000 gives done (of_zeros 255 ++ (tower 1801000 A ∷ []), to_le 4 256 ++ replicate 12240 0 ++ tower_place 1801000 A))
-    ∷ (watch (zeros 256) (of1 A) 1000 gives refused 14 (zeros 256))
-    ∷ (watch (zeros 257) (of1 A) 1000 gives refused 14 (zeros 257))
+    ∷ (watch (zeros 255) (of1 A) 1000 gives (fine (of_zeros 255 ++ (tower 1801000 A ∷ [])), to_le 4 256 ++ replicate 12240 0 ++ tower_place 1801000 A))
+    ∷ (watch (zeros 256) (of1 A) 1000 gives (refused 14 [], zeros 256))
+    ∷ (watch (zeros 257) (of1 A) 1000 gives (refused 14 [], zeros 257))
     ∷ []
 
 -- ---- `release_for_watchtower`
 
-abbrev pub released : List (Row (After (List Hold)))
+abbrev pub released : List (Row (Outcome (List Hold) × List ℕ))
 released =
     -- the records left are put over the bytes: behind the last one stands what stood there
-    (release two (of2 A B) gives done (funding 7 B ∷ [], table 1 (funding_place 7 B ∷ funding_place 7 B ∷ [])))
-    ∷ (release two (of2 B C) gives done (tower 1000 A ∷ funding 7 B ∷ [], two))
-    ∷ (release odd (of1 A) gives done ([], table 0 (place 9 5 A ∷ [])))
+    (release two (of2 A B) gives (fine (funding 7 B ∷ []), table 1 (funding_place 7 B ∷ funding_place 7 B ∷ [])))
+    ∷ (release two (of2 B C) gives (fine (tower 1000 A ∷ funding 7 B ∷ []), two))
+    ∷ (release odd (of1 A) gives (fine [], table 0 (place 9 5 A ∷ [])))
     -- a count beyond the places is written as that of all of them
-    ∷ (release (zeros 257) (of1 A) gives done (of_zeros 256, zeros 256))
+    ∷ (release (zeros 257) (of1 A) gives (fine (of_zeros 256), zeros 256))
     -- 3, bytes of another length, or the list
-    ∷ (release shorter (of1 A) gives refused 3 shorter)
-    ∷ (release longer (of1 A) gives refused 3 longer)
-    ∷ (release two no_list gives refused 3 two)
+    ∷ (release shorter (of1 A) gives (refused 3 [], shorter))
+    ∷ (release longer (of1 A) gives (refused 3 [], longer))
+    ∷ (release two no_list gives (refused 3 [], two))
     ∷ []
 
 -- ---- `lock_held`, with the buffer
 
-abbrev pub locked : List (Row (After (List Hold) × List ℕ))
+abbrev pub locked : List (Row ((Outcome (List Hold) × List ℕ) × List ℕ))
 locked =
     -- ended records go, and the cells left are listed
-    (lock two 999 (room 80) gives (done (tower 1000 A ∷ funding 7 B ∷ [], two), of2 A B ++ room 4))
-    ∷ (lock two 1000 (room 80) gives (done (funding 7 B ∷ [], table 1 (funding_place 7 B ∷ funding_place 7 B ∷ [])), of1 B ++ room 40))
-    ∷ (lock empty 1000 (room 4) gives (done ([], empty), none))
-    ∷ (lock (zeros 257) 1000 (room 9220) gives (done (of_zeros 256, zeros 256), to_le 4 256 ++ replicate 9216 0))
+    (lock two 999 (room 80) gives ((fine (tower 1000 A ∷ funding 7 B ∷ []), two), of2 A B ++ room 4))
+    ∷ (lock two 1000 (room 80) gives ((fine (funding 7 B ∷ []), table 1 (funding_place 7 B ∷ funding_place 7 B ∷ [])), of1 B ++ room 40))
+    ∷ (lock empty 1000 (room 4) gives ((fine [], empty), none))
+    ∷ (lock (zeros 257) 1000 (room 9220) gives ((fine (of_zeros 256), zeros 256), to_le 4 256 ++ replicate 9216 0))
     -- 13, and then nothing is dropped
-    ∷ (lock two 1000 (room 39) gives (refused 13 two, room 39))
-    ∷ (lock ended 1000 (room 3) gives (refused 13 ended, room 3))
-    ∷ (lock (zeros 257) 1000 (room 9219) gives (refused 13 (zeros 257), room 9219))
+    ∷ (lock two 1000 (room 39) gives ((refused 13 [], two), room 39))
+    ∷ (lock ended 1000 (room 3) gives ((refused 13 [], ended), room 3))
+    ∷ (lock (zeros 257) 1000 (room 9219) gives ((refused 13 [], zeros 257), room 9219))
     -- 3, bytes of another length
-    ∷ (lock shorter 1000 (room 80) gives (refused 3 shorter, room 80))
-    ∷ (lock longer 1000 (room 3) gives (refused 3 longer, room 3))
+    ∷ (lock shorter 1000 (room 80) gives ((refused 3 [], shorter), room 80))
+    ∷ (lock longer 1000 (room 3) gives ((refused 3 [], longer), room 3))
     ∷ []
 
 -- ---- `unavailable`, which only reads the table, with the buffer
@@ -162,25 +181,25 @@ naming =
 
 -- ---- `take`, with both buffers
 
-abbrev pub taken : List (Row (After (List Hold) × List ℕ × List ℕ))
+abbrev pub taken : List (Row ((Outcome (List Hold) × List ℕ) × List ℕ × List ℕ))
 taken =
     -- the ended record goes, what is taken goes last, and both lists keep pick order
     (takes two (point_list (C ∷ A ∷ B ∷ A ∷ [])) (of1 C) (Taker.Funding 1) 1000 (room 41) (room 113)
-    gives (done (funding 7 B ∷ funding 1 A ∷ [], table 2 (funding_place 7 B ∷ funding_place 1 A ∷ [])), of1 A ++ room 1, point_list (C ∷ B ∷ A ∷ []) ++ room 1))
-    ∷ (takes empty (of1 A) none Taker.Watchtower 1000 (room 40) (room 4) gives (done (tower 61000 A ∷ [], table 1 (tower_place 61000 A ∷ [])), of1 A, none))
+    gives ((fine (funding 7 B ∷ funding 1 A ∷ []), table 2 (funding_place 7 B ∷ funding_place 1 A ∷ [])), of1 A ++ room 1, point_list (C ∷ B ∷ A ∷ []) ++ room 1))
+    ∷ (takes empty (of1 A) none Taker.Watchtower 1000 (room 40) (room 4) gives ((fine (tower 61000 A ∷ []), table 1 (tower_place 61000 A ∷ [])), of1 A, none))
     -- nothing taken: the table is written all the same, with no ended record
-    ∷ (takes two (of1 B) none Taker.Watchtower 1000 (room 4) (room 40) gives (done (funding 7 B ∷ [], table 1 (funding_place 7 B ∷ funding_place 7 B ∷ [])), none, of1 B))
+    ∷ (takes two (of1 B) none Taker.Watchtower 1000 (room 4) (room 40) gives ((fine (funding 7 B ∷ []), table 1 (funding_place 7 B ∷ funding_place 7 B ∷ [])), none, of1 B))
     -- 256 records pass, one more is 14
-    ∷ (takes (zeros 255) (of1 A) none (Taker.Funding 1) 1000 (room 40) (room 4) gives (done (of_zeros 255 ++ (funding 1 A ∷ []), to_le 4 256 ++ replicate 12240 0 ++ funding_place 1 A), of1 A, none))
-    ∷ (takes (zeros 255) (of2 A B) none (Taker.Funding 1) 1000 (room 76) (room 4) gives (refused 14 (zeros 255), room 76, room 4))
-    ∷ (takes (zeros 257) (of1 A) none (Taker.Funding 1) 1000 (room 40) (room 4) gives (refused 14 (zeros 257), room 40, room 4))
+    ∷ (takes (zeros 255) (of1 A) none (Taker.Funding 1) 1000 (room 40) (room 4) gives ((fine (of_zeros 255 ++ (funding 1 A ∷ [])), to_le 4 256 ++ replicate 12240 0 ++ funding_place 1 A), of1 A, none))
+    ∷ (takes (zeros 255) (of2 A B) none (Taker.Funding 1) 1000 (room 76) (room 4) gives ((refused 14 [], zeros 255), room 76, room 4))
+    ∷ (takes (zeros 257) (of1 A) none (Taker.Funding 1) 1000 (room 40) (room 4) gives ((refused 14 [], zeros 257), room 40, room 4))
     -- 13, no room for the taken ones, or for the refused ones: the ended record stays
-    ∷ (takes two (of2 A B) none (Taker.Funding 1) 1000 (room 39) (room 40) gives (refused 13 two, room 39, room 40))
-    ∷ (takes two (of2 A B) none (Taker.Funding 1) 1000 (room 40) (room 39) gives (refused 13 two, room 40, room 39))
-    ∷ (takes ended none none (Taker.Funding 1) 1000 (room 3) (room 4) gives (refused 13 ended, room 3, room 4))
+    ∷ (takes two (of2 A B) none (Taker.Funding 1) 1000 (room 39) (room 40) gives ((refused 13 [], two), room 39, room 40))
+    ∷ (takes two (of2 A B) none (Taker.Funding 1) 1000 (room 40) (room 39) gives ((refused 13 [], two), room 40, room 39))
+    ∷ (takes ended none none (Taker.Funding 1) 1000 (room 3) (room 4) gives ((refused 13 [], ended), room 3, room 4))
     -- 3, bytes of another length, or either list
-    ∷ (takes shorter (of1 A) none (Taker.Funding 1) 1000 (room 40) (room 4) gives (refused 3 shorter, room 40, room 4))
-    ∷ (takes longer (of1 A) none (Taker.Funding 1) 1000 (room 3) (room 3) gives (refused 3 longer, room 3, room 3))
-    ∷ (takes two no_list none (Taker.Funding 1) 1000 (room 3) (room 3) gives (refused 3 two, room 3, room 3))
-    ∷ (takes two (of1 A) no_list (Taker.Funding 1) 1000 (room 3) (room 3) gives (refused 3 two, room 3, room 3))
+    ∷ (takes shorter (of1 A) none (Taker.Funding 1) 1000 (room 40) (room 4) gives ((refused 3 [], shorter), room 40, room 4))
+    ∷ (takes longer (of1 A) none (Taker.Funding 1) 1000 (room 3) (room 3) gives ((refused 3 [], longer), room 3, room 3))
+    ∷ (takes two no_list none (Taker.Funding 1) 1000 (room 3) (room 3) gives ((refused 3 [], two), room 3, room 3))
+    ∷ (takes two (of1 A) no_list (Taker.Funding 1) 1000 (room 3) (room 3) gives ((refused 3 [], two), room 3, room 3))
     ∷ []

@@ -129,7 +129,7 @@ unfoldable pub covered : Bool → ℕ → ℕ → ℕ → ℕ → Ruled ℕ
 covered opening gained needed rate size = do
   line 5 "added inputs below growth plus added outputs" (leb needed gained)
   line_with 8 (min (gained - needed) (2 ^ 64 - 1) ∷ fee_shannons rate size ∷ rate ∷ size ∷ []) "the fee too low"
-    (not opening || leb (fee_shannons rate size) (gained - needed))
+      (not opening || leb (fee_shannons rate size) (gained - needed))
   answer (gained - needed)
 
 -- the names of a tally's lines: of the cells that records bring in, and of added outputs
