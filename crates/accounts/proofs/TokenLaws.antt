@@ -8,7 +8,7 @@ use Rattle.lists.proofs.SpanLaws.{span-on, span-end}
 use Rattle.error.specs.Outcome.{Outcome, fine, ◌>>=◌, told_by}
 use Rattle.rules.specs.Cells.{Cell}
 use Rattle.lists.specs.Lists.{is_empty}
-use Rattle.rules.specs.Judge.{Names, of_outputs, counted, tally, settled, token_account}
+use Rattle.rules.specs.Judge.{of_outputs, counted, tally, settled, token_account}
 use Rattle.rules.specs.Lines.{Ruled, verdict, first_failing, answer, known}
 use Rattle.rules.specs.Lines as lines
 use Rattle.rules.proofs.LinesLaws.{verdict-bind}

@@ -11,7 +11,7 @@ use mathlib.Core.List.{List}
 use Prim.Native.Nat.{ℕ}
 use Rattle.error.specs.Outcome.{Outcome}
 use Rattle.units.specs.Units.{Figures}
-use Rattle.rules.specs.Judge.{Call, judge}
+use Rattle.rules.specs.Judge.{judge}
 use Rattle.rules.specs.Told.{Update, told, in_force_of}
 use Rattle.rules.specs.Run.{update_for_peer, handed_back}
 use Rattle.rules.specs.Lawful.{Obeys, two_figures}

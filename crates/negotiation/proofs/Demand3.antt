@@ -17,7 +17,7 @@ use Rattle.molecule.specs.Partial.{All}
 use Rattle.rules.specs.Surplus.{Measure}
 use Rattle.units.specs.Units.{Figures}
 use Rattle.rules.specs.Judge.{Call}
-use Rattle.rules.specs.Run.{Entry, Exact, update_for_peer, carried, sum_of, verdicts, in_force, next, forces}
+use Rattle.rules.specs.Run.{Entry, Exact, update_for_peer, carried, sum_of, verdicts, in_force, forces}
 use Rattle.error.proofs.Passed.{never, fine_inj, check-fine}
 use Rattle.rules.specs.Lawful.{Figure, Lawful, two_figures}
 use Rattle.rules.proofs.Accept.{update_owes}

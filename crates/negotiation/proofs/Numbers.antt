@@ -14,7 +14,7 @@ use Rattle.lists.specs.Lists.{is_empty}
 use Rattle.transaction.specs.Tx.{Tx, tx_at}
 use Rattle.rules.specs.Cells.{Cell, LentRecords, lent_at}
 use Rattle.rules.specs.Surplus.{is_of, added}
-use Rattle.rules.specs.Lines.{Name, Line, Ruled, first_failing, verdict, followed, answer, line, line_with, ◌>>=◌, ◌>>◌}
+use Rattle.rules.specs.Lines.{Name, Line, Ruled, first_failing, verdict, followed, answer, line_with, ◌>>=◌, ◌>>◌}
 use Rattle.rules.specs.Judge.{Call, Names, limits, comparison, live, live_cells, spent, token_delta, funding_output_delta, covered, counted, tally, settled, token_account, accounts, contribution, scripts, opening, closing, ruling, ruling_against, judge}
 use Rattle.rules.specs.Run.{next, verdicts, update_for_peer}
 

@@ -1,5 +1,5 @@
 -- Laws of what the records bring in, one for each way out of the functions but the walk.
-use Rattle.error.specs.Outcome.{refusal, told_by, Outcome, fine, refused, given, check, check_with, ◌>>◌, ◌>>=◌}
+use Rattle.error.specs.Outcome.{refusal, told_by, Outcome, fine, refused, check, check_with, ◌>>◌, ◌>>=◌}
 use Rattle.std.proofs.Common.{Result}
 use mathlib.Core.Path.{◌≡◌, refl, sym, ap, ap₂, ◌∙◌}
 use Prim.Native.Nat.{ℕ, ◌+◌, ◌-◌, ◌<◌}
@@ -22,7 +22,7 @@ use Rattle.rules.specs.Judge.{has_lock, live, live_cells, spent}
 use Rattle.error.specs.declared.Refusal.{Refusal}
 use Rattle.error.specs.Refusal.{number, values}
 use Rattle.accounts.specs.declared.Brought as accounts
-use Rattle.rules.specs.Lines.{Ruled, verdict, answer, first_failing}
+use Rattle.rules.specs.Lines.{verdict, answer}
 use Rattle.rules.proofs.LinesLaws.{line-then, verdict-then, answer_is}
 use Rattle.records.specs.Inner.{gathered, or_unreadable}
 use Rattle.records.specs.Resolved.{Brought, brought, brought_by, brings}

@@ -1,14 +1,12 @@
 -- An accepted update is a step, in capacity and in the expected token.
 use mathlib.Core.Path.{◌≡◌, refl, sym, ap, ◌∙◌, subst}
 use Prim.Native.Nat.{ℕ, suc, ◌+◌, ◌-◌, ◌^◌, ◌≤◌}
-use Prim.Native.String.{String}
 use native.Mathlib.Omega.{arith}
 use mathlib.Core.Bool.{Bool, true, false, not, cond, ◌||◌}
 use mathlib.Core.List.{List, [], ◌∷◌}
 use mathlib.Core.Option.{Option, none, some}
 use lib.ListN.{length, drop}
 use lib.Dec.{T, leb, ltb, eqb, eqb→eq, leb→le}
-use lib.Text.{eqt}
 use Rattle.error.specs.Outcome.{Outcome, fine, refused, check_with, leaves}
 use Rattle.error.specs.Outcome as outcome
 use Rattle.error.proofs.Passed.{is_true}
@@ -20,8 +18,8 @@ use Rattle.lists.specs.Lists.{is_empty}
 use Rattle.transaction.specs.Ckb.{Transaction}
 use Rattle.transaction.specs.Tx.{Tx, tx_at}
 use Rattle.rules.specs.Cells.{Cell, cells, LentRecords, lent_at}
-use Rattle.rules.specs.Surplus.{total, first, added, Measure, capacities, capacity_of, amount_of, token_of, is_of, has_amount, expected}
-use Rattle.rules.specs.Lines.{Ruled, line, line_with, answer, verdict, followed, line_holds, first_failing, ◌>>=◌, ◌>>◌}
+use Rattle.rules.specs.Surplus.{total, first, added, capacities, capacity_of, amount_of, token_of, is_of, has_amount, expected}
+use Rattle.rules.specs.Lines.{line, line_with, answer, verdict, followed, line_holds, ◌>>=◌, ◌>>◌}
 use Rattle.rules.specs.Judge.{Call, judge, judge_against, ruling, ruling_against, opening, closing, scripts, limits, comparison, spent, live, live_cells, counted, Names, of_records, of_outputs, tally, settled, growth, token_delta, funding_output_delta, covered, token_account, accounts, contribution}
 use Rattle.rules.specs.Run.{handed_back, lent_cells, next, update_for_peer}
 use Rattle.rules.specs.Step.{Settled, with_data, Extends, Balanced}

@@ -2,14 +2,11 @@
 use mathlib.Core.Path.{◌≡◌, refl, sym, ap, ap₂, ◌∙◌}
 use Prim.Native.Nat.{ℕ, zero, suc, ◌+◌, ◌-◌, ◌≤◌, ◌<◌, max}
 use mathlib.Core.List.{List, [], ◌∷◌}
-use mathlib.Core.Bool.{true, false}
-use mathlib.Core.Option.{none, some}
 use native.Mathlib.Omega.{arith}
 use lib.ListN.{length, drop}
 use Rattle.molecule.specs.Layout.{span, item_count, item_of, entry_of}
 use Rattle.molecule.proofs.LayoutLaws.{entry_past}
 use Rattle.lists.proofs.SpanLaws.{span-on, span-whole, span-drop}
-use Rattle.transaction.specs.Ckb.{Records}
 use Rattle.transaction.specs.Tx.{tx_at, raw_field}
 use Rattle.rules.specs.Cells.{Cell, pair, cells}
 use Rattle.rules.specs.Surplus.{added}

@@ -3,10 +3,10 @@ use mathlib.Core.Path.{◌≡◌, refl, sym, ◌∙◌}
 use Prim.Native.Nat.{ℕ}
 use Prim.Native.String.{String}
 use mathlib.Core.Bool.{Bool, true, false, ◌&&◌, false≢true}
-use mathlib.Core.List.{List, []}
+use mathlib.Core.List.{[]}
 use Rattle.error.specs.Outcome.{Outcome, check, check_with}
 use Rattle.error.specs.Outcome as outcome
-use Rattle.rules.specs.Lines.{Ruled, line, line_with, verdict, first_failing, followed, ◌>>◌}
+use Rattle.rules.specs.Lines.{Ruled, line, line_with, verdict, first_failing, ◌>>◌}
 use Rattle.rules.proofs.LinesLaws.{line-then}
 
 module _ (n : ℕ) where

@@ -1,9 +1,9 @@
 -- An entry that owes a balance in each figure for one acceptance is lawful over every list of calls.
-use mathlib.Core.Path.{◌≡◌, refl, sym, ap, ◌∙◌}
+use mathlib.Core.Path.{◌≡◌, refl, ap}
 use Prim.Native.Nat.{ℕ}
 use native.Mathlib.Omega.{arith}
 use mathlib.Core.Bool.{true, false}
-use mathlib.Core.List.{List, [], ◌∷◌, ◌++◌, map}
+use mathlib.Core.List.{List, [], ◌∷◌, map}
 use Rattle.error.specs.Outcome.{Outcome, fine, refused}
 use Rattle.molecule.specs.Partial.{All}
 use Rattle.molecule.specs.Molecule.{option, readable}
@@ -12,8 +12,8 @@ use Rattle.transaction.specs.Tx.{Tx, tx_at}
 use Rattle.rules.specs.Cells.{Cell, cells}
 use Rattle.rules.specs.Surplus.{Measure, added, nothing}
 use Rattle.rules.specs.Step.{Balanced, Step}
-use Rattle.rules.specs.Run.{Entry, Exact, verdicts, in_force, forces, Returned, Ran}
-use Rattle.rules.specs.Lawful.{Figure, Lawful, Owed, Owes, Obeys, Law, Either, one, other, mixed}
+use Rattle.rules.specs.Run.{Entry, Exact, verdicts, in_force, forces}
+use Rattle.rules.specs.Lawful.{Figure, Lawful, Owed, Owes, Law, Either, one, other, mixed}
 use Rattle.rules.proofs.Accept.{total-nothing, first-nothing, data_free}
 use Rattle.rules.proofs.Law.{exact, kept-inputs, kept-records, stay-readable, ran_answers, ran_handed, ran_bytes}
 

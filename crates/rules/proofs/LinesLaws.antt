@@ -1,5 +1,5 @@
 -- What is answered by lines, and what an acceptance says of each of them.
-use mathlib.Core.Path.{◌≡◌, refl, ap, ◌∙◌}
+use mathlib.Core.Path.{◌≡◌, refl, ◌∙◌}
 use Prim.Native.Nat.{ℕ}
 use Prim.Native.String.{String}
 use mathlib.Core.Bool.{Bool, true, false, cond}
@@ -7,8 +7,8 @@ use mathlib.Core.List.{List, [], ◌∷◌, ◌++◌}
 use lib.{Dec.T, Text.eqt}
 use Rattle.error.specs.Outcome.{Outcome, fine, refused, check_with, check}
 use Rattle.error.specs.Outcome as outcome
-use Rattle.error.proofs.Passed.{never, fine_inj, bound-fine, then-fine, check_with-fine}
-use Rattle.rules.specs.Lines.{Line, Ruled, first_failing, verdict, followed, line, line_with, answer, ◌>>=◌, ◌>>◌, line_holds}
+use Rattle.error.proofs.Passed.{fine_inj, bound-fine, then-fine, check_with-fine}
+use Rattle.rules.specs.Lines.{Line, Ruled, first_failing, verdict, followed, line_with, answer, ◌>>=◌, ◌>>◌, line_holds}
 
 -- ---- one block, and then another
 

@@ -1,7 +1,6 @@
 -- Outputs with their data, and the lent records (docs/RULES.md, "A peer's update arrives").
 use Rattle.std.specs.Prelude.{ℕ, Bool, cond, List, [], ◌∷◌, length, get_or, drop, eqb}
 use Rattle.std.proofs.Math.Option.{Option, none, some}
-use Rattle.molecule.specs.Partial.{only}
 use Rattle.molecule.specs.Molecule.{readable}
 use Rattle.molecule.specs.Layout.{span, item_count, item_of}
 use Rattle.transaction.specs.Ckb.{Records}
