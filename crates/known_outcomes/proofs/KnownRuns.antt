@@ -102,4 +102,4 @@ no_untyped_law e =
 
 -- capacity needs no such condition
 pub any_type-capacity : (lock start : List ℕ) (calls : List (List ℕ × Call)) → Exact (any_type lock) capacities (λ s. s.capacity) start calls (verdicts (any_type lock) start calls) (in_force (any_type lock) start calls)
-any_type-capacity lock = exact (any_type lock) capacities (λ s. s.capacity) (λ ours c s e. (let (w, _) = accepted lock c.0 ours c.1 s e in step_of w w.balanced.0))
+any_type-capacity lock = exact (any_type lock) capacities (λ s. s.capacity) (λ ours c s e. (let (w, _, _) = accepted lock c.0 ours c.1 s e in step_of w w.balanced.0))

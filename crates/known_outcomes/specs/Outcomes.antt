@@ -8,11 +8,11 @@ use Rattle.units.specs.Units.{in_shannons}
 use Rattle.units.specs.Fee.{required_fee, change_capacity}
 use Rattle.molecule.specs.Molecule.{Value, encode}
 use Rattle.transaction.specs.Ckb.{Script, CellOutput, TokenCell, TokenCells}
-use Rattle.error.specs.Outcome as verdict
+use Rattle.error.specs.Outcome.{Outcome, fine, refused, number_of, leaves}
 use Rattle.out_points.specs.OutPoints.{point_list}
-use Rattle.out_points.specs.Tables as table
-use Rattle.hold_records.specs.declared.{Hold.Hold, Held.Held, Taker.Taker}
-use Rattle.hold_records.specs.Holds.{hold_for_watchtower, unavailable, take_cells}
+use Rattle.out_points.specs.Tables.{after_list}
+use Rattle.hold_records.specs.declared.{Hold.Hold, Taker.Taker}
+use Rattle.hold_records.specs.Holds.{hold_for_watchtower, unavailable, take_cells, after_take}
 use Rattle.funding_cell.specs.declared.{FundingRequest.FundingRequest}
 use Rattle.funding_cell.specs.FundingCell.{build_funding_cell}
 use Rattle.udt_cells.specs.Change.{Built, udt_inputs_outputs}
@@ -20,7 +20,7 @@ use Rattle.case_file.specs.CaseFile.{case_line}
 use Rattle.known_outcomes.specs.CaseFiles.{ascii, file, file_at, first_file}
 use Rattle.known_exclusions.specs.Exclusions.{listed, excluded_by}
 use Rattle.known_cases.specs.Rows.{Row, ◌gives◌}
-use Rattle.known_cases.specs.Cases.{plain_script, expected_lock, our_lock, token_type, inputs, output, plain, token, amount, ms, point, holds_of, spending, with_inputs, crowd, cell, not_live, at_rate, offer, untyped, numbers, answer}
+use Rattle.known_cases.specs.Cases.{plain_script, expected_lock, our_lock, token_type, inputs, output, plain, token, amount, ms, point, spending, with_inputs, crowd, cell, not_live, at_rate, offer, untyped, numbers, answer}
 
 abbrev bytes : List ℕ → List ℕ
 bytes s = length s ∷ []
@@ -58,29 +58,24 @@ tokens_tx = spending (inputs 2) (token 100 ∷ []) (amount 5 ∷ [])
 abbrev pub room : ℕ → List ℕ
 room n = replicate (4 + 36 * n) 0
 
--- the number of a call that returns a table, and what the table then means
-abbrev number_of : {T M : Type 0} → table.Outcome T M → ℕ
-number_of (table.done l) = 0
-number_of (table.refused n t) = n
-
-abbrev meant_by : {T A : Type 0} → table.Outcome T (List A) → List A
-meant_by (table.done l) = l
-meant_by (table.refused n t) = []
+-- what a call leaves of an empty table
+abbrev left_by : Outcome (List Hold) → List Hold
+left_by o = leaves o (λ l. l) []
 
 -- ---- the table of holds: A is the cell 1, B the cell 2
 
 -- what is unavailable of A at a time, which the watchtower got at 1,000
 abbrev busy_at : ℕ → List ℕ
-busy_at time = listed (unavailable (holds_of (meant_by (hold_for_watchtower (holds_of []) (point_list (point 1 ∷ [])) (ms 1000)))) (point_list (point 1 ∷ [])) (point_list []) (ms time) (room 1))
+busy_at time = listed (after_list (unavailable (left_by (hold_for_watchtower [] (point_list (point 1 ∷ [])) (ms 1000))) (point_list (point 1 ∷ [])) (point_list []) (ms time)) (room 1))
 
 -- A, A, B picked from an empty table
-abbrev picked_aab : table.Outcome Held (List Hold) × List ℕ × List ℕ
-picked_aab = take_cells (holds_of []) (point_list (point 1 ∷ point 1 ∷ point 2 ∷ [])) (point_list []) Taker.Watchtower (ms 1000) (room 2) (room 1)
+abbrev picked_aab : Outcome (List Hold) × List ℕ × List ℕ
+picked_aab = after_take (take_cells [] (point_list (point 1 ∷ point 1 ∷ point 2 ∷ [])) (point_list []) Taker.Watchtower (ms 1000)) (room 2) (room 1)
 
-abbrev taken : table.Outcome Held (List Hold) × List ℕ × List ℕ → List ℕ
+abbrev taken : Outcome (List Hold) × List ℕ × List ℕ → List ℕ
 taken (o, out₁, out₂) = listed (number_of o, out₁)
 
-abbrev turned_away : table.Outcome Held (List Hold) × List ℕ × List ℕ → List ℕ
+abbrev turned_away : Outcome (List Hold) × List ℕ × List ℕ → List ℕ
 turned_away (o, out₁, out₂) = listed (number_of o, out₂)
 
 -- a request of local 5, reserve 7, remote 11, reserve 13
@@ -105,19 +100,19 @@ abbrev lent_buffer : List ℕ
 lent_buffer = replicate 132 7
 
 -- so many tokens picked of cells of 30, 50 and 40
-abbrev pick : ℕ → verdict.Outcome Built × List ℕ
+abbrev pick : ℕ → Outcome Built × List ℕ
 pick wanted = udt_inputs_outputs three_cells token_type our_lock wanted lent_buffer
 
 -- 0, how many cells are taken, the change and the capacity of its output; or the refusal's number
-abbrev built_numbers : verdict.Outcome Built → List ℕ
-built_numbers (verdict.fine b) = 0 ∷ b.taken ∷ b.change ∷ b.capacity ∷ []
-built_numbers (verdict.refused n l) = n ∷ l
+abbrev built_numbers : Outcome Built → List ℕ
+built_numbers (fine b) = 0 ∷ b.taken ∷ b.change ∷ b.capacity ∷ []
+built_numbers (refused n l) = n ∷ l
 
 abbrev picked : ℕ → List ℕ
 picked wanted = built_numbers (pick wanted).0
 
-abbrev left_by : ℕ → List ℕ
-left_by wanted = (pick wanted).1
+abbrev buffer_left : ℕ → List ℕ
+buffer_left wanted = (pick wanted).1
 
 -- scripts with args of so many bytes
 abbrev with_args : ℕ → List ℕ
@@ -171,11 +166,11 @@ outcomes =
     -- cells 30, 50, 40: wanted 70 takes two, change 10; 80 none; 121 gets 9
     -- (the change output under our lock, of the type, stands in the buffer; without one the buffer is as it was)
     ∷ (picked 70 gives 0 ∷ 2 ∷ 10 ∷ 9000000000 ∷ [])
-    ∷ (left_by 70 gives encode CellOutput (output 1 (some (plain_script 2)) 9000000000) ++ 7 ∷ 7 ∷ [])
+    ∷ (buffer_left 70 gives encode CellOutput (output 1 (some (plain_script 2)) 9000000000) ++ 7 ∷ 7 ∷ [])
     ∷ (picked 80 gives 0 ∷ 2 ∷ 0 ∷ 0 ∷ [])
-    ∷ (left_by 80 gives lent_buffer)
+    ∷ (buffer_left 80 gives lent_buffer)
     ∷ (picked 121 gives 9 ∷ [])
-    ∷ (left_by 121 gives lent_buffer)
+    ∷ (buffer_left 121 gives lent_buffer)
     -- lock args 20, type args 32: change capacity 14,200,000,000
     ∷ (if_fits (change_capacity 20 32) gives 14200000000 ∷ [])
     ∷ (built_numbers (udt_inputs_outputs three_cells (with_args 32) (with_args 20) 70 (replicate 200 7)).0 gives 0 ∷ 2 ∷ 10 ∷ 14200000000 ∷ [])

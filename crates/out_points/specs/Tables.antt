@@ -1,7 +1,7 @@
 -- What the tables of cells share (docs/RULES.md, "Holds and exclusions"): holds (crate hold_records) and excluded transactions (crate exclusion_entries).
-use Rattle.std.specs.Prelude.{ℕ, min, Bool, cond, List, [], ◌∷◌, ◌++◌}
-use lib.{Dec.leb, ListN.length, ListN.drop}
-use Rattle.error.specs.Outcome.{Outcome, number_of, leaves}
+use Rattle.std.specs.Prelude.{ℕ, min, Bool, cond, List, [], ◌∷◌}
+use lib.{Dec.leb, ListN.length}
+use Rattle.error.specs.Outcome.{Outcome, number_of, leaves, put_first}
 use Rattle.out_points.specs.{declared.OutPoint.OutPoint, OutPoints.point_list}
 
 -- "New records go last; a renewed watchtower record or hash keeps its place": x in the place of the first element that passes the test, or last
@@ -14,7 +14,7 @@ unfoldable pub has_room : List OutPoint → List ℕ → Bool
 has_room l out = leb (length (point_list l)) (min (length out) 133116)
 
 unfoldable pub with_list : List OutPoint → List ℕ → List ℕ
-with_list l out = point_list l ++ drop (length (point_list l)) out
+with_list l out = put_first (point_list l) out
 
 -- the buffer after a call with this outcome, of which it writes the list f
 abbrev pub writes : {A : Type 0} → (A → List OutPoint) → Outcome A → List ℕ → List ℕ
