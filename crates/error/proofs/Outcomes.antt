@@ -1,6 +1,8 @@
--- What follows an answer, and what follows a refusal; `outcomes` lists these for the checks of functions that answer as a `do` block does.
+-- What follows an answer, and what follows a refusal; `outcomes` lists these for the checks of functions that answer as a `do` block does, and what unfolds
+-- `answering` unfolds each definition that is named below it.
 use Rattle.std.proofs.Common.{◌≡◌, ℕ, List, refl}
-use Rattle.error.specs.Outcome.{Outcome, fine, refused, ◌>>=◌, ◌>>◌}
+use Rattle.error.specs.Outcome.{Outcome, fine, refused, answer_by, check, check_with, ◌>>=◌, ◌>>◌}
+use Rattle.error.specs.Refusal.{number, values}
 
 pub then_fine : {B : Type 0} (r : Outcome B) → (fine tt >> r) ≡ r
 unfolding ◌>>◌
@@ -19,3 +21,7 @@ unfolding ◌>>=◌
 bind_refused n l f = refl
 
 pub ruleset outcomes = (then_fine, then_refused, bind_fine, bind_refused)
+
+unfoldable pub answering : Unit {0}
+unfolding answer_by check check_with number values
+answering = tt

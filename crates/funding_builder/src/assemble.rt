@@ -6,10 +6,8 @@ ghost use Rattle.transaction.specs.Ckb.{Script};
 ghost use Rattle.error.specs.Outcome.{fine, told};
 ghost use Rattle.list_writer.specs.ListWriter.{if_positive};
 ghost use Rattle.transaction_writer.specs.Written.{written};
-ghost use Rattle.funding_cell.specs.FundingCell.{figures_of};
-ghost use Rattle.udt_cells.specs.Pick.{pick_of};
-ghost use Rattle.funding_builder.specs.Base.{change_capacity, packed, base_tx};
-ghost use Rattle.funding_builder.specs.Lent.{lent_in};
+ghost use Rattle.funding_builder.specs.Base.{change_capacity};
+ghost use Rattle.funding_builder.specs.Lent.{lent_in, base_in};
 ghost use Rattle.funding_builder.specs.Steps.{Readable, Roomy, Planned, AreDeps};
 
 use crate::Lent;
@@ -91,7 +89,7 @@ impl<'a> Assembly<'a> {
     fn write_with(&self, places: &mut [usize], sorted: &mut [usize], out: &mut [u8]) -> Written
         requires readable { Readable (lent_in self.now.lent) }
         requires roomy { Roomy (lent_in self.now.lent) self.now.picked.taken (length places.old) (length sorted.old) }
-        ensures { (told result, out.new) ≡ written (fine (packed (base_tx (lent_in self.now.lent) (figures_of self.now.cell) (pick_of self.now.picked)))) out.old }
+        ensures { (told result, out.new) ≡ written (fine (base_in self.now)) out.old }
     {
         transaction_writer::are_bytes(self.lent.ours);
         let deps = self.dep_lists();
@@ -116,7 +114,7 @@ impl<'a> Assembly<'a> {
         requires readable { Readable (lent_in self.now.lent) }
         requires roomy { Roomy (lent_in self.now.lent) self.now.picked.taken ROOM ROOM }
         requires room_bound { ROOM ≤ 3597 }
-        ensures { (told result, out.new) ≡ written (fine (packed (base_tx (lent_in self.now.lent) (figures_of self.now.cell) (pick_of self.now.picked)))) out.old }
+        ensures { (told result, out.new) ≡ written (fine (base_in self.now)) out.old }
     {
         let mut places = [0usize; ROOM];
         let mut sorted = [0usize; ROOM];
@@ -126,7 +124,7 @@ impl<'a> Assembly<'a> {
     // The same, with room for the places of all deps where they are few, and else of as many as fit a transaction.
     pub(crate) fn write(&self, out: &mut [u8]) -> Written
         requires { Readable (lent_in self.now.lent) }
-        ensures { (told result, out.new) ≡ written (fine (packed (base_tx (lent_in self.now.lent) (figures_of self.now.cell) (pick_of self.now.picked)))) out.old }
+        ensures { (told result, out.new) ≡ written (fine (base_in self.now)) out.old }
     {
         if self.dep_lists().dep_count() <= FEW_DEPS {
             return self.write_in::<FEW_DEPS>(out);

@@ -1,5 +1,5 @@
 // The base transaction of our own side: the funding cell, the tokens that we bring, and what the present transaction has already.
-#![tactic(auto, using(crate::proofs::Ways::ways), unfolding(crate::specs::Base::lists, crate::specs::Base::with_pick, crate::specs::Base::with_cell, crate::specs::Base::with_request, crate::specs::Base::build_base, transaction_writer::specs::Written::in_room, error::specs::Outcome::answer_by, error::specs::Outcome::check, error::specs::Outcome::check_with, error::specs::Refusal::number, error::specs::Refusal::values))]
+#![tactic(auto, using(crate::proofs::Ways::ways), unfolding(crate::proofs::Ways::building))]
 
 mod assemble;
 

@@ -1,6 +1,6 @@
--- Writing a transaction from its fields (RFC 0019): the version, and each list in its list form; and what a call that writes answers and leaves in the lent buffer
--- (docs/RULES.md, "A peer's update arrives", row "writing", and above the table "Lent bytes beyond those written keep their value"; "The three demands", 1: after
--- a refusal every lent output byte is as before).
+-- Writing a transaction from its fields (RFC 0019): the version, and each list in its list form; and what a call that writes answers and leaves in the lent
+-- buffer (docs/RULES.md, "A peer's update arrives", row "writing", and above the table "Lent bytes beyond those written keep their value"; "The three demands",
+-- 1: after a refusal every lent output byte is as before).
 use Rattle.std.specs.Prelude.{ℕ, ◌+◌, Bool, ◌&&◌, cond, List, [], ◌∷◌, ◌++◌, length, leb}
 use Rattle.arithmetic.specs.LittleEndian.{to_le}
 use Rattle.error.specs.Outcome.{Outcome, fine, check, ◌>>=◌, ◌>>◌, putting}

@@ -158,7 +158,7 @@ impl<'a> TxFields<'a> {
 
 // Writes a transaction from its fields, each list in its list form, to the start of out. Refused, and out as it was: a list that is not in its form
 // (3), a transaction over out or over 133,116 bytes (13).
-#[tactic(auto, using(error::proofs::Outcomes::outcomes, std::proofs::lemmas::Bool::Decides::nat_tests, crate::proofs::PutLaws::tx_length, molecule::proofs::WriteLaws::splice_zero), unfolding(crate::specs::Written::bytes_if, crate::specs::Written::in_room, crate::specs::Written::fits, error::specs::Outcome::answer_by, error::specs::Outcome::check, error::specs::Outcome::check_with, error::specs::Refusal::number, error::specs::Refusal::values))]
+#[tactic(auto, using(crate::proofs::AnswerLaws::writes), unfolding(crate::proofs::AnswerLaws::writing))]
 pub fn write_transaction(f: TxFields, out: &mut [u8]) -> Written
     ensures { (told result, out.new) ≡ written (bytes_if 3 (are_in_form f.entry) (fields_bytes f.entry)) out.old }
 {
@@ -180,7 +180,7 @@ pub fn are_bytes(s: &[u8])
 
 // Reads the fields of a transaction and writes them to the start of out: the same bytes again. Refused, and out as it was: bytes that are no
 // transaction (1), a transaction over out or over 133,116 bytes (13).
-#[tactic(auto, using(error::proofs::Outcomes::outcomes), unfolding(crate::specs::Written::bytes_if, crate::specs::Written::in_room, error::specs::Outcome::answer_by, error::specs::Outcome::check, error::specs::Outcome::check_with, error::specs::Refusal::number, error::specs::Refusal::values))]
+#[tactic(auto, using(error::proofs::Outcomes::outcomes), unfolding(crate::proofs::AnswerLaws::writing))]
 pub fn rewrite(s: &[u8], out: &mut [u8]) -> Written
     ensures { (told result, out.new) ≡ written (bytes_if 1 (readable Transaction s.now) s.now) out.old }
 {

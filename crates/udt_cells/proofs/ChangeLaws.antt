@@ -22,10 +22,11 @@ use Rattle.transaction.specs.Ckb.{Script, TokenCells}
 use Rattle.transaction.specs.Tx.{args_of}
 use Rattle.error.specs.Outcome.{fine, check, check_with, ◌>>◌}
 use Rattle.error.proofs.Passed.{is_true, check-fine, check_last}
-use Rattle.error.proofs.Outcomes.{outcomes}
+use Rattle.error.proofs.Outcomes.{outcomes, answering}
+use Rattle.transaction_writer.specs.Written as written
 use Rattle.std.proofs.lemmas.Bool.Decides.{nat_tests}
 use Rattle.cell_output.specs.CellOutput.{cell_output}
-use Rattle.udt_cells.specs.Change.{capacity_for, lent}
+use Rattle.udt_cells.specs.Change.{capacity_for, with_output, with_change, lent}
 use Rattle.cell_output.proofs.CellOutputLaws.{output-length}
 
 -- ---- the capacity
@@ -80,5 +81,9 @@ module _ (cells type source : List ℕ) (r : Bool) (er : check 3 r ≡ lent cell
   pub lent-option : readable (option Script) type ≡ true
   lent-option = let (a, e) = check-fine 3 _ _ tt lent-fine in let (b, f) = check-fine 3 _ _ tt e in is_true _ b
 
--- of the change as it is written
+-- of the change as it is written, and what it unfolds
 pub ruleset changed = (outcomes, nat_tests, output-length, put_at_start)
+
+unfoldable pub changing : Unit {0}
+unfolding answering with_change with_output written.fits change_capacity
+changing = tt

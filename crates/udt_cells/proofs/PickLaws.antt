@@ -4,13 +4,14 @@ use borrow.Author.Tests.{le-leb, lt-leb}
 use Rattle.std.specs.Option.{option_map}
 use Rattle.error.specs.declared.Refusal.{Refusal}
 use Rattle.error.specs.Refusal.{number, values}
-use Rattle.arithmetic.specs.Amount.{difference}
+use Rattle.arithmetic.specs.Amount.{sum, difference, amount_at}
 use Rattle.units.specs.declared.Tokens.{Tokens}
 use Rattle.units.specs.Units.{in_tokens, token_count}
 use Rattle.units.proofs.CountLaws.{tokens-left, tokens-enough, tokens_lacking}
 use Rattle.molecule.specs.Layout.{span, item_count, item_of, items_of}
 use Rattle.lists.proofs.SpanLaws.{span-on, span-end, span-whole}
 use Rattle.error.specs.Outcome.{Outcome, fine, ◌>>=◌, told_by, refusal}
+use Rattle.error.proofs.Outcomes.{answering}
 use Rattle.udt_cells.specs.Pick.{Pick, plus_cell, enough_or, pick_from}
 
 -- where the total is enough, no cell is looked at
@@ -49,3 +50,8 @@ module _ {wanted : Tokens} {s : List ℕ} {n taken : ℕ} {total : Tokens} {R : 
       pub pick_more : {t : Tokens} → q ≡ Ok t → Picking wanted s n (taken + 1) t R
       unfolding pick_from enough_or ◌>>=◌
       pick_more z = record { rest = p.rest ∙ rw (span-on (item_of s) taken n l, lacks, ← e, z) }
+
+-- what a cell's amount unfolds
+unfoldable pub adding : Unit {0}
+unfolding answering plus_cell sum amount_at
+adding = tt

@@ -1,5 +1,5 @@
 // The token cells that our side pays with: the pick among those that are lent, and the change that is left of them.
-#![tactic(auto, using(crate::proofs::Ways::ways), unfolding(crate::specs::Pick::pick_typed, crate::specs::Change::lent, crate::specs::Change::udt_made, crate::specs::Change::udt_inputs_outputs, error::specs::Outcome::answer_by, error::specs::Outcome::check, error::specs::Outcome::check_with, error::specs::Refusal::number, error::specs::Refusal::values))]
+#![tactic(auto, using(crate::proofs::Ways::ways), unfolding(crate::proofs::Ways::picking))]
 
 ghost use Rattle.std.specs.Prelude.{◌≡◌, true, ◌^◌, ◌<◌, min, length};
 ghost use Rattle.units.specs.Units.{token_count};
@@ -36,7 +36,7 @@ pub struct UdtInputsOutputs {
 // ---- the pick
 
 // A total with the amount of cell i.
-#[tactic(auto, using(error::proofs::Outcomes::outcomes), unfolding(crate::specs::Pick::plus_cell, arithmetic::specs::Amount::sum, arithmetic::specs::Amount::amount_at, error::specs::Outcome::check, error::specs::Outcome::check_with, error::specs::Refusal::number, error::specs::Refusal::values))]
+#[tactic(auto, using(error::proofs::Outcomes::outcomes), unfolding(crate::proofs::PickLaws::adding))]
 fn plus_cell(cells: &[u8], i: usize, total: Tokens) -> Result<Tokens, Refusal>
     ensures { told_by token_count result ≡ plus_cell (token_count total) (item_of cells.now i) }
 {
@@ -90,7 +90,7 @@ pub fn change_capacity(source: &[u8], udt: &[u8]) -> Option<Shannons>
 }
 
 // Writes the change output, if there is change, to the start of out.
-#[tactic(auto, using(crate::proofs::ChangeLaws::changed), unfolding(crate::specs::Change::with_change, crate::specs::Change::with_output, transaction_writer::specs::Written::fits, units::specs::Fee::change_capacity, error::specs::Outcome::answer_by, error::specs::Outcome::check, error::specs::Outcome::check_with, error::specs::Refusal::number, error::specs::Refusal::values))]
+#[tactic(auto, using(crate::proofs::ChangeLaws::changed), unfolding(crate::proofs::ChangeLaws::changing))]
 fn put_change(
     picked: Picked,
     udt: &[u8],

@@ -1,5 +1,5 @@
 // How an answer crosses to C: a number, and the words that it has to tell at the start of four that are lent. All other words keep their value.
-#![tactic(auto, using(crate::proofs::Ways::ways), unfolding(crate::specs::Words::set_words, crate::specs::Words::in_words, error::specs::Outcome::number_of, error::specs::Outcome::values_of, crate::specs::Words::surplus_words))]
+#![tactic(auto, using(crate::proofs::Ways::ways), unfolding(crate::proofs::Ways::telling))]
 
 ghost use Rattle.std.specs.Prelude.{◌≡◌, ◌≤◌, length};
 ghost use Rattle.error.specs.Refusal.{number, values};
