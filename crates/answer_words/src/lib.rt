@@ -95,7 +95,7 @@ fn replay_words(summary: Summary) -> [u64; 3]
 
 // What a list of updates came to: how many they were, how many were accepted, and which transaction is then in force.
 pub fn tell_replayed(replayed: Replayed, words: &mut [u64; WORDS]) -> u32
-    ensures { (result, words.new) ≡ in_words replay_words (replay.answered replayed) words.old }
+    ensures { (result, words.new) ≡ in_words replay_words (replay.told_replay replayed) words.old }
 {
     words::tell(replayed.map(replay_words), words)
 }
