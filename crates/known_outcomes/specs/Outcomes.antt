@@ -59,14 +59,14 @@ abbrev pub room : ℕ → List ℕ
 room n = replicate (4 + 36 * n) 0
 
 -- what a call leaves of an empty table
-abbrev left_by : Outcome (List Hold) → List Hold
-left_by o = leaves o (λ l. l) []
+abbrev held_after : Outcome (List Hold) → List Hold
+held_after o = leaves o (λ l. l) []
 
 -- ---- the table of holds: A is the cell 1, B the cell 2
 
 -- what is unavailable of A at a time, which the watchtower got at 1,000
 abbrev busy_at : ℕ → List ℕ
-busy_at time = listed (after_list (unavailable (left_by (hold_for_watchtower [] (point_list (point 1 ∷ [])) (ms 1000))) (point_list (point 1 ∷ [])) (point_list []) (ms time)) (room 1))
+busy_at time = listed (after_list (unavailable (held_after (hold_for_watchtower [] (point_list (point 1 ∷ [])) (ms 1000))) (point_list (point 1 ∷ [])) (point_list []) (ms time)) (room 1))
 
 -- A, A, B picked from an empty table
 abbrev picked_aab : Outcome (List Hold) × List ℕ × List ℕ
