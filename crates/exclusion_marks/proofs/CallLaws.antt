@@ -17,7 +17,7 @@ use Rattle.units.specs.declared.{BlockNumber.BlockNumber}
 use Rattle.molecule.specs.Write.{splice, put_at}
 use Rattle.molecule.proofs.WriteLaws.{put_yes, splice_zero, splice-length}
 use Rattle.out_points.specs.declared.{Byte32.Byte32}
-use Rattle.out_points.specs.OutPoints.{bytes_of, point_list}
+use Rattle.out_points.specs.OutPoints.{points_bytes, point_list}
 use Rattle.error.specs.Outcome.{Outcome, fine, refused, check, check_with, number_of, ◌>>◌}
 use Rattle.out_points.specs.Tables.{has_room, with_list, after_list}
 use Rattle.out_points.proofs.ListLaws.{length_list, length-bytes}
@@ -76,7 +76,7 @@ module _ (s out : List ℕ) {v : Survey} (ev : Ok v ≡ survey_of Rule.All s) wh
   pub apply-room : 4 + 36 * v.points ≤ min (length out) 133116 → 4 + 36 * length (excluded (excluded_at s)) ≤ length out
   apply-room h = omega (arith, counted)
 
-  pub apply-done : {o₁ o₂ : List ℕ} → 4 + 36 * v.points ≤ min (length out) 133116 → o₁ ≡ splice out 4 (bytes_of (excluded (excluded_at s))) → o₂ ≡ put_at o₁ 0 (to_le 4 v.points)
+  pub apply-done : {o₁ o₂ : List ℕ} → 4 + 36 * v.points ≤ min (length out) 133116 → o₁ ≡ splice out 4 (points_bytes (excluded (excluded_at s))) → o₂ ≡ put_at o₁ 0 (to_le 4 v.points)
       → Applies s (answered {T = Unit {0}} (Ok tt)) out o₂
   unfolding apply_on answered number_of has_room with_list point_list check check_with ◌>>◌
   apply-done {o₁} {o₂} h e₁ e₂ =
@@ -87,8 +87,8 @@ module _ (s out : List ℕ) {v : Survey} (ev : Ok v ≡ survey_of Rule.All s) wh
       let z : 0 + length C ≡ 4 = omega arith in
       let lb = length-bytes ps in
       let c = counted in
-      let l : length o₁ ≡ length out = ap length e₁ ∙ splice-length out 4 (bytes_of ps) (omega arith) in
-      let same : o₂ ≡ splice out 0 (C ++ bytes_of ps) =
-      e₂ ∙ put_yes o₁ 0 C (omega arith) ∙ ap (λ (x : List ℕ). splice x 0 C) (e₁ ∙ ap (λ (j : ℕ). splice out j (bytes_of ps)) (sym z)) ∙ splice-under out 0 C (bytes_of ps) (omega arith) in
+      let l : length o₁ ≡ length out = ap length e₁ ∙ splice-length out 4 (points_bytes ps) (omega arith) in
+      let same : o₂ ≡ splice out 0 (C ++ points_bytes ps) =
+      e₂ ∙ put_yes o₁ 0 C (omega arith) ∙ ap (λ (x : List ℕ). splice x 0 C) (e₁ ∙ ap (λ (j : ℕ). splice out j (points_bytes ps)) (sym z)) ∙ splice-under out 0 C (points_bytes ps) (omega arith) in
       rw (on_map s (apply_on ps' out) is, le-leb (length (point_list ps)) (min (length out) 133116) (omega (arith, list_length)))
-      (ap (λ (x : List ℕ). (0, x)) (same ∙ ap (λ (j : ℕ). splice out 0 (to_le 4 j ++ bytes_of ps)) c ∙ splice_zero out (point_list ps)))
+      (ap (λ (x : List ℕ). (0, x)) (same ∙ ap (λ (j : ℕ). splice out 0 (to_le 4 j ++ points_bytes ps)) c ∙ splice_zero out (point_list ps)))

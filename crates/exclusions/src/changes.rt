@@ -5,7 +5,7 @@ ghost use Rattle.std.specs.Prelude.{◌≡◌, false, ◌++◌, ◌+◌, ◌-◌
 ghost use Rattle.arithmetic.specs.LittleEndian.{to_le};
 ghost use Rattle.molecule.specs.Layout.{fix_count};
 ghost use Rattle.molecule.specs.Write.{splice};
-ghost use Rattle.exclusion_entries.specs.Entries.{entry_bytes, entries_bytes, map_bytes, size_of, excluded_at};
+ghost use Rattle.exclusion_entries.specs.Entries.{entry_bytes, entries_bytes, map_bytes, entry_size, excluded_at};
 ghost use Rattle.exclusion_entries.specs.Inner.{keeps, takes, stay};
 ghost use Rattle.exclusions.specs.Inner.{gives, sift_one, sift_one_bytes, entry_with, replaced, Found, end_of};
 
@@ -33,7 +33,7 @@ fn gives(rule: Rule, taken: bool, x: &[u8]) -> bool
 // Moves the next entry if it stays. Entries have sizes of their own and are written where they are read: what lends them one by one would hold the bytes.
 fn sift_one(s: &mut [u8], rule: Rule, c: Sift) -> Sift
     requires to_le_at { c.to ≤ c.at }
-    requires s_in_bounds { c.at + size_of (drop c.at s.old) ≤ length s.old }
+    requires s_in_bounds { c.at + entry_size (drop c.at s.old) ≤ length s.old }
     ensures value { result ≡ sift_one rule c s.old }
     ensures s_after { s.new ≡ sift_one_bytes rule c s.old }
 {

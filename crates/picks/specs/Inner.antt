@@ -7,7 +7,7 @@ use Rattle.hold_records.specs.declared.{Owner.Owner, Hold.Hold, Held.Held}
 use Rattle.error.specs.Outcome.{Outcome}
 use Rattle.hold_records.specs.Holds.{records_of, held_by, take_these, after_take}
 use Rattle.pick_kinds.specs.declared.{Kind.Kind}
-use Rattle.unavailable_picks.specs.Unavailable.{select}
+use Rattle.unavailable_picks.specs.Inner.{select}
 
 -- pick i is to be taken: its kind (`kind_of`, crate pick_kinds) is that of a free one, the first on its cell
 unfoldable pub is_free_kind : Kind → Bool

@@ -12,6 +12,7 @@ use Rattle.exclusion_entries.specs.Exclusions.{MapEntry, has_hash, committed_at,
 use Rattle.exclusion_entries.specs.Entries.{excluded_at, is_map}
 use Rattle.exclusion_entries.specs.Calls.{Adds, Commits, Removes, Truncates, Migrates, Applies}
 use Rattle.table_laws.specs.Answers.{Answer}
+use Rattle.table_laws.specs.Stands.{Stands}
 
 -- a call that is lent the bytes s, answers r and leaves the bytes t; `apply` changes none
 pub data Called (s t : List ℕ) : Type 0 where
@@ -73,11 +74,6 @@ abbrev pub OthersSame : Type 0
 OthersSame = (s t : List ℕ) → is_map s ≡ false → Reached s t → t ≡ s
 
 -- ---- how long a transaction is excluded
-
--- the entry stands in the list
-pub data Stands (x : MapEntry) : List MapEntry → Type 0 where
-  here : (l : List MapEntry) → Stands x (x ∷ l)
-  there : (y : MapEntry) (l : List MapEntry) → Stands x l → Stands x (y ∷ l)
 
 -- a transaction that is entered under the hash takes the place of x
 unfoldable pub replaces : List ℕ → List ℕ → MapEntry → Bool
