@@ -1,5 +1,5 @@
 -- What `commit` and `apply` come to.
-use mathlib.Core.Path.{◌≡◌, refl, sym, ap, ap₂, ◌∙◌}
+use mathlib.Core.Path.{◌≡◌, refl, sym, ap, ◌∙◌}
 use Prim.Native.Nat.{ℕ, ◌+◌, ◌*◌, ◌≤◌, ◌<◌, min}
 use mathlib.Core.Bool.{true, false}
 use mathlib.Core.List.{List, ◌++◌, map}
@@ -12,14 +12,14 @@ use Rattle.arithmetic.specs.LittleEndian.{to_le}
 use Rattle.arithmetic.proofs.LittleEndianLaws.{length-to_le}
 use Rattle.std.specs.Prelude.{Ok, Err}
 use Rattle.error.specs.declared.{Refusal.Refusal}
-use Rattle.error.specs.Refusal.{number, values, answered}
+use Rattle.error.specs.Refusal.{number, answered}
 use Rattle.units.specs.declared.{BlockNumber.BlockNumber}
 use Rattle.molecule.specs.Write.{splice, put_at}
 use Rattle.molecule.proofs.WriteLaws.{put_yes, splice_zero, splice-length}
 use Rattle.out_points.specs.declared.{Byte32.Byte32}
 use Rattle.out_points.specs.OutPoints.{points_bytes, point_list}
-use Rattle.error.specs.Outcome.{Outcome, fine, refused, check, check_with, number_of, ◌>>◌}
-use Rattle.out_points.specs.Tables.{has_room, with_list, after_list}
+use Rattle.error.specs.Outcome.{check, check_with, number_of, ◌>>◌}
+use Rattle.out_points.specs.Tables.{has_room, with_list}
 use Rattle.out_points.proofs.ListLaws.{length_list, length-bytes}
 use Rattle.table_bytes.specs.Lent.{on_table, Leaves}
 use Rattle.table_bytes.proofs.LentLaws.{leave_done}
@@ -30,7 +30,7 @@ use Rattle.exclusion_entries.specs.Inner.{keeps, takes, stay, survey_of, hash_of
 use Rattle.exclusion_entries.specs.Calls.{map_table, Applies}
 use Rattle.exclusion_entries.proofs.LentLaws.{lent_unread, lent-on, off_map, on_map, stay-keep, keep_all, hash_bad, hash_good}
 use Rattle.exclusion_entries.proofs.SpliceLaws.{splice-under}
-use Rattle.exclusion_entries.proofs.StayLaws.{told-points, told_bad, told_good, points-few}
+use Rattle.exclusion_entries.proofs.StayLaws.{told-points, told_good, points-few}
 
 -- ---- commit
 

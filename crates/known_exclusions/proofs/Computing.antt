@@ -3,7 +3,6 @@ use Rattle.units.specs.Units.{is_at_least}
 use Rattle.transaction.specs.Tx.{previous_output_of}
 use Rattle.molecule.specs.Write.{splice, put_at}
 use Rattle.out_points.specs.OutPoints.{eq_hash, byte32_at, out_point_at, point_of, hash_bytes, point_bytes, points_bytes, point_list}
-use Rattle.std.specs.List.{filter}
 use Rattle.out_points.specs.Tables.{renew, has_room, with_list}
 use Rattle.table_bytes.specs.Lent.{on_table}
 use Rattle.error.specs.Outcome.{check, check_with, number_of, ◌>>◌}

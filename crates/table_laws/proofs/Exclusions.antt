@@ -15,7 +15,7 @@ use Rattle.transaction.specs.Ckb.{Transaction}
 use Rattle.out_points.specs.declared.{Byte32.Byte32, OutPoint.OutPoint}
 use Rattle.out_points.specs.OutPoints.{Fit, byte32_at, eq_point, has, points}
 use Rattle.error.specs.declared.{Refusal.Refusal}
-use Rattle.error.specs.Refusal.{number, answered}
+use Rattle.error.specs.Refusal.{answered}
 use Rattle.std.specs.List.{filter}
 use Rattle.error.specs.Outcome.{Outcome, fine, refused, check, check_with, number_of, leaves, ◌>>◌}
 use Rattle.out_points.specs.Tables.{renew, has_room, with_list, writes}
@@ -26,7 +26,7 @@ use Rattle.exclusion_entries.specs.Exclusions.{MapEntry, has_hash, committed_at,
 use Rattle.exclusion_entries.specs.Entries.{map_bytes, FitEntry, excluded_at, is_map}
 use Rattle.exclusion_entries.proofs.MapLaws.{map-few, map-count, map-points, map-fits, put_is, zeros_are}
 use Rattle.exclusion_entries.specs.Calls.{map_table, with_tx, Applies}
-use Rattle.table_laws.proofs.Outcomes.{Fine, checked, refused-fine, tabled, done-is, table-left, moved, left-done, left-refused}
+use Rattle.table_laws.proofs.Outcomes.{Fine, checked, refused-fine, table-left, moved, left-done, left-refused}
 use Rattle.table_laws.specs.Exclusions as run
 use Rattle.table_laws.specs.Exclusions.{Called, answer_of, StaysMap, StaysWithin, ZerosWithin, RefusedSame, OthersSame, replaces, ends, is_done, outlives, StaysEntered, StaysExcluded, AddEnters, MigrateEnters, CommitMarks}
 use Rattle.table_laws.specs.Stands.{Stands, here, there}

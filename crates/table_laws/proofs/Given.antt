@@ -13,8 +13,8 @@ use Rattle.std.specs.List.{filter}
 use Rattle.out_points.proofs.EqualLaws.{point-same, point_refl}
 use Rattle.out_points.proofs.ListLaws.{length-points}
 use Rattle.out_points.proofs.AgainLaws.{written_back, points-fit, count_fits}
-use Rattle.hold_records.specs.declared.{Owner.Owner, Hold.Hold, Held.Held, Taker.Taker}
-use Rattle.hold_records.specs.Holds.{records_of, cells_of, is_not_of, is_live, is_busy, is_new, firsts, others, owner_for}
+use Rattle.hold_records.specs.declared.{Owner.Owner, Hold.Hold, Taker.Taker}
+use Rattle.hold_records.specs.Holds.{cells_of, is_not_of, is_live, is_busy, is_new, firsts, others, owner_for}
 use Rattle.table_laws.specs.Holds as run
 use Rattle.table_bytes.specs.Lent.{Table}
 use Rattle.table_laws.specs.Holds.{by_value, Took, Locked, InRange, HeldRefused, HeldStands, LockedRefused, NotGiven, StaysHeld, HeldOnce}

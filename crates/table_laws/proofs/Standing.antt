@@ -1,7 +1,6 @@
 -- Which list operations an element outlives.
-use Prim.Native.Nat.{ℕ}
 use mathlib.Core.Path.{◌≡◌}
-use mathlib.Core.List.{List, [], ◌∷◌, map}
+use mathlib.Core.List.{List, [], ◌∷◌}
 use mathlib.Core.Bool.{Bool, true, false, cond}
 use Rattle.std.specs.List.{filter}
 use Rattle.out_points.specs.Tables.{renew}

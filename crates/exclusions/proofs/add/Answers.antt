@@ -14,5 +14,5 @@ returns-then-is_empty c = tx_read c.args.map.now c.args.tx.now _ c.is_optional_t
 
 pub returns : goal.returns
 returns c =
-    tx_read c.args.map.now c.args.tx.now _ c.is_optional_transaction.ensures c.if-not-is_optional_transaction.false 
+    tx_read c.args.map.now c.args.tx.now _ c.is_optional_transaction.ensures c.if-not-is_optional_transaction.false
     (add_done c.args.map.now c.args.hash.now c.args.tx.now (sym c.in_ok-h.was ∙ c.hash_of.ensures) (sym c.in_ok-found.was ∙ c.read_map.ensures) c.of.ensures.hash c.of.ensures.inputs (search ways) c.enter.ensures)

@@ -8,7 +8,7 @@ returns-in_err-h c = tx_read c.args.map.now c.args.tx.now _ c.is_optional_transa
 
 pub returns-then-is_empty : goal.returns-then-is_empty
 returns-then-is_empty c =
-    tx_read c.args.map.now c.args.tx.now _ c.is_optional_transaction.ensures c.if-not-is_optional_transaction.false 
+    tx_read c.args.map.now c.args.tx.now _ c.is_optional_transaction.ensures c.if-not-is_optional_transaction.false
     (none_done c.args.map.now c.args.old.now c.args.new.now c.args.tx.now (sym c.in_ok-h.was ∙ c.hash_of.ensures) (search ways) c.remove.ensures)
 
 pub returns-in_err-o : goal.returns-in_err-o
@@ -22,5 +22,5 @@ returns-then-not-found c = tx_read c.args.map.now c.args.tx.now _ c.is_optional_
 
 pub returns : goal.returns
 returns c =
-    tx_read c.args.map.now c.args.tx.now _ c.is_optional_transaction.ensures c.if-not-is_optional_transaction.false 
+    tx_read c.args.map.now c.args.tx.now _ c.is_optional_transaction.ensures c.if-not-is_optional_transaction.false
     (migrate-done c.args.map.now c.args.old.now c.args.new.now c.args.tx.now (sym c.in_ok-o.was ∙ c.hash_of-2.ensures) (sym c.in_ok-h.was ∙ c.hash_of.ensures) (sym c.in_ok-found.was ∙ c.read_map.ensures) (search ways) c.of.ensures.hash c.of.ensures.inputs (search ways) c.enter.ensures)
