@@ -109,8 +109,8 @@ StaysExcluded = (x : MapEntry) (s t : List ℕ) → Stands x (excluded_at s) →
     → AllBytes t → (out after : List ℕ) → Applies t 0 out after
     → (p : OutPoint) → has p x.points ≡ true → has p (points after) ≡ true
 
--- where it comes from: a transaction that an `add` entered stands, pending, and so does one to which a known hash was migrated; and one that stood when a `commit`
--- was done stands, committed if the hash is its own
+-- where it comes from: a transaction that an `add` entered stands, pending, and so does one to which a known hash was migrated; and one that stood when a
+-- `commit` was done stands, committed if the hash is its own
 abbrev pub AddEnters : Type 0
 AddEnters = (s t hash tx : List ℕ) → (length tx ≡ 0 → ⊥) → Adds s 0 t hash tx → Stands (pending (byte32_at hash 0) tx) (excluded_at t)
 
