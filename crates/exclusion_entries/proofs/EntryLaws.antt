@@ -14,14 +14,14 @@ use Rattle.arithmetic.proofs.LittleEndianLaws.{length-to_le, num_some}
 use Rattle.units.specs.declared.{BlockNumber.BlockNumber}
 use Rattle.molecule.specs.Layout.{part, word, fix_count}
 use Rattle.molecule.specs.Partial.{All}
-use Rattle.out_points.specs.OutPoints.{byte32_at, points, hash_bytes, bytes_of, point_list}
+use Rattle.out_points.specs.OutPoints.{byte32_at, points, hash_bytes, points_bytes, point_list}
 use Rattle.out_points.proofs.PointLaws.{length-hash}
 use Rattle.out_points.proofs.ListLaws.{length-points, length_list}
 use Rattle.molecule.proofs.ItemsLaws.{bytes_drop}
 use Rattle.molecule.proofs.LayoutLaws.{fix_count-word, fix_count-below}
 use Rattle.out_points.proofs.AgainLaws.{word_again, bytes_again, list_before, word_back, num_fits, points-fit, count_fits, behind}
 use Rattle.exclusion_entries.specs.Exclusions.{MapEntry, excluded}
-use Rattle.exclusion_entries.specs.Entries.{state_kind, block_of, state_bytes, entry_bytes, entries_bytes, FitEntry, state_of, entry_of, size_of, entries_in, is_entry, are_entries}
+use Rattle.exclusion_entries.specs.Entries.{state_kind, block_of, state_bytes, entry_bytes, entries_bytes, FitEntry, state_of, entry_of, entry_size, entries_in, is_entry, are_entries}
 
 -- ---- one entry
 
@@ -31,13 +31,13 @@ unfolding part
 from-here s at e = e ∙ take_all (length s - at) (drop at s) (omega (arith, length-drop at s))
 
 -- the count of the out points is that of their list
-count-is : (x : List ℕ) → size_of x ≤ length x → fix_count (drop 44 x) ≡ u32_at x 44
+count-is : (x : List ℕ) → entry_size x ≤ length x → fix_count (drop 44 x) ≡ u32_at x 44
 unfolding word
 count-is x h =
     let w : word (drop 44 x) 0 ≡ u32_at x 44 = num_some 4 (drop 44 x) 0 (omega (arith, length-drop 44 x)) ∙ sym (num_some 4 x 44 (omega arith)) in
     fix_count-word (drop 44 x) (omega (arith, length-drop 44 x)) ∙ w
 
-pub points-count : (x : List ℕ) → size_of x ≤ length x → length (entry_of x).points ≡ u32_at x 44
+pub points-count : (x : List ℕ) → entry_size x ≤ length x → length (entry_of x).points ≡ u32_at x 44
 unfolding entry_of
 points-count x h = length-points (drop 44 x) ∙ count-is x h
 
@@ -67,20 +67,20 @@ list_again x b h =
     ∙ sym (take-add 4 (36 * fix_count x) x)
 
 -- the bytes of the out points
-pub points_again : (x : List ℕ) → AllBytes x → size_of x ≤ length x → bytes_of (entry_of x).points ≡ take (36 * u32_at x 44) (drop 48 x)
+pub points_again : (x : List ℕ) → AllBytes x → entry_size x ≤ length x → points_bytes (entry_of x).points ≡ take (36 * u32_at x 44) (drop 48 x)
 unfolding entry_of
 points_again x b h =
     let y = drop 44 x in
     let c = count-is x (omega arith) in
     bytes_again y 0 (fix_count y) (bytes_drop 44 x b) (omega arith) (omega (arith, length-drop 44 x)) ∙ ap₂ (λ (n : ℕ) (z : List ℕ). take (36 * n) z) c (drop-drop 4 44 x)
 
-pub entry_again : (x : List ℕ) → AllBytes x → is_entry x ≡ true → size_of x ≤ length x → entry_bytes (entry_of x) ≡ take (size_of x) x
+pub entry_again : (x : List ℕ) → AllBytes x → is_entry x ≡ true → entry_size x ≤ length x → entry_bytes (entry_of x) ≡ take (entry_size x) x
 unfolding entry_bytes entry_of
 entry_again x b k h =
     let c = count-is x (omega arith) in
     let l : point_list (points (drop 44 x)) ≡ take (4 + 36 * u32_at x 44) (drop 44 x) =
     list_again (drop 44 x) (bytes_drop 44 x b) (omega (arith, length-drop 44 x)) ∙ ap (λ (n : ℕ). take (4 + 36 * n) (drop 44 x)) c in
-    let z : size_of x ≡ 44 + (4 + 36 * u32_at x 44) = omega arith in
+    let z : entry_size x ≡ 44 + (4 + 36 * u32_at x 44) = omega arith in
     let st : state_bytes (state_of (u32_at x 32) (u64_at x 36)) ≡ take 4 (drop 32 x) ++ take 8 (drop 36 x) =
     state_again x k ∙ ap₂ (λ (y w : List ℕ). y ++ w) (word_again 4 x 32 b (omega arith)) (word_again 8 x 36 b (omega arith)) in
     let head : take 44 x ≡ take 32 x ++ (take 4 (drop 32 x) ++ take 8 (drop 36 x)) =
@@ -127,7 +127,7 @@ count-back e z h =
     let K = to_le 4 (state_kind e.committed) in
     let N = to_le 8 (block_of e.committed) in
     ap (λ (x : List ℕ). u32_at x 44) (simp append_assoc)
-    ∙ word_back 4 (length e.points) (hash_bytes e.hash ++ K ++ N) (bytes_of e.points ++ z) 44 (simp (length-append, length-hash, length-to_le)) h
+    ∙ word_back 4 (length e.points) (hash_bytes e.hash ++ K ++ N) (points_bytes e.points ++ z) 44 (simp (length-append, length-hash, length-to_le)) h
 
 entry-is : (e : MapEntry) (z : List ℕ) → is_entry (entry_bytes e ++ z) ≡ true
 unfolding is_entry state_kind block_of
@@ -168,12 +168,12 @@ entry-back e z f =
 pub entries-long : (n : ℕ) (x : List ℕ) → length (entries_in n x) ≡ n
 unfolding entries_in
 entries-long zero x = refl
-entries-long (suc n) x = ap suc (entries-long n (drop (size_of x) x))
+entries-long (suc n) x = ap suc (entries-long n (drop (entry_size x) x))
 
 pub entries_fit : (n : ℕ) (x : List ℕ) → AllBytes x → All FitEntry (entries_in n x)
 unfolding entries_in
 entries_fit zero x b = tt
-entries_fit (suc n) x b = (entry-fits x b, entries_fit n (drop (size_of x) x) (bytes_drop (size_of x) x b))
+entries_fit (suc n) x b = (entry-fits x b, entries_fit n (drop (entry_size x) x) (bytes_drop (entry_size x) x b))
 
 pub entries-back : (l : List MapEntry) (z : List ℕ) → All FitEntry l → entries_in (length l) (entries_bytes l ++ z) ≡ l
 unfolding entries_in entries_bytes
@@ -181,9 +181,9 @@ entries-back [] z f = refl
 entries-back (e ∷ l) z f =
     let s = entry_bytes e ++ (entries_bytes l ++ z) in
     let h : entry_of s ≡ e = entry-back e (entries_bytes l ++ z) f.0 in
-    let c : size_of s ≡ length (entry_bytes e) = ap (λ (n : ℕ). 48 + 36 * n) (count-back e (entries_bytes l ++ z) f.0.count_fits) ∙ sym (length-entry e) in
-    let d : drop (size_of s) s ≡ entries_bytes l ++ z = ap (λ (n : ℕ). drop n s) c ∙ behind (entry_bytes e) (entries_bytes l ++ z) (length (entry_bytes e)) refl in
-    ap (λ (x : List ℕ). entry_of x ∷ entries_in (length l) (drop (size_of x) x)) (append_assoc (entry_bytes e) (entries_bytes l) z)
+    let c : entry_size s ≡ length (entry_bytes e) = ap (λ (n : ℕ). 48 + 36 * n) (count-back e (entries_bytes l ++ z) f.0.count_fits) ∙ sym (length-entry e) in
+    let d : drop (entry_size s) s ≡ entries_bytes l ++ z = ap (λ (n : ℕ). drop n s) c ∙ behind (entry_bytes e) (entries_bytes l ++ z) (length (entry_bytes e)) refl in
+    ap (λ (x : List ℕ). entry_of x ∷ entries_in (length l) (drop (entry_size x) x)) (append_assoc (entry_bytes e) (entries_bytes l) z)
     ∙ ap₂ (λ (a : MapEntry) (r : List MapEntry). a ∷ r) h (ap (entries_in (length l)) d ∙ entries-back l z f.1)
 
 -- with at most m out points in all they have the form
@@ -203,22 +203,22 @@ module _ (n m : ℕ) (x : List ℕ) (k : are_entries (suc n) m x ≡ true) where
   unfolding are_entries
   first-is = by (is_entry x) refl k
     where
-      by : (t : Bool) → is_entry x ≡ t → cond t (cond (leb (u32_at x 44) m) (are_entries n (m - u32_at x 44) (drop (size_of x) x)) false) false ≡ true → is_entry x ≡ true
+      by : (t : Bool) → is_entry x ≡ t → cond t (cond (leb (u32_at x 44) m) (are_entries n (m - u32_at x 44) (drop (entry_size x) x)) false) false ≡ true → is_entry x ≡ true
       by true e h = e
       by false e h = absurd (let z : ◌≡◌ {A = ℕ} 0 1 = cc in omega arith)
 
-  rest_both : (u32_at x 44 ≤ m) × (are_entries n (m - u32_at x 44) (drop (size_of x) x) ≡ true)
+  rest_both : (u32_at x 44 ≤ m) × (are_entries n (m - u32_at x 44) (drop (entry_size x) x) ≡ true)
   unfolding are_entries
   rest_both = by (leb (u32_at x 44) m) refl (rw first-is at k)
     where
-      by : (t : Bool) → leb (u32_at x 44) m ≡ t → cond t (are_entries n (m - u32_at x 44) (drop (size_of x) x)) false ≡ true → (u32_at x 44 ≤ m) × (are_entries n (m - u32_at x 44) (drop (size_of x) x) ≡ true)
+      by : (t : Bool) → leb (u32_at x 44) m ≡ t → cond t (are_entries n (m - u32_at x 44) (drop (entry_size x) x)) false ≡ true → (u32_at x 44 ≤ m) × (are_entries n (m - u32_at x 44) (drop (entry_size x) x) ≡ true)
       by true e h = (leb-true _ _ e, h)
       by false e h = absurd (let z : ◌≡◌ {A = ℕ} 0 1 = cc in omega arith)
 
   pub first-room : u32_at x 44 ≤ m
   first-room = rest_both.0
 
-  pub rest_are : are_entries n (m - u32_at x 44) (drop (size_of x) x) ≡ true
+  pub rest_are : are_entries n (m - u32_at x 44) (drop (entry_size x) x) ≡ true
   rest_are = rest_both.1
 
 pub entries_again : (n m : ℕ) (x : List ℕ) → AllBytes x → are_entries n m x ≡ true → 48 * n + 36 * m ≤ length x → x ≡ entries_bytes (entries_in n x) ++ drop (length (entries_bytes (entries_in n x))) x
@@ -226,15 +226,15 @@ unfolding entries_in entries_bytes
 entries_again zero m x b k h = refl
 entries_again (suc n) m x b k h =
     let c = first-room n m x k in
-    let y = drop (size_of x) x in
-    let w : entry_bytes (entry_of x) ≡ take (size_of x) x = entry_again x b (first-is n m x k) (omega arith) in
-    let l : length (entry_bytes (entry_of x)) ≡ size_of x = length-entry (entry_of x) ∙ ap (λ (i : ℕ). 48 + 36 * i) (points-count x (omega arith)) in
-    let r = entries_again n (m - u32_at x 44) y (bytes_drop (size_of x) x b) (rest_are n m x k) (rw (length-drop (size_of x) x) (omega arith)) in
+    let y = drop (entry_size x) x in
+    let w : entry_bytes (entry_of x) ≡ take (entry_size x) x = entry_again x b (first-is n m x k) (omega arith) in
+    let l : length (entry_bytes (entry_of x)) ≡ entry_size x = length-entry (entry_of x) ∙ ap (λ (i : ℕ). 48 + 36 * i) (points-count x (omega arith)) in
+    let r = entries_again n (m - u32_at x 44) y (bytes_drop (entry_size x) x b) (rest_are n m x k) (rw (length-drop (entry_size x) x) (omega arith)) in
     let E = entry_bytes (entry_of x) in
     let R = entries_bytes (entries_in n y) in
-    let i : size_of x + length R ≡ length (E ++ R) = omega (arith, length-append E R) in
-    let d : drop (length R) y ≡ drop (length (E ++ R)) x = drop-drop (length R) (size_of x) x ∙ ap (λ (j : ℕ). drop j x) i in
-    sym (take-append-drop (size_of x) x) ∙ ap₂ (λ (a c : List ℕ). a ++ c) (sym w) (r ∙ ap (λ (a : List ℕ). R ++ a) d) ∙ sym (append_assoc E R (drop (length (E ++ R)) x))
+    let i : entry_size x + length R ≡ length (E ++ R) = omega (arith, length-append E R) in
+    let d : drop (length R) y ≡ drop (length (E ++ R)) x = drop-drop (length R) (entry_size x) x ∙ ap (λ (j : ℕ). drop j x) i in
+    sym (take-append-drop (entry_size x) x) ∙ ap₂ (λ (a c : List ℕ). a ++ c) (sym w) (r ∙ ap (λ (a : List ℕ). R ++ a) d) ∙ sym (append_assoc E R (drop (length (E ++ R)) x))
 
 -- so many bytes
 pub entries-size : (l : List MapEntry) → length (entries_bytes l) ≡ 48 * length l + 36 * length (excluded l)
@@ -247,7 +247,7 @@ unfolding entries_in excluded
 points_most zero m x k h = omega arith
 points_most (suc n) m x k h =
     let c = first-room n m x k in
-    let r = points_most n (m - u32_at x 44) (drop (size_of x) x) (rest_are n m x k) (rw (length-drop (size_of x) x) (omega arith)) in
+    let r = points_most n (m - u32_at x 44) (drop (entry_size x) x) (rest_are n m x k) (rw (length-drop (entry_size x) x) (omega arith)) in
     simp length-append (omega (arith, points-count x (omega arith)))
 
 pub bytes-join : (l r : List MapEntry) → entries_bytes (l ++ r) ≡ entries_bytes l ++ entries_bytes r

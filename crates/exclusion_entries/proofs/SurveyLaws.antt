@@ -16,7 +16,7 @@ use Rattle.out_points.specs.declared.{Byte32.Byte32}
 use Rattle.out_points.specs.OutPoints.{eq_hash, byte32_at}
 use Rattle.exclusion_entries.specs.Exclusions.{has_hash}
 use Rattle.exclusion_entries.specs.declared.{Rule.Rule, Words.Words, Survey.Survey}
-use Rattle.exclusion_entries.specs.Entries.{entry_of, size_of, entries_in, excluded_at, is_entry, are_entries, map_size, is_map}
+use Rattle.exclusion_entries.specs.Entries.{entry_of, entry_size, entries_in, excluded_at, is_entry, are_entries, map_size, is_map}
 use Rattle.exclusion_entries.specs.Inner.{Small, keeps, takes, lost_one, took_one, stayed, turned, sweep, start, words_of, may_touch, survey_of}
 use Rattle.exclusion_entries.proofs.EntryLaws.{points-count}
 
@@ -180,7 +180,7 @@ module _ {rule : Rule} {s : List ℕ} {n : ℕ} {v : Survey} {at left i : ℕ} (
               let turn : turned p q (length (entry_of x).points) v ≡ u = rw m (sym on) in
               let y = drop (at + (48 + 36 * c)) s in
               let a : are_entries (suc (n - (i + 1))) left x ≡ are_entries (n - (i + 1)) (left - c) y = rw (yes, ← ec, le-leb c left k) (ap (are_entries (n - (i + 1)) (left - c)) (past c)) in
-              let d : drop (size_of x) x ≡ y = rw (← ec) (past c) in
+              let d : drop (entry_size x) x ≡ y = rw (← ec) (past c) in
               record {
                 long = w.long;
                 within = omega arith;

@@ -1,5 +1,5 @@
--- The calls on a lent exclusion map: "our transaction unreadable is 1, then a script or lent list 3", where the map is the first of the lent lists. Of bytes that
--- are a map each call is its definition (Exclusions.antt) on the entries that they hold.
+-- The calls on a lent exclusion map: "our transaction unreadable is 1, then a script or lent list 3", where the map is the first of the lent lists. Of bytes
+-- that are a map each call is its definition (Exclusions.antt) on the entries that they hold.
 use Rattle.std.specs.Prelude.{◌≡◌, ℕ, List}
 use Rattle.units.specs.declared.{BlockNumber.BlockNumber}
 use Rattle.error.specs.Outcome.{Outcome, check, ◌>>◌}

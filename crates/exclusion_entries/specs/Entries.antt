@@ -51,12 +51,12 @@ unfoldable pub entry_of : List ℕ → MapEntry
 entry_of x = record { hash = byte32_at x 0; committed = state_of (u32_at x 32) (u64_at x 36); points = points (drop 44 x) }
 
 -- how many bytes it has
-abbrev pub size_of : List ℕ → ℕ
-size_of x = 48 + 36 * u32_at x 44
+abbrev pub entry_size : List ℕ → ℕ
+entry_size x = 48 + 36 * u32_at x 44
 
 unfoldable pub entries_in : ℕ → List ℕ → List MapEntry
 entries_in zero x = []
-entries_in (suc n) x = entry_of x ∷ entries_in n (drop (size_of x) x)
+entries_in (suc n) x = entry_of x ∷ entries_in n (drop (entry_size x) x)
 
 -- the entries of a lent table
 unfoldable pub excluded_at : List ℕ → List MapEntry
@@ -70,7 +70,7 @@ is_entry x = cond (eqb (u32_at x 32) 0) (eqb (u64_at x 36) 0) (eqb (u32_at x 32)
 -- n entries with at most m out points in all
 unfoldable pub are_entries : ℕ → ℕ → List ℕ → Bool
 are_entries zero m x = true
-are_entries (suc n) m x = cond (is_entry x) (cond (leb (u32_at x 44) m) (are_entries n (m - u32_at x 44) (drop (size_of x) x)) false) false
+are_entries (suc n) m x = cond (is_entry x) (cond (leb (u32_at x 44) m) (are_entries n (m - u32_at x 44) (drop (entry_size x) x)) false) false
 
 -- how many bytes a lent table has: the count, and room for 64 entries and 512 out points
 abbrev pub map_size : ℕ

@@ -1,5 +1,5 @@
--- The exclusion map (docs/RULES.md, "Holds and exclusions"): it is a list of entries, and each call is a definition on such lists: the entries that it leaves, or
--- its refusal.
+-- The exclusion map (docs/RULES.md, "Holds and exclusions"): it is a list of entries, and each call is a definition on such lists: the entries that it
+-- leaves, or its refusal.
 use Rattle.std.specs.Prelude.{ℕ, Bool, true, false, not, cond, List, [], ◌∷◌, ◌++◌, map}
 use Rattle.std.proofs.Math.Option.{Option, none, some}
 use lib.{Dec.eqb, Dec.leb, ListN.length}

@@ -1,5 +1,5 @@
--- What the functions inside promise one another: what a call makes of the entries of a map, and the numbers that one pass over them finds. No contract of a call
--- cites it.
+-- What the functions inside promise one another: what a call makes of the entries of a map, and the numbers that one pass over them finds. No contract of a
+-- call cites it.
 use Rattle.std.specs.Prelude.{ℕ, ◌+◌, ◌*◌, ◌≤◌, Bool, true, false, not, cond, List, [], ◌∷◌, Option, Some, None, Result, Ok, Err}
 use lib.{Dec.eqb, ListN.length}
 use Rattle.arithmetic.specs.LittleEndian.{u64_at}

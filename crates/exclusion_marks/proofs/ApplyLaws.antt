@@ -11,19 +11,19 @@ use Rattle.molecule.specs.Layout.{part, word}
 use Rattle.molecule.specs.Write.{splice, put_at, put_end}
 use Rattle.molecule.proofs.WriteLaws.{put_yes, end_yes, splice-length}
 use Rattle.out_points.specs.declared.{OutPoint.OutPoint}
-use Rattle.out_points.specs.OutPoints.{point_bytes, bytes_of}
+use Rattle.out_points.specs.OutPoints.{point_bytes, points_bytes}
 use Rattle.out_points.proofs.ListLaws.{length-bytes}
 use Rattle.molecule.proofs.ItemsLaws.{bytes_drop}
 use Rattle.exclusion_entries.specs.Exclusions.{excluded}
-use Rattle.exclusion_entries.specs.Entries.{entry_of, size_of, entries_in, excluded_at, are_entries, map_size, is_map}
+use Rattle.exclusion_entries.specs.Entries.{entry_of, entry_size, entries_in, excluded_at, are_entries, map_size, is_map}
 use Rattle.exclusion_entries.proofs.EntryLaws.{from-here, points_again, first-room, rest_are}
 use Rattle.exclusion_entries.proofs.MapLaws.{map-long, map-few, map_are}
 use Rattle.exclusion_entries.proofs.SpliceLaws.{splice-none, splice-then}
 
-bytes-append : (l r : List OutPoint) → bytes_of (l ++ r) ≡ bytes_of l ++ bytes_of r
-unfolding bytes_of
+bytes-append : (l r : List OutPoint) → points_bytes (l ++ r) ≡ points_bytes l ++ points_bytes r
+unfolding points_bytes
 bytes-append [] r = refl
-bytes-append (p ∷ l) r = ap (λ (x : List ℕ). point_bytes p ++ x) (bytes-append l r) ∙ sym (append_assoc (point_bytes p) (bytes_of l) (bytes_of r))
+bytes-append (p ∷ l) r = ap (λ (x : List ℕ). point_bytes p ++ x) (bytes-append l r) ∙ sym (append_assoc (point_bytes p) (points_bytes l) (points_bytes r))
 
 pub record Listing (s : List ℕ) (n : ℕ) (out₀ out : List ℕ) (to at i : ℕ) : Type 0 where
   pub left : ℕ
@@ -33,8 +33,8 @@ pub record Listing (s : List ℕ) (n : ℕ) (out₀ out : List ℕ) (to at i : �
   pub room : at + 48 * (n - i) + 36 * left ≤ map_size
   pub reads : are_entries (n - i) left (drop at s) ≡ true
   pub kept : length out ≡ length out₀
-  pub fits : to + length (bytes_of (excluded (entries_in (n - i) (drop at s)))) ≤ length out₀
-  pub made : splice out to (bytes_of (excluded (entries_in (n - i) (drop at s)))) ≡ splice out₀ 4 (bytes_of (excluded (excluded_at s)))
+  pub fits : to + length (points_bytes (excluded (entries_in (n - i) (drop at s)))) ≤ length out₀
+  pub made : splice out to (points_bytes (excluded (entries_in (n - i) (drop at s)))) ≡ splice out₀ 4 (points_bytes (excluded (excluded_at s)))
 
 pub list_start : (s out : List ℕ) {n : ℕ} → AllBytes s → is_map s ≡ true → 4 + 36 * length (excluded (excluded_at s)) ≤ length out → n ≡ word s 0 → Listing s n out out 4 4 0
 unfolding excluded_at word
@@ -67,13 +67,13 @@ module _ {s : List ℕ} {n : ℕ} {out₀ out : List ℕ} {to at i : ℕ} (w : L
     count_most : u32_at x 44 ≤ w.left
     count_most = first-room (n - (i + 1)) w.left x are
 
-    long_x : size_of x ≤ length x
+    long_x : entry_size x ≤ length x
     long_x = let r = w.room in let k = count_most in omega (arith, ap length here, length-drop at s, w.long)
 
     pub list_at : at + z ≤ map_size
     list_at = let r = w.room in let k = count_most in omega arith
 
-    run_is : {run : List ℕ} → run ≡ part x 48 z → run ≡ bytes_of (entry_of x).points
+    run_is : {run : List ℕ} → run ≡ part x 48 z → run ≡ points_bytes (entry_of x).points
     unfolding part
     run_is er =
         let d : z - 48 ≡ 36 * c = omega arith in
@@ -85,14 +85,14 @@ module _ {s : List ℕ} {n : ℕ} {out₀ out : List ℕ} {to at i : ℕ} (w : L
         let r = w.room in
         let k = count_most in
         let P = (entry_of x).points in
-        let y = drop (size_of x) x in
+        let y = drop (entry_size x) x in
         let R = excluded (entries_in (n - (i + 1)) y) in
-        let is : run ≡ bytes_of P = run_is er in
+        let is : run ≡ points_bytes P = run_is er in
         let all : excluded (entries_in (n - i) (drop at s)) ≡ P ++ R = ap₂ (λ (j : ℕ) (z : List ℕ). excluded (entries_in j z)) next (sym here) in
-        let joined : bytes_of (excluded (entries_in (n - i) (drop at s))) ≡ run ++ bytes_of R = ap bytes_of all ∙ bytes-append P R ∙ ap (λ (z : List ℕ). z ++ bytes_of R) (sym is) in
+        let joined : points_bytes (excluded (entries_in (n - i) (drop at s))) ≡ run ++ points_bytes R = ap points_bytes all ∙ bytes-append P R ∙ ap (λ (z : List ℕ). z ++ points_bytes R) (sym is) in
         let beyond : y ≡ drop (at + z) s = rw (← ec, ← ez) (ap (drop z) here ∙ drop-drop z at s) in
         let f = w.fits in
-        let q : to + length run + length (bytes_of R) ≤ length out = omega (arith, ap length joined, length-append run (bytes_of R), w.kept) in
+        let q : to + length run + length (points_bytes R) ≤ length out = omega (arith, ap length joined, length-append run (points_bytes R), w.kept) in
         let e : o ≡ splice out to run = eo ∙ put_yes out to run (omega arith) in
         let u : t ≡ to + length run = et ∙ end_yes out to run (omega arith) in
         let l : length o ≡ length out = ap length e ∙ splice-length out to run (omega arith) in
@@ -105,11 +105,11 @@ module _ {s : List ℕ} {n : ℕ} {out₀ out : List ℕ} {to at i : ℕ} (w : L
           reads = rw (← beyond) (rest_are (n - (i + 1)) w.left x are);
           kept = l ∙ w.kept;
           fits = rw (← beyond, u) (omega (arith, w.kept));
-          made = rw (← beyond, u, e) (splice-then out to run (bytes_of R) q ∙ ap (splice out to) (sym joined) ∙ w.made);
+          made = rw (← beyond, u, e) (splice-then out to run (points_bytes R) q ∙ ap (splice out to) (sym joined) ∙ w.made);
         }
 
-  pub list_end : n ≤ i → out ≡ splice out₀ 4 (bytes_of (excluded (excluded_at s)))
-  unfolding entries_in excluded bytes_of
+  pub list_end : n ≤ i → out ≡ splice out₀ 4 (points_bytes (excluded (excluded_at s)))
+  unfolding entries_in excluded points_bytes
   list_end h =
       let z : n - i ≡ 0 = let k = w.within in omega arith in
-      sym (splice-none out to) ∙ ap (λ (k : ℕ). splice out to (bytes_of (excluded (entries_in k (drop at s))))) (sym z) ∙ w.made
+      sym (splice-none out to) ∙ ap (λ (k : ℕ). splice out to (points_bytes (excluded (entries_in k (drop at s))))) (sym z) ∙ w.made

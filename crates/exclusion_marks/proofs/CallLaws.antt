@@ -1,5 +1,5 @@
 -- What `commit` and `apply` come to.
-use mathlib.Core.Path.{◌≡◌, refl, sym, ap, ap₂, ◌∙◌}
+use mathlib.Core.Path.{◌≡◌, refl, sym, ap, ◌∙◌}
 use Prim.Native.Nat.{ℕ, ◌+◌, ◌*◌, ◌≤◌, ◌<◌, min}
 use mathlib.Core.Bool.{true, false}
 use mathlib.Core.List.{List, ◌++◌, map}
@@ -12,14 +12,14 @@ use Rattle.arithmetic.specs.LittleEndian.{to_le}
 use Rattle.arithmetic.proofs.LittleEndianLaws.{length-to_le}
 use Rattle.std.specs.Prelude.{Ok, Err}
 use Rattle.error.specs.declared.{Refusal.Refusal}
-use Rattle.error.specs.Refusal.{number, values, answered}
+use Rattle.error.specs.Refusal.{number, answered}
 use Rattle.units.specs.declared.{BlockNumber.BlockNumber}
 use Rattle.molecule.specs.Write.{splice, put_at}
 use Rattle.molecule.proofs.WriteLaws.{put_yes, splice_zero, splice-length}
 use Rattle.out_points.specs.declared.{Byte32.Byte32}
-use Rattle.out_points.specs.OutPoints.{bytes_of, point_list}
-use Rattle.error.specs.Outcome.{Outcome, fine, refused, check, check_with, number_of, ◌>>◌}
-use Rattle.out_points.specs.Tables.{has_room, with_list, after_list}
+use Rattle.out_points.specs.OutPoints.{points_bytes, point_list}
+use Rattle.error.specs.Outcome.{check, check_with, number_of, ◌>>◌}
+use Rattle.out_points.specs.Tables.{has_room, with_list}
 use Rattle.out_points.proofs.ListLaws.{length_list, length-bytes}
 use Rattle.table_bytes.specs.Lent.{on_table, Leaves}
 use Rattle.table_bytes.proofs.LentLaws.{leave_done}
@@ -30,7 +30,7 @@ use Rattle.exclusion_entries.specs.Inner.{keeps, takes, stay, survey_of, hash_of
 use Rattle.exclusion_entries.specs.Calls.{map_table, Applies}
 use Rattle.exclusion_entries.proofs.LentLaws.{lent_unread, lent-on, off_map, on_map, stay-keep, keep_all, hash_bad, hash_good}
 use Rattle.exclusion_entries.proofs.SpliceLaws.{splice-under}
-use Rattle.exclusion_entries.proofs.StayLaws.{told-points, told_bad, told_good, points-few}
+use Rattle.exclusion_entries.proofs.StayLaws.{told-points, told_good, points-few}
 
 -- ---- commit
 
@@ -76,7 +76,7 @@ module _ (s out : List ℕ) {v : Survey} (ev : Ok v ≡ survey_of Rule.All s) wh
   pub apply-room : 4 + 36 * v.points ≤ min (length out) 133116 → 4 + 36 * length (excluded (excluded_at s)) ≤ length out
   apply-room h = omega (arith, counted)
 
-  pub apply-done : {o₁ o₂ : List ℕ} → 4 + 36 * v.points ≤ min (length out) 133116 → o₁ ≡ splice out 4 (bytes_of (excluded (excluded_at s))) → o₂ ≡ put_at o₁ 0 (to_le 4 v.points)
+  pub apply-done : {o₁ o₂ : List ℕ} → 4 + 36 * v.points ≤ min (length out) 133116 → o₁ ≡ splice out 4 (points_bytes (excluded (excluded_at s))) → o₂ ≡ put_at o₁ 0 (to_le 4 v.points)
       → Applies s (answered {T = Unit {0}} (Ok tt)) out o₂
   unfolding apply_on answered number_of has_room with_list point_list check check_with ◌>>◌
   apply-done {o₁} {o₂} h e₁ e₂ =
@@ -87,8 +87,8 @@ module _ (s out : List ℕ) {v : Survey} (ev : Ok v ≡ survey_of Rule.All s) wh
       let z : 0 + length C ≡ 4 = omega arith in
       let lb = length-bytes ps in
       let c = counted in
-      let l : length o₁ ≡ length out = ap length e₁ ∙ splice-length out 4 (bytes_of ps) (omega arith) in
-      let same : o₂ ≡ splice out 0 (C ++ bytes_of ps) =
-      e₂ ∙ put_yes o₁ 0 C (omega arith) ∙ ap (λ (x : List ℕ). splice x 0 C) (e₁ ∙ ap (λ (j : ℕ). splice out j (bytes_of ps)) (sym z)) ∙ splice-under out 0 C (bytes_of ps) (omega arith) in
+      let l : length o₁ ≡ length out = ap length e₁ ∙ splice-length out 4 (points_bytes ps) (omega arith) in
+      let same : o₂ ≡ splice out 0 (C ++ points_bytes ps) =
+      e₂ ∙ put_yes o₁ 0 C (omega arith) ∙ ap (λ (x : List ℕ). splice x 0 C) (e₁ ∙ ap (λ (j : ℕ). splice out j (points_bytes ps)) (sym z)) ∙ splice-under out 0 C (points_bytes ps) (omega arith) in
       rw (on_map s (apply_on ps' out) is, le-leb (length (point_list ps)) (min (length out) 133116) (omega (arith, list_length)))
-      (ap (λ (x : List ℕ). (0, x)) (same ∙ ap (λ (j : ℕ). splice out 0 (to_le 4 j ++ bytes_of ps)) c ∙ splice_zero out (point_list ps)))
+      (ap (λ (x : List ℕ). (0, x)) (same ∙ ap (λ (j : ℕ). splice out 0 (to_le 4 j ++ points_bytes ps)) c ∙ splice_zero out (point_list ps)))

@@ -22,7 +22,7 @@ use Rattle.out_points.proofs.EqualLaws.{hash-same}
 use Rattle.molecule.proofs.ItemsLaws.{bytes_drop}
 use Rattle.out_points.proofs.AgainLaws.{word_again}
 use Rattle.exclusion_entries.specs.Exclusions.{MapEntry, has_hash, committed_at}
-use Rattle.exclusion_entries.specs.Entries.{state_kind, block_of, state_bytes, entry_bytes, entries_bytes, map_bytes, FitEntry, entry_of, size_of, entries_in, excluded_at, are_entries, map_size, is_map}
+use Rattle.exclusion_entries.specs.Entries.{state_kind, block_of, state_bytes, entry_bytes, entries_bytes, map_bytes, FitEntry, entry_of, entry_size, entries_in, excluded_at, are_entries, map_size, is_map}
 use Rattle.exclusion_entries.proofs.EntryLaws.{from-here, entry_again, points-count, length-entry, first-is, first-room, rest_are, entries-long, entries-size, points_most}
 use Rattle.exclusion_entries.proofs.MapLaws.{map-long, map-few, map_are, map-count, map-points, map-fits, splice-back}
 use Rattle.exclusion_entries.proofs.SpliceLaws.{splice-none, drop-splice, splice-same, splice-then}
@@ -34,17 +34,17 @@ module _ (s : List ℕ) (at : ℕ) (hash : Byte32) (block : BlockNumber) {x : Li
   here : x ≡ drop at s
   here = from-here s at ex
 
-  pub mark_next : at + z ≡ at + size_of (drop at s)
+  pub mark_next : at + z ≡ at + entry_size (drop at s)
   mark_next = rw (ez, ← here, ← en)
 
   pub mark_other : not b ≡ true → s ≡ commit_one_bytes hash block at s
   unfolding commit_one_bytes
   mark_other h = rw (← here, ← eb, not-true b h)
 
-  pub mark_room : at + size_of (drop at s) ≤ length s → at + z ≤ length s
+  pub mark_room : at + entry_size (drop at s) ≤ length s → at + z ≤ length s
   mark_room h = let e = mark_next in omega arith
 
-  pub mark_put : {o₁ o₂ : List ℕ} {n₁ : ℕ} → not b ≡ false → at + size_of (drop at s) ≤ length s → o₁ ≡ put_at s (at + 32) (to_le 4 1) → n₁ ≡ put_end s (at + 32) (to_le 4 1) → o₂ ≡ put_at o₁ n₁ (to_le 8 block.0)
+  pub mark_put : {o₁ o₂ : List ℕ} {n₁ : ℕ} → not b ≡ false → at + entry_size (drop at s) ≤ length s → o₁ ≡ put_at s (at + 32) (to_le 4 1) → n₁ ≡ put_end s (at + 32) (to_le 4 1) → o₂ ≡ put_at o₁ n₁ (to_le 8 block.0)
       → o₂ ≡ commit_one_bytes hash block at s
   unfolding commit_one_bytes state_bytes state_kind block_of
   mark_put {o₁} {o₂} {n₁} h r e₁ f₁ e₂ =
@@ -154,16 +154,16 @@ module _ {hash : Byte32} {block : BlockNumber} {s₀ : List ℕ} {n : ℕ} {s : 
     count_most : u32_at x 44 ≤ w.left
     count_most = first-room (n - (i + 1)) w.left x are
 
-    long_x : size_of x ≤ length x
+    long_x : entry_size x ≤ length x
     long_x = let r = w.room in let k = count_most in omega (arith, length-drop at s₀, w.long₀)
 
-    pub marking_room : at + size_of (drop at s) ≤ length s
+    pub marking_room : at + entry_size (drop at s) ≤ length s
     marking_room = rw w.unread (let r = w.room in let k = count_most in omega (arith, w.long))
 
     abbrev rest : List ℕ
-    rest = entries_bytes (map (committed_at hash block) (entries_in (n - (i + 1)) (drop (size_of x) x)))
+    rest = entries_bytes (map (committed_at hash block) (entries_in (n - (i + 1)) (drop (entry_size x) x)))
 
-    size_is : length (entry_bytes (entry_of x)) ≡ size_of x
+    size_is : length (entry_bytes (entry_of x)) ≡ entry_size x
     size_is = length-entry (entry_of x) ∙ ap (λ (k : ℕ). 48 + 36 * k) (points-count x (let l = long_x in omega arith))
 
     stands : take (length (entry_bytes (entry_of x))) (drop at s) ≡ entry_bytes (entry_of x)
@@ -171,20 +171,20 @@ module _ {hash : Byte32} {block : BlockNumber} {s₀ : List ℕ} {n : ℕ} {s : 
 
     rest-room : at + length (entry_bytes (entry_of x)) + length rest ≤ length s
     rest-room =
-        let y = drop (size_of x) x in
+        let y = drop (entry_size x) x in
         let R = entries_in (n - (i + 1)) y in
         let r = w.room in
         let k = count_most in
-        let q = points_most (n - (i + 1)) (w.left - u32_at x 44) y (rest_are (n - (i + 1)) w.left x are) (rw (length-drop (size_of x) x) (omega (arith, long_x, length-drop at s₀, w.long₀))) in
+        let q = points_most (n - (i + 1)) (w.left - u32_at x 44) y (rest_are (n - (i + 1)) w.left x are) (rw (length-drop (entry_size x) x) (omega (arith, long_x, length-drop at s₀, w.long₀))) in
         omega (arith, size_is, marked-size hash block R, entries-size R, entries-long (n - (i + 1)) y, w.long)
 
-    on : (o : List ℕ) {j : ℕ} → j ≡ at + size_of x → length o ≡ length s → drop (at + size_of x) o ≡ drop (at + size_of x) s → splice o (at + size_of x) rest ≡ splice s₀ 4 (entries_bytes (map (committed_at hash block) (excluded_at s₀)))
+    on : (o : List ℕ) {j : ℕ} → j ≡ at + entry_size x → length o ≡ length s → drop (at + entry_size x) o ≡ drop (at + entry_size x) s → splice o (at + entry_size x) rest ≡ splice s₀ 4 (entries_bytes (map (committed_at hash block) (excluded_at s₀)))
         → Marking hash block s₀ n o j (i + 1)
     on o ej l u m =
         let r = w.room in
         let k = count_most in
-        let beyond : drop (size_of x) x ≡ drop (at + size_of x) s₀ = drop-drop (size_of x) at s₀ in
-        let y : drop (at + size_of x) s ≡ drop (at + size_of x) s₀ = sym (drop-drop (size_of x) at s) ∙ ap (drop (size_of x)) w.unread ∙ beyond in
+        let beyond : drop (entry_size x) x ≡ drop (at + entry_size x) s₀ = drop-drop (entry_size x) at s₀ in
+        let y : drop (at + entry_size x) s ≡ drop (at + entry_size x) s₀ = sym (drop-drop (entry_size x) at s) ∙ ap (drop (entry_size x)) w.unread ∙ beyond in
         record {
           left = w.left - u32_at x 44;
           bytes = w.bytes;
@@ -197,11 +197,11 @@ module _ {hash : Byte32} {block : BlockNumber} {s₀ : List ℕ} {n : ℕ} {s : 
           made = rw (ej, ← beyond) m;
         }
 
-    pub marking_more : {j : ℕ} {o : List ℕ} → j ≡ at + size_of (drop at s) → o ≡ commit_one_bytes hash block at s → Marking hash block s₀ n o j (i + 1)
+    pub marking_more : {j : ℕ} {o : List ℕ} → j ≡ at + entry_size (drop at s) → o ≡ commit_one_bytes hash block at s → Marking hash block s₀ n o j (i + 1)
     unfolding commit_one_bytes entries_in entries_bytes committed_at has_hash
     marking_more {j} {o} ej eo = by (eq_hash (entry_of x).hash hash) refl (ej ∙ rw w.unread) (eo ∙ rw w.unread) (rw next at w.made)
       where
-        by : (t : Bool) → eq_hash (entry_of x).hash hash ≡ t → j ≡ at + size_of x → o ≡ cond t (splice s (at + 32) (state_bytes (some block))) s
+        by : (t : Bool) → eq_hash (entry_of x).hash hash ≡ t → j ≡ at + entry_size x → o ≡ cond t (splice s (at + 32) (state_bytes (some block))) s
             → splice s at (entry_bytes (cond t (record { hash = hash; committed = some block; points = (entry_of x).points }) (entry_of x)) ++ rest) ≡ splice s₀ 4 (entries_bytes (map (committed_at hash block) (excluded_at s₀)))
             → Marking hash block s₀ n o j (i + 1)
         by false k z f m = rw f (on s z refl refl (ap (λ (a : ℕ). splice s (at + a) rest) (sym size_is) ∙ marked_other s at hash block (entry_of x) rest stands rest-room ∙ m))
@@ -211,7 +211,7 @@ module _ {hash : Byte32} {block : BlockNumber} {s₀ : List ℕ} {n : ℕ} {s : 
             let q = rest-room in
             let l = size_is in
             rw f
-            (on (splice s (at + 32) T) z (splice-length s (at + 32) T (omega arith)) (drop-splice s (at + 32) T (at + size_of x) (omega arith) (omega arith))
+            (on (splice s (at + 32) T) z (splice-length s (at + 32) T (omega arith)) (drop-splice s (at + 32) T (at + entry_size x) (omega arith) (omega arith))
             (ap (λ (a : ℕ). splice (splice s (at + 32) T) (at + a) rest) (sym size_is) ∙ marked-same s at hash block (entry_of x) rest stands rest-room k ∙ m))
 
   pub marking_end : n ≤ i → s ≡ splice s₀ 4 (entries_bytes (map (committed_at hash block) (excluded_at s₀)))

@@ -6,9 +6,9 @@ ghost use Rattle.std.specs.Prelude.{◌≡◌, true, map, ◌+◌, ◌*◌, ◌�
 ghost use Rattle.arithmetic.specs.LittleEndian.{AllBytes};
 ghost use Rattle.error.specs.Refusal.{answered};
 ghost use Rattle.molecule.specs.Write.{splice, put_at};
-ghost use Rattle.out_points.specs.OutPoints.{bytes_of};
+ghost use Rattle.out_points.specs.OutPoints.{points_bytes};
 ghost use Rattle.exclusion_entries.specs.Exclusions.{committed_at, excluded};
-ghost use Rattle.exclusion_entries.specs.Entries.{map_bytes, size_of, excluded_at, is_map};
+ghost use Rattle.exclusion_entries.specs.Entries.{map_bytes, entry_size, excluded_at, is_map};
 ghost use Rattle.exclusion_entries.specs.Calls.{Commits, Applies};
 ghost use Rattle.exclusion_marks.specs.Inner.{commit_one_bytes};
 
@@ -21,8 +21,8 @@ use units::BlockNumber;
 
 // Gives the entry at `at` its block if it is of the hash, and answers the place after it.
 fn commit_one(s: &mut [u8], at: usize, hash: Byte32, block: BlockNumber) -> usize
-    requires { at + size_of (drop at s.old) ≤ length s.old }
-    ensures value { result ≡ at + size_of (drop at s.old) }
+    requires { at + entry_size (drop at s.old) ≤ length s.old }
+    ensures value { result ≡ at + entry_size (drop at s.old) }
     ensures s_after { s.new ≡ commit_one_bytes hash block at s.old }
 {
     let x = molecule::part(s, at, s.len());
@@ -68,7 +68,7 @@ fn put_excluded(s: &[u8], out: &mut [u8])
     requires all_bytes { AllBytes s.now }
     requires s_value { is_map s.now ≡ true }
     requires s_in_bounds { 4 + 36 * length (excluded (excluded_at s.now)) ≤ length out.old }
-    ensures { out.new ≡ splice out.old 4 (bytes_of (excluded (excluded_at s.now))) }
+    ensures { out.new ≡ splice out.old 4 (points_bytes (excluded (excluded_at s.now))) }
 {
     let n = molecule::word(s, 0) as usize;
     let mut to: usize = 4;

@@ -4,14 +4,14 @@ use Prim.Native.Nat.{ℕ, ◌+◌, ◌^◌, ◌≤◌, ◌<◌}
 use mathlib.Core.Bool.{Bool, true, false, not, cond}
 use mathlib.Core.List.{List, [], ◌∷◌}
 use native.Mathlib.Omega.{arith}
-use borrow.Author.Tests.{eq-eqb, ne_eqb, not-true, not-false}
+use borrow.Author.Tests.{eq-eqb, ne_eqb, not-true}
 use lib.Dec.{eqb}
 use lib.ListN.{length}
 use Rattle.arithmetic.specs.LittleEndian.{AllBytes}
 use Rattle.std.specs.Prelude.{Ok, Err}
 use Rattle.error.specs.declared.{Refusal.Refusal}
 use Rattle.error.specs.Refusal.{number, values, answered}
-use Rattle.error.specs.Outcome.{Outcome, fine, refused, check, check_with, ◌>>◌, refusal}
+use Rattle.error.specs.Outcome.{Outcome, fine, refused, check, check_with, ◌>>◌}
 use Rattle.units.specs.declared.{BlockNumber.BlockNumber}
 use Rattle.molecule.specs.Molecule.{readable, option}
 use Rattle.molecule.specs.Write.{splice}

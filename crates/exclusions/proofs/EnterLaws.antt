@@ -1,5 +1,5 @@
 -- A transaction entered: the room that it needs, and what the table then means.
-use mathlib.Core.Path.{◌≡◌, refl, sym, ap, ap₂, ◌∙◌}
+use mathlib.Core.Path.{◌≡◌, refl, sym, ap, ◌∙◌}
 use Prim.Native.Nat.{ℕ, zero, suc, ◌+◌, ◌*◌, ◌^◌, ◌≤◌, ◌<◌}
 use mathlib.Core.Bool.{Bool, true, false, not, ◌&&◌}
 use mathlib.Core.List.{List, [], ◌∷◌, ◌++◌, map, append_assoc}
@@ -11,7 +11,7 @@ use Rattle.arithmetic.specs.LittleEndian.{AllBytes}
 use Rattle.std.specs.Prelude.{Ok, Err}
 use Rattle.error.specs.declared.{Refusal.Refusal}
 use Rattle.error.specs.Refusal.{number, values, answered}
-use Rattle.error.specs.Outcome.{fine, check, check_with, ◌>>◌, refusal}
+use Rattle.error.specs.Outcome.{check, check_with, ◌>>◌}
 use Rattle.molecule.specs.Layout.{part, span, field_of, fix_count, fix_item}
 use Rattle.molecule.specs.Partial.{All}
 use Rattle.molecule.specs.Molecule.{readable, option, fixvec, size}

@@ -19,7 +19,7 @@ use Rattle.lists.proofs.RunLaws.{item_run}
 use Rattle.lists.proofs.SpanLaws.{span-on, span-end, span-whole}
 use Rattle.transaction.specs.Tx.{previous_output_of}
 use Rattle.out_points.specs.declared.{Byte32.Byte32}
-use Rattle.out_points.specs.OutPoints.{out_point_at, hash_bytes, point_bytes, bytes_of, point_list}
+use Rattle.out_points.specs.OutPoints.{out_point_at, hash_bytes, point_bytes, points_bytes, point_list}
 use Rattle.std.specs.List.{filter}
 use Rattle.out_points.specs.Tables.{renew}
 use Rattle.out_points.proofs.PointLaws.{length-hash}
@@ -74,7 +74,7 @@ pub record Spending (inputs : List ℕ) (n : ℕ) (out₀ : List ℕ) (at : ℕ)
   pub here : from ≡ 12 + 44 * k
   pub long : length out ≡ length out₀
   pub room : at + 36 * n ≤ length out₀
-  pub made : splice out to (bytes_of (map point_of_input (span (fix_item inputs 44) k (n - k)))) ≡ splice out₀ at (bytes_of (points_of_inputs inputs))
+  pub made : splice out to (points_bytes (map point_of_input (span (fix_item inputs 44) k (n - k)))) ≡ splice out₀ at (points_bytes (points_of_inputs inputs))
 
 pub spend_none : (inputs : List ℕ) (out : List ℕ) (at : ℕ) {n : ℕ} → AllBytes inputs → n ≡ fix_count inputs → length inputs ≡ 4 + 44 * fix_count inputs → at + 36 * fix_count inputs ≤ length out → Spending inputs n out at out at 12 0
 unfolding points_of_inputs
@@ -87,7 +87,7 @@ spend_none inputs out at {n} b e l r = record {
   here = omega arith;
   long = refl;
   room = omega arith;
-  made = ap (λ (x : List (List ℕ)). splice out at (bytes_of (map point_of_input x))) (sym (span-whole (fix_item inputs 44) n) ∙ ap (span (fix_item inputs 44) 0) e);
+  made = ap (λ (x : List (List ℕ)). splice out at (points_bytes (map point_of_input x))) (sym (span-whole (fix_item inputs 44) n) ∙ ap (span (fix_item inputs 44) 0) e);
 }
 
 module _ {inputs : List ℕ} {n : ℕ} {out₀ : List ℕ} {at : ℕ} {out : List ℕ} {to from k : ℕ} (w : Spending inputs n out₀ at out to from k) where
@@ -112,7 +112,7 @@ module _ {inputs : List ℕ} {n : ℕ} {out₀ : List ℕ} {at : ℕ} {out : Lis
       sym (ap (λ (t : List ℕ). point_bytes (out_point_at t 0)) e ∙ point_again x (bytes_take 36 (drop from inputs) (bytes_drop from inputs w.bytes)) lx)
 
   pub spend_more : {o : List ℕ} → k < n → o ≡ splice out to (take 36 (drop from inputs)) → Spending inputs n out₀ at o (to + 36) (from + 44) (k + 1)
-  unfolding bytes_of
+  unfolding points_bytes
   spend_more {o} h e =
       let t = w.there in
       let f = w.here in
@@ -121,8 +121,8 @@ module _ {inputs : List ℕ} {n : ℕ} {out₀ : List ℕ} {at : ℕ} {out : Lis
       let E = take 36 (drop from inputs) in
       let R = map point_of_input (span i (k + 1) (n - (k + 1))) in
       let lE : length E ≡ 36 = length-take-le 36 (drop from inputs) (rw (length-drop from inputs) (let s = spend_here h in omega arith)) in
-      let lR : length (bytes_of R) ≡ 36 * (n - (k + 1)) = length-bytes R ∙ ap (λ (j : ℕ). 36 * j) (length-map (span i (k + 1) (n - (k + 1))) point_of_input ∙ span-length i (k + 1) (n - (k + 1))) in
-      let on : bytes_of (map point_of_input (span i k (n - k))) ≡ E ++ bytes_of R = ap (λ (x : List (List ℕ)). bytes_of (map point_of_input x)) (span-on i k n h) ∙ ap (λ (x : List ℕ). x ++ bytes_of R) (sym (point-is h)) in
+      let lR : length (points_bytes R) ≡ 36 * (n - (k + 1)) = length-bytes R ∙ ap (λ (j : ℕ). 36 * j) (length-map (span i (k + 1) (n - (k + 1))) point_of_input ∙ span-length i (k + 1) (n - (k + 1))) in
+      let on : points_bytes (map point_of_input (span i k (n - k))) ≡ E ++ points_bytes R = ap (λ (x : List (List ℕ)). points_bytes (map point_of_input x)) (span-on i k n h) ∙ ap (λ (x : List ℕ). x ++ points_bytes R) (sym (point-is h)) in
       record {
         bytes = w.bytes;
         counted = w.counted;
@@ -133,15 +133,15 @@ module _ {inputs : List ℕ} {n : ℕ} {out₀ : List ℕ} {at : ℕ} {out : Lis
         long = ap length e ∙ splice-length out to E (omega (arith, w.long)) ∙ w.long;
         room = r;
         made =
-            ap₂ (λ (x : List ℕ) (j : ℕ). splice x (to + j) (bytes_of R)) e (sym lE)
-            ∙ splice-then out to E (bytes_of R) (omega (arith, w.long))
+            ap₂ (λ (x : List ℕ) (j : ℕ). splice x (to + j) (points_bytes R)) e (sym lE)
+            ∙ splice-then out to E (points_bytes R) (omega (arith, w.long))
             ∙ ap (splice out to) (sym on)
             ∙ w.made;
       }
 
-  pub spend_end : n ≤ k → out ≡ splice out₀ at (bytes_of (points_of_inputs inputs))
-  unfolding bytes_of
-  spend_end h = sym (splice-none out to) ∙ ap (λ (x : List (List ℕ)). splice out to (bytes_of (map point_of_input x))) (sym (span-end (fix_item inputs 44) k n h)) ∙ w.made
+  pub spend_end : n ≤ k → out ≡ splice out₀ at (points_bytes (points_of_inputs inputs))
+  unfolding points_bytes
+  spend_end h = sym (splice-none out to) ∙ ap (λ (x : List (List ℕ)). splice out to (points_bytes (map point_of_input x))) (sym (span-end (fix_item inputs 44) k n h)) ∙ w.made
 
 -- ---- the entry
 
@@ -154,10 +154,10 @@ module _ (hash : Byte32) (f : List ℕ) where
   unfolding entry_with
   entry-count = spent-count
 
-  entry-is : entry_bytes (entry_with hash f) ≡ head_bytes hash (fix_count f) ++ bytes_of (points_of_inputs f)
+  entry-is : entry_bytes (entry_with hash f) ≡ head_bytes hash (fix_count f) ++ points_bytes (points_of_inputs f)
   unfolding entry_bytes head_bytes point_list entry_with
   entry-is =
-      let B = bytes_of (points_of_inputs f) in
+      let B = points_bytes (points_of_inputs f) in
       ap (λ (k : ℕ). hash_bytes hash ++ state_bytes none ++ (to_le 4 k ++ B)) spent-count ∙ sym (append_assoc (hash_bytes hash ++ state_bytes none) (to_le 4 (fix_count f)) B)
 
   entry-length : length (entry_bytes (entry_with hash f)) ≡ 48 + 36 * fix_count f
@@ -167,10 +167,10 @@ module _ (hash : Byte32) (f : List ℕ) where
     pub entry-room : r ≡ at + 48 → r + 36 * fix_count f ≤ length o
     entry-room e = omega (arith, length-kept p)
 
-    pub entry_put : splice o r (bytes_of (points_of_inputs f)) ≡ splice out at (entry_bytes (entry_with hash f))
+    pub entry_put : splice o r (points_bytes (points_of_inputs f)) ≡ splice out at (entry_bytes (entry_with hash f))
     entry_put =
         let H = head_bytes hash (fix_count f) in
-        let B = bytes_of (points_of_inputs f) in
+        let B = points_bytes (points_of_inputs f) in
         let l = entry-length in
         ap₂ (λ (x : List ℕ) (k : ℕ). splice x k B) p.bytes p.end ∙ splice-then out at H B (omega (arith, ap length entry-is, length-append H B)) ∙ ap (splice out at) (sym entry-is)
 

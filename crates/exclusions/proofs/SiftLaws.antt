@@ -15,7 +15,7 @@ use Rattle.molecule.proofs.WriteLaws.{splice-length}
 use Rattle.molecule.proofs.ItemsLaws.{bytes_drop}
 use Rattle.exclusion_entries.specs.Exclusions.{MapEntry}
 use Rattle.exclusion_entries.specs.declared.{Rule.Rule, Survey.Survey}
-use Rattle.exclusion_entries.specs.Entries.{entry_bytes, entries_bytes, entry_of, size_of, entries_in, excluded_at, are_entries, map_size}
+use Rattle.exclusion_entries.specs.Entries.{entry_bytes, entries_bytes, entry_of, entry_size, entries_in, excluded_at, are_entries, map_size}
 use Rattle.exclusion_entries.specs.Inner.{keeps, takes, stay, front, survey_of}
 use Rattle.exclusion_entries.proofs.EntryLaws.{from-here, entry_again, first-is, first-room, rest_are, entries-size, points_most, entries-long, bytes-join}
 use Rattle.exclusion_entries.proofs.MapLaws.{map-long, map-few, map_are, map_again, Cut, cut}
@@ -40,8 +40,8 @@ module _ (rule : Rule) (c : Sift) (s : List ℕ) {x : List ℕ} {k g : Bool} {n 
   unfolding sift_one_bytes
   bytes-is = rw (← at-is, ← ek, ← eg, ← en, ← ez)
 
-  pub one-room : c.at + size_of (drop c.at s) ≤ length s → c.at + z ≤ length s
-  one-room h = let e : c.at + z ≡ c.at + size_of (drop c.at s) = rw (← at-is, ← en, ← ez) in omega arith
+  pub one-room : c.at + entry_size (drop c.at s) ≤ length s → c.at + z ≤ length s
+  one-room h = let e : c.at + z ≡ c.at + entry_size (drop c.at s) = rw (← at-is, ← en, ← ez) in omega arith
 
   module _ (h : not k ≡ true) where
     pub one_goes : ◌≡◌ {A = Sift} (record { at = c.at + z; to = c.to; taken = c.taken }) (sift_one rule c s)
@@ -99,27 +99,27 @@ module _ {rule : Rule} {s₀ : List ℕ} {n : ℕ} {s : List ℕ} {c : Sift} {i 
     count_most : u32_at x 44 ≤ w.left
     count_most = first-room (n - (i + 1)) w.left x are
 
-    long_x : size_of x ≤ length x
+    long_x : entry_size x ≤ length x
     long_x = let r = w.room in let k = count_most in omega (arith, length-drop c.at s₀, w.long₀)
 
-    pub sift_room : c.at + size_of (drop c.at s) ≤ length s
+    pub sift_room : c.at + entry_size (drop c.at s) ≤ length s
     sift_room = rw w.unread (let r = w.room in let k = count_most in omega (arith, w.long))
 
     -- after the entry, by what becomes of it
     module _ (d : Sift) (o : List ℕ) where
       abbrev rest : List MapEntry
-      rest = entries_in (n - (i + 1)) (drop (size_of x) x)
+      rest = entries_in (n - (i + 1)) (drop (entry_size x) x)
 
-      beyond : drop (size_of x) x ≡ drop (c.at + size_of x) s₀
-      beyond = drop-drop (size_of x) c.at s₀
+      beyond : drop (entry_size x) x ≡ drop (c.at + entry_size x) s₀
+      beyond = drop-drop (entry_size x) c.at s₀
 
-      on : d.at ≡ c.at + size_of x → d.to ≤ d.at → length o ≡ map_size → drop (c.at + size_of x) o ≡ drop (c.at + size_of x) s
+      on : d.at ≡ c.at + entry_size x → d.to ≤ d.at → length o ≡ map_size → drop (c.at + entry_size x) o ≡ drop (c.at + entry_size x) s
           → splice o d.to (entries_bytes (stay (keeps rule) (takes rule) d.taken rest)) ≡ splice s₀ 4 (entries_bytes (stay (keeps rule) (takes rule) false (excluded_at s₀)))
           → Sifting rule s₀ n o d (i + 1)
       on ea q l u m =
           let r = w.room in
           let k = count_most in
-          let y : drop (c.at + size_of x) s ≡ drop (c.at + size_of x) s₀ = sym (drop-drop (size_of x) c.at s) ∙ ap (drop (size_of x)) w.unread ∙ beyond in
+          let y : drop (c.at + entry_size x) s ≡ drop (c.at + entry_size x) s₀ = sym (drop-drop (entry_size x) c.at s) ∙ ap (drop (entry_size x)) w.unread ∙ beyond in
           record {
             left = w.left - u32_at x 44;
             bytes = w.bytes;
@@ -133,13 +133,13 @@ module _ {rule : Rule} {s₀ : List ℕ} {n : ℕ} {s : List ℕ} {c : Sift} {i 
             made = rw (ea, ← beyond) m;
           }
 
-    stays_within : (taken : Bool) → c.at + size_of x + length (entries_bytes (stay (keeps rule) (takes rule) taken (entries_in (n - (i + 1)) (drop (size_of x) x)))) ≤ map_size
+    stays_within : (taken : Bool) → c.at + entry_size x + length (entries_bytes (stay (keeps rule) (takes rule) taken (entries_in (n - (i + 1)) (drop (entry_size x) x)))) ≤ map_size
     stays_within taken =
-        let y = drop (size_of x) x in
+        let y = drop (entry_size x) x in
         let r = w.room in
         let k = count_most in
         let m = stay-size (keeps rule) (takes rule) taken (entries_in (n - (i + 1)) y) in
-        let q = points_most (n - (i + 1)) (w.left - u32_at x 44) y (rest_are (n - (i + 1)) w.left x are) (rw (length-drop (size_of x) x) (omega (arith, long_x, length-drop c.at s₀, w.long₀))) in
+        let q = points_most (n - (i + 1)) (w.left - u32_at x 44) y (rest_are (n - (i + 1)) w.left x are) (rw (length-drop (entry_size x) x) (omega (arith, long_x, length-drop c.at s₀, w.long₀))) in
         omega (arith, entries-size (entries_in (n - (i + 1)) y), entries-long (n - (i + 1)) y)
 
     pub sift_more : {d : Sift} {o : List ℕ} → d ≡ sift_one rule c s → o ≡ sift_one_bytes rule c s → Sifting rule s₀ n o d (i + 1)
@@ -147,24 +147,24 @@ module _ {rule : Rule} {s₀ : List ℕ} {n : ℕ} {s : List ℕ} {c : Sift} {i 
     sift_more {d} {o} ed eo = by (keeps rule (entry_of x)) (cond c.taken false (takes rule (entry_of x))) (ed ∙ rw w.unread) (eo ∙ rw w.unread) (rw next at w.made)
       where
         by : (a b : Bool)
-            → d ≡ cond a (cond b (record { at = c.at + size_of x; to = c.to; taken = true }) (record { at = c.at + size_of x; to = c.to + size_of x; taken = c.taken })) (record { at = c.at + size_of x; to = c.to; taken = c.taken })
-            → o ≡ cond a (cond b s (splice s c.to (take (size_of x) x))) s
+            → d ≡ cond a (cond b (record { at = c.at + entry_size x; to = c.to; taken = true }) (record { at = c.at + entry_size x; to = c.to + entry_size x; taken = c.taken })) (record { at = c.at + entry_size x; to = c.to; taken = c.taken })
+            → o ≡ cond a (cond b s (splice s c.to (take (entry_size x) x))) s
             → splice s c.to (entries_bytes (cond a (cond b (stay (keeps rule) (takes rule) true (rest d o)) (entry_of x ∷ stay (keeps rule) (takes rule) c.taken (rest d o))) (stay (keeps rule) (takes rule) c.taken (rest d o)))) ≡ splice s₀ 4 (entries_bytes (stay (keeps rule) (takes rule) false (excluded_at s₀)))
             → Sifting rule s₀ n o d (i + 1)
-        by false b e f m = rw (e, f) (on (record { at = c.at + size_of x; to = c.to; taken = c.taken }) s refl (let q = w.order in omega arith) w.long refl m)
-        by true true e f m = rw (e, f) (on (record { at = c.at + size_of x; to = c.to; taken = true }) s refl (let q = w.order in omega arith) w.long refl m)
+        by false b e f m = rw (e, f) (on (record { at = c.at + entry_size x; to = c.to; taken = c.taken }) s refl (let q = w.order in omega arith) w.long refl m)
+        by true true e f m = rw (e, f) (on (record { at = c.at + entry_size x; to = c.to; taken = true }) s refl (let q = w.order in omega arith) w.long refl m)
         by true false e f m =
             let q = w.order in
             let W = entries_bytes (stay (keeps rule) (takes rule) c.taken (rest d o)) in
-            let E = take (size_of x) x in
+            let E = take (entry_size x) x in
             let room = stays_within c.taken in
             let same : entry_bytes (entry_of x) ≡ E = entry_again x (bytes_drop c.at s₀ w.bytes) (first-is (n - (i + 1)) w.left x are) long_x in
-            let l : length E ≡ size_of x = length-take-le (size_of x) x long_x in
-            let z : c.to + length E ≡ c.to + size_of x = ap (λ (k : ℕ). c.to + k) l in
-            let u : drop (c.at + size_of x) (splice s c.to E) ≡ drop (c.at + size_of x) s = drop-splice s c.to E (c.at + size_of x) (omega (arith, w.long)) (omega arith) in
-            let j : splice (splice s c.to E) (c.to + size_of x) W ≡ splice s c.to (E ++ W) = ap (λ (k : ℕ). splice (splice s c.to E) k W) (sym z) ∙ splice-then s c.to E W (omega (arith, w.long)) in
+            let l : length E ≡ entry_size x = length-take-le (entry_size x) x long_x in
+            let z : c.to + length E ≡ c.to + entry_size x = ap (λ (k : ℕ). c.to + k) l in
+            let u : drop (c.at + entry_size x) (splice s c.to E) ≡ drop (c.at + entry_size x) s = drop-splice s c.to E (c.at + entry_size x) (omega (arith, w.long)) (omega arith) in
+            let j : splice (splice s c.to E) (c.to + entry_size x) W ≡ splice s c.to (E ++ W) = ap (λ (k : ℕ). splice (splice s c.to E) k W) (sym z) ∙ splice-then s c.to E W (omega (arith, w.long)) in
             rw (e, f)
-            (on (record { at = c.at + size_of x; to = c.to + size_of x; taken = c.taken }) (splice s c.to E) refl (omega arith) (splice-length s c.to E (omega (arith, w.long)) ∙ w.long) u
+            (on (record { at = c.at + entry_size x; to = c.to + entry_size x; taken = c.taken }) (splice s c.to E) refl (omega arith) (splice-length s c.to E (omega (arith, w.long)) ∙ w.long) u
             (j ∙ ap (λ (k : List ℕ). splice s c.to (k ++ W)) (sym same) ∙ m))
 
   pub sift_end : n ≤ i → s ≡ splice s₀ 4 (entries_bytes (stay (keeps rule) (takes rule) false (excluded_at s₀)))

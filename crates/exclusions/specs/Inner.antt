@@ -1,5 +1,5 @@
 -- What the functions inside promise one another; no contract of a call cites it.
-use Rattle.std.specs.Prelude.{◌≡◌, ℕ, ◌+◌, ◌*◌, Bool, true, false, cond, List, ◌++◌, map, take, drop, Ok}
+use Rattle.std.specs.Prelude.{◌≡◌, ℕ, ◌+◌, ◌-◌, ◌*◌, Bool, true, false, cond, List, ◌++◌, map, take, drop, Ok}
 use Rattle.std.proofs.Math.Option.{none}
 use Rattle.std.specs.List.{filter}
 use Rattle.arithmetic.specs.LittleEndian.{to_le}
@@ -11,7 +11,7 @@ use Rattle.out_points.specs.OutPoints.{out_point_at, hash_bytes}
 use Rattle.out_points.specs.Tables.{renew}
 use Rattle.exclusion_entries.specs.declared.{Rule.Rule}
 use Rattle.exclusion_entries.specs.Exclusions.{MapEntry}
-use Rattle.exclusion_entries.specs.Entries.{state_bytes, entry_of, size_of}
+use Rattle.exclusion_entries.specs.Entries.{state_bytes, entry_bytes, entry_of, entry_size}
 use Rattle.exclusion_entries.specs.Inner.{keeps, takes, survey_of}
 use Rattle.exclusions.specs.declared.{changes.Pass.Pass, changes.Sift.Sift}
 
@@ -42,10 +42,10 @@ unfoldable pub gives : Rule → Bool → List ℕ → Bool
 gives rule taken x = cond taken false (takes rule (entry_of x))
 
 unfoldable pub sift_one : Rule → Sift → List ℕ → Sift
-sift_one rule c s = let x = drop c.at s in sifted (keeps rule (entry_of x)) (gives rule c.taken x) (size_of x) c
+sift_one rule c s = let x = drop c.at s in sifted (keeps rule (entry_of x)) (gives rule c.taken x) (entry_size x) c
 
 unfoldable pub sift_one_bytes : Rule → Sift → List ℕ → List ℕ
-sift_one_bytes rule c s = let x = drop c.at s in sifted_bytes (keeps rule (entry_of x)) (gives rule c.taken x) (size_of x) c s
+sift_one_bytes rule c s = let x = drop c.at s in sifted_bytes (keeps rule (entry_of x)) (gives rule c.taken x) (entry_size x) c s
 
 -- ---- a new entry: what stands before its out points, and these
 
@@ -61,6 +61,12 @@ points_of_inputs inputs = map point_of_input (fix_items 44 inputs)
 -- the entry of a transaction with this hash and these inputs
 unfoldable pub entry_with : Byte32 → List ℕ → MapEntry
 entry_with h inputs = record { hash = h; committed = none; points = points_of_inputs inputs }
+
+-- x put at its place in a map that the pass has left, with the entries behind it behind it, and the count
+abbrev pub with_entry : Pass → MapEntry → List ℕ → List ℕ
+with_entry p x s =
+    let place = p.found.place in
+    splice (splice s place (entry_bytes x ++ take (end_of p - place) (drop place s))) 0 (to_le 4 (p.found.stays + 1))
 
 -- it takes its place among the entries that the rule keeps
 abbrev pub replaced : Rule → Byte32 → List ℕ → List MapEntry → List MapEntry

@@ -1,13 +1,12 @@
 // The exclusion map as lent bytes: what a call does to them, in place.
 #![tactic(auto, using(crate::proofs::ChangesWays::ways))]
 
-ghost use Rattle.std.specs.Prelude.{◌≡◌, false, ◌++◌, ◌+◌, ◌-◌, ◌*◌, ◌≤◌, ◌<◌, length, take, drop};
-ghost use Rattle.arithmetic.specs.LittleEndian.{to_le};
+ghost use Rattle.std.specs.Prelude.{◌≡◌, false, ◌+◌, ◌*◌, ◌≤◌, ◌<◌, length, drop};
 ghost use Rattle.molecule.specs.Layout.{fix_count};
 ghost use Rattle.molecule.specs.Write.{splice};
-ghost use Rattle.exclusion_entries.specs.Entries.{entry_bytes, entries_bytes, map_bytes, size_of, excluded_at};
+ghost use Rattle.exclusion_entries.specs.Entries.{entries_bytes, map_bytes, entry_size, excluded_at};
 ghost use Rattle.exclusion_entries.specs.Inner.{keeps, takes, stay};
-ghost use Rattle.exclusions.specs.Inner.{gives, sift_one, sift_one_bytes, entry_with, replaced, Found, end_of};
+ghost use Rattle.exclusions.specs.Inner.{gives, sift_one, sift_one_bytes, entry_with, with_entry, replaced, Found, end_of};
 
 use crate::entry::NewEntry;
 use exclusion_entries::{Rule, Survey};
@@ -33,7 +32,7 @@ fn gives(rule: Rule, taken: bool, x: &[u8]) -> bool
 // Moves the next entry if it stays. Entries have sizes of their own and are written where they are read: what lends them one by one would hold the bytes.
 fn sift_one(s: &mut [u8], rule: Rule, c: Sift) -> Sift
     requires to_le_at { c.to ≤ c.at }
-    requires s_in_bounds { c.at + size_of (drop c.at s.old) ≤ length s.old }
+    requires s_in_bounds { c.at + entry_size (drop c.at s.old) ≤ length s.old }
     ensures value { result ≡ sift_one rule c s.old }
     ensures s_after { s.new ≡ sift_one_bytes rule c s.old }
 {
@@ -101,7 +100,7 @@ impl Pass {
         requires place_bound { self.found.place ≤ end_of self }
         requires stays_bound { self.found.stays < 64 }
         requires in_bounds { end_of self + (48 + 36 * fix_count added.inputs.now) ≤ length s.old }
-        ensures { s.new ≡ splice (splice s.old self.found.place (entry_bytes (entry_with added.entry.hash added.entry.inputs.now) ++ take (end_of self - self.found.place) (drop self.found.place s.old))) 0 (to_le 4 (self.found.stays + 1)) }
+        ensures { s.new ≡ with_entry self (entry_with added.entry.hash added.entry.inputs.now) s.old }
     {
         let place = self.found.place;
         let end = 4 + 48 * self.found.stays + 36 * self.found.points;

@@ -7,7 +7,7 @@ ghost use Rattle.molecule.specs.Molecule.{readable, option};
 ghost use Rattle.molecule.specs.Write.{splice, Put};
 ghost use Rattle.transaction.specs.Ckb.{Transaction};
 ghost use Rattle.transaction.specs.Tx.{raw_field};
-ghost use Rattle.out_points.specs.OutPoints.{bytes_of};
+ghost use Rattle.out_points.specs.OutPoints.{points_bytes};
 ghost use Rattle.exclusion_entries.specs.Entries.{entry_bytes};
 ghost use Rattle.exclusions.specs.Inner.{head_bytes, points_of_inputs, entry_with};
 
@@ -58,7 +58,7 @@ impl<'a> NewEntry<'a> {
     // and `write::put` copies a length that it asks for, where here it is known.
     fn put_points(self, out: &mut [u8], at: usize)
         requires { at + 36 * fix_count self.inputs.now ≤ length out.old }
-        ensures { out.new ≡ splice out.old at (bytes_of (points_of_inputs self.entry.inputs.now)) }
+        ensures { out.new ≡ splice out.old at (points_bytes (points_of_inputs self.entry.inputs.now)) }
     {
         transaction_writer::are_bytes(self.inputs);
         let mut to = at;

@@ -1,11 +1,10 @@
-// The calls on a lent table of holds. A table of another length is refused before all else, and a refusal leaves its bytes and the buffers as they were. Parameters
-// stand one by one, as in the C functions of the calls: a struct would be made there for each single call.
+// The calls on a lent table of holds. A table of another length is refused before all else, and a refusal leaves its bytes and the buffers as they were.
+// Parameters stand one by one, as in the C functions of the calls: a struct would be made there for each single call.
 #![tactic(auto, using(crate::proofs::Ways::ways), unfolding(crate::specs::HeldBytes::held_at))]
 
-ghost use Rattle.std.specs.Prelude.{◌≡◌, List, length};
+ghost use Rattle.std.specs.Prelude.{◌≡◌, length};
 ghost use Rattle.error.specs.Refusal.{answered};
-ghost use Rattle.error.specs.Outcome.{Outcome};
-ghost use Rattle.hold_records.specs.declared.{Hold.Hold, Held.Held};
+ghost use Rattle.hold_records.specs.declared.{Held.Held};
 ghost use Rattle.hold_records.specs.Holds.{told};
 ghost use Rattle.table_bytes.specs.Lent.{on_table, Leaves};
 ghost use Rattle.held_bytes.specs.HeldBytes.{held_size, held_of, held_table};
@@ -32,7 +31,7 @@ fn leave(s: &mut [u8], r: Result<Held, Refusal>) -> Answer
 #[inline(always)]
 fn on_table<F: FnOnce(Held) -> Result<Held, Refusal>>(s: &mut [u8], call: F) -> Answer
     requires { F.IsAlwaysCallable call }
-    ensures { (o : Outcome (List Hold)) → ((r : _) → F.post call (held_of s.old) r → told r ≡ o) → Leaves held_table s.old (answered result) s.new (on_table held_table s.old o) }
+    ensures { (o : _) → ((r : _) → F.post call (held_of s.old) r → told r ≡ o) → Leaves held_table s.old (answered result) s.new (on_table held_table s.old o) }
 {
     if s.len() != HELD_BYTES {
         return Err(Refusal::LentBytesUnreadable);

@@ -2,13 +2,13 @@
 use mathlib.Core.Path.{◌≡◌, sym, ap, ◌∙◌}
 use Prim.Native.Nat.{ℕ, ◌+◌, ◌-◌, ◌≤◌, ◌<◌}
 use native.Mathlib.Omega.{arith}
-use mathlib.Core.Bool.{Bool, true, false, cond}
+use mathlib.Core.Bool.{Bool, true, false}
 use mathlib.Core.List.{List, [], ◌++◌, map}
 use lib.ListN.{length, drop, length-append, length-map}
 use Rattle.std.proofs.Common.{Ok, Err, Result}
 use Rattle.error.specs.declared.{Refusal.Refusal}
 use Rattle.error.specs.Refusal.{number, values, answered}
-use Rattle.error.specs.Outcome.{fine, refused, check, check_with, number_of, ◌>>=◌, ◌>>◌}
+use Rattle.error.specs.Outcome.{fine, check, check_with, number_of, ◌>>=◌, ◌>>◌}
 use Rattle.units.specs.declared.{Millis.Millis}
 use Rattle.molecule.specs.Layout.{fix_count}
 use Rattle.molecule.specs.Molecule.{readable}
@@ -16,7 +16,7 @@ use Rattle.transaction.specs.Ckb.{OutPoints}
 use Rattle.out_points.specs.OutPoints.{points}
 use Rattle.out_points.proofs.ListLaws.{length-points}
 use Rattle.std.specs.List.{filter}
-use Rattle.out_points.specs.Tables.{has_room, with_list, after_list}
+use Rattle.out_points.specs.Tables.{has_room, after_list}
 use Rattle.hold_records.specs.declared.{Owner.Owner, Held.Held, Rule.Rule, Taker.Taker}
 use Rattle.hold_records.specs.Holds.{records_of, told, held_by, cells_of, at_most_256, hold_funding, lock_held, is_busy, firsts, unavailable, owner_for, take_free, take_cells, after_lock, after_take}
 use Rattle.hold_records.specs.Inner.{is_kept, put_if}

@@ -1,5 +1,5 @@
 -- A table of more than 256 records is refused with 14, and any other is left.
-use mathlib.Core.Path.{◌≡◌, refl, sym, ap, ◌∙◌}
+use mathlib.Core.Path.{◌≡◌, sym, ap, ◌∙◌}
 use Prim.Native.Nat.{◌≤◌, ◌<◌}
 use borrow.Author.Tests.{le-leb, lt-leb}
 use mathlib.Core.List.{List, []}

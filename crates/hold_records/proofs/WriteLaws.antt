@@ -13,7 +13,7 @@ use Rattle.molecule.specs.Partial.{All}
 use Rattle.molecule.specs.Write.{put_at, put_end, Put}
 use Rattle.molecule.proofs.WriteLaws.{none, did, then, and_put, as_bytes, length-kept, splice_zero}
 use Rattle.out_points.specs.declared.{OutPoint.OutPoint}
-use Rattle.out_points.specs.OutPoints.{Fit, points, point_bytes, bytes_of, point_list}
+use Rattle.out_points.specs.OutPoints.{Fit, points, point_bytes, points_bytes, point_list}
 use Rattle.out_points.proofs.PointLaws.{length-point}
 use Rattle.out_points.proofs.ListLaws.{length-bytes, length_list}
 use Rattle.out_points.proofs.AgainLaws.{list_before}
@@ -28,16 +28,16 @@ use Rattle.hold_records.proofs.LoopLaws.{drop_record, drop-none}
 pub record Listing (all rest : List OutPoint) (out₀ : List ℕ) (at₀ : ℕ) (out : List ℕ) (at : ℕ) : Type 0 where
   pub before : List OutPoint
   pub parts : before ++ rest ≡ all
-  pub put : Put out₀ at₀ (bytes_of before) out at
+  pub put : Put out₀ at₀ (points_bytes before) out at
   pub room : at₀ + 36 * length all ≤ length out₀
 
-bytes_snoc : (l : List OutPoint) (p : OutPoint) → bytes_of (l ++ (p ∷ [])) ≡ bytes_of l ++ point_bytes p
-unfolding bytes_of
+bytes_snoc : (l : List OutPoint) (p : OutPoint) → points_bytes (l ++ (p ∷ [])) ≡ points_bytes l ++ point_bytes p
+unfolding points_bytes
 bytes_snoc [] p = append-nil (point_bytes p)
-bytes_snoc (q ∷ l) p = ap (λ (x : List ℕ). point_bytes q ++ x) (bytes_snoc l p) ∙ sym (append_assoc (point_bytes q) (bytes_of l) (point_bytes p))
+bytes_snoc (q ∷ l) p = ap (λ (x : List ℕ). point_bytes q ++ x) (bytes_snoc l p) ∙ sym (append_assoc (point_bytes q) (points_bytes l) (point_bytes p))
 
 pub list_start : (all : List OutPoint) (out : List ℕ) (at : ℕ) → at + 36 * length all ≤ length out → Listing all all out at out at
-unfolding bytes_of
+unfolding points_bytes
 list_start all out at room = record { before = []; parts = refl; put = none out at (omega arith); room = room }
 
 module _ {all : List OutPoint} {out₀ : List ℕ} {at₀ : ℕ} {out : List ℕ} {at : ℕ} where
@@ -54,23 +54,23 @@ module _ {all : List OutPoint} {out₀ : List ℕ} {at₀ : ℕ} {out : List ℕ
         room = l.room;
       }
 
-  pub list_end : Listing all [] out₀ at₀ out at → Put out₀ at₀ (bytes_of all) out at
-  list_end l = as_bytes (ap bytes_of (sym (append-nil l.before) ∙ l.parts)) l.put
+  pub list_end : Listing all [] out₀ at₀ out at → Put out₀ at₀ (points_bytes all) out at
+  list_end l = as_bytes (ap points_bytes (sym (append-nil l.before) ∙ l.parts)) l.put
 
   pub list_long : {rest : List OutPoint} → Listing all rest out₀ at₀ out at → length out ≡ length out₀
   list_long l = length-kept l.put
 
 -- the count, then the out points
 pub list_written : (l : List OutPoint) (out : List ℕ) {o₁ o₂ : List ℕ} {n at a : ℕ} → n ≡ length l → 4 + 36 * length l ≤ length out
-    → o₁ ≡ put_at out 0 (to_le 4 n) → at ≡ put_end out 0 (to_le 4 n) → Put o₁ at (bytes_of l) o₂ a → o₂ ≡ with_list l out
+    → o₁ ≡ put_at out 0 (to_le 4 n) → at ≡ put_end out 0 (to_le 4 n) → Put o₁ at (points_bytes l) o₂ a → o₂ ≡ with_list l out
 unfolding with_list point_list
 list_written l out {o₁} {o₂} {n} {at} {a} en room e f p =
     let q = then (did (to_le 4 n) e f (omega (arith, length-to_le 4 n))) p in
-    let r : Put out 0 (to_le 4 (length l) ++ bytes_of l) o₂ a = rw en at q in
-    r.bytes ∙ splice_zero out (to_le 4 (length l) ++ bytes_of l)
+    let r : Put out 0 (to_le 4 (length l) ++ points_bytes l) o₂ a = rw en at q in
+    r.bytes ∙ splice_zero out (to_le 4 (length l) ++ points_bytes l)
 
 pub list_put : (l : List OutPoint) (out : List ℕ) {o₁ o₂ : List ℕ} {n at a : ℕ} → n ≡ length l → 4 + 36 * n ≤ length out
-    → o₁ ≡ put_at out 0 (to_le 4 n) → at ≡ put_end out 0 (to_le 4 n) → Put o₁ at (bytes_of l) o₂ a → o₂ ≡ with_list l out
+    → o₁ ≡ put_at out 0 (to_le 4 n) → at ≡ put_end out 0 (to_le 4 n) → Put o₁ at (points_bytes l) o₂ a → o₂ ≡ with_list l out
 list_put l out en room e f p = list_written l out en (omega arith) e f p
 
 -- there is room for the points behind the count
@@ -130,7 +130,7 @@ module _ {h : Held} {from n i : ℕ} {out₀ : List ℕ} {at₀ : ℕ} {out : Li
         fit = λ r. k.fit (subst (λ (y : List Hold). All Fit (cells_of y)) (sym x) (q, r));
       }
 
-  pub cells-end : n ≤ i → Put out₀ at₀ (bytes_of (cells_of (drop from (records_of h)))) out at
+  pub cells-end : n ≤ i → Put out₀ at₀ (points_bytes (cells_of (drop from (records_of h)))) out at
   cells-end l =
       let c = k.counted in
       let x : drop i (records_of h) ≡ [] = drop-none h i k.whole (omega arith) in
@@ -164,11 +164,11 @@ module _ (h : Held) (from : ℕ) (out : List ℕ) {u n : ℕ} (eu : u ≡ min h.
       pub cells-room : at + 36 * (min h.count 256 - from) ≤ length o
       cells-room = let b = behind-count out n (36 * n) (omega arith) e f in omega arith
 
-      pub cells-written : {o₂ : List ℕ} {a : ℕ} → Put o at (bytes_of (cells_of (drop from (records_of h)))) o₂ a → o₂ ≡ put_if (cells_of (drop from (records_of h))) out
+      pub cells-written : {o₂ : List ℕ} {a : ℕ} → Put o at (points_bytes (cells_of (drop from (records_of h)))) o₂ a → o₂ ≡ put_if (cells_of (drop from (records_of h))) out
       cells-written p =
           list_put (cells_of (drop from (records_of h))) out counted-cells (omega arith) e f p ∙ sym (put_yes (cells_of (drop from (records_of h))) out cells_fit)
 
-      pub cells_listed : {o₂ : List ℕ} {a : ℕ} → Put o at (bytes_of (cells_of (drop from (records_of h)))) o₂ a → All Fit (cells_of (drop from (records_of h)))
+      pub cells_listed : {o₂ : List ℕ} {a : ℕ} → Put o at (points_bytes (cells_of (drop from (records_of h)))) o₂ a → All Fit (cells_of (drop from (records_of h)))
           → (true ≡ true → points o₂ ≡ cells_of (drop from (records_of h)))
       unfolding with_list
       cells_listed p fits _ =

@@ -1,5 +1,5 @@
--- Holds on cells (docs/RULES.md, "Holds and exclusions"): a table means the list of its records, and each call is a definition on such lists: what it leaves, or
--- its refusal. A refused call leaves the table and the lent buffers as they were.
+-- Holds on cells (docs/RULES.md, "Holds and exclusions"): a table means the list of its records, and each call is a definition on such lists: what it leaves,
+-- or its refusal. A refused call leaves the table and the lent buffers as they were.
 use Rattle.std.specs.Prelude.{ℕ, ◌+◌, Bool, true, false, not, cond, List, [], ◌∷◌, ◌++◌, map, Result}
 use Rattle.std.specs.List.{filter}
 use lib.{Dec.leb, Dec.eqb, ListN.length, ListN.take, ListN.replicate}

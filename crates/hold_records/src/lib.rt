@@ -4,7 +4,7 @@
 ghost use Rattle.std.specs.Prelude.{◌≡◌, true, false, [], ◌+◌, ◌-◌, ◌*◌, ◌≤◌, min, length, drop};
 ghost use Rattle.molecule.specs.Partial.{All};
 ghost use Rattle.molecule.specs.Write.{Put};
-ghost use Rattle.out_points.specs.OutPoints.{Fit, points, bytes_of};
+ghost use Rattle.out_points.specs.OutPoints.{Fit, points, points_bytes};
 ghost use Rattle.std.specs.List.{filter};
 ghost use Rattle.out_points.specs.Tables.{has_room};
 ghost use Rattle.hold_records.specs.Inner.{is_kept, put_if};
@@ -139,7 +139,7 @@ fn cell_of(r: Hold) -> OutPoint
 // of their own: one loop for all would be a public function over a closure that gives the points, and such a one needs a `requires`.
 fn put_points(h: Held, from: usize, out: &mut [u8], at: usize) -> usize
     requires { at + 36 * (min h.count 256 - from) ≤ length out.old }
-    ensures put { Put out.old at (bytes_of (cells_of (drop from (records_of h)))) out.new result }
+    ensures put { Put out.old at (points_bytes (cells_of (drop from (records_of h)))) out.new result }
     ensures all { All Fit (cells_of (drop from (records_of h))) }
 {
     let n = used(h.count);

@@ -14,7 +14,6 @@ use Rattle.molecule.proofs.HeaderLaws.{fixvec-readable}
 use Rattle.transaction.specs.Ckb.{OutPoint as OutPointForm, OutPoints}
 use Rattle.out_points.specs.declared.{OutPoint.OutPoint}
 use Rattle.out_points.specs.OutPoints.{Fit, points, point_list}
-use Rattle.std.specs.List.{filter}
 use Rattle.error.specs.Outcome.{Outcome, fine, refused, check, check_with, ◌>>=◌, ◌>>◌}
 use Rattle.out_points.specs.Tables.{has_room, with_list}
 use Rattle.out_points.proofs.ListLaws.{length-points, length_list}

@@ -12,7 +12,7 @@ use Rattle.lists.proofs.RunLaws.{item_run, next_run}
 use Rattle.molecule.specs.Partial.{All}
 use Rattle.transaction.specs.Ckb.{OutPoints as OutPointsForm}
 use Rattle.out_points.specs.declared.{OutPoint.OutPoint}
-use Rattle.out_points.specs.OutPoints.{byte32_at, out_point_at, point_of, points, hash_bytes, point_bytes, bytes_of, point_list, Fit}
+use Rattle.out_points.specs.OutPoints.{byte32_at, out_point_at, point_of, points, hash_bytes, point_bytes, points_bytes, point_list, Fit}
 use Rattle.out_points.specs.Tables.{with_list}
 use Rattle.out_points.proofs.PointLaws.{length-point}
 use Rattle.out_points.proofs.ListLaws.{length-points, length_list, readable-length}
@@ -40,8 +40,8 @@ point_again s b h =
     (take-add 16 8 s ∙ ap (λ (x : List ℕ). x ++ take 8 (drop 16 s)) (take-add 8 8 s)))))
 
 -- k of the out points from i on
-pub bytes_again : (s : List ℕ) (i k : ℕ) → AllBytes s → i + k ≤ fix_count s → 4 + 36 * fix_count s ≤ length s → bytes_of (span (point_of s) i k) ≡ take (36 * k) (drop (4 + 36 * i) s)
-unfolding bytes_of span point_of
+pub bytes_again : (s : List ℕ) (i k : ℕ) → AllBytes s → i + k ≤ fix_count s → 4 + 36 * fix_count s ≤ length s → points_bytes (span (point_of s) i k) ≡ take (36 * k) (drop (4 + 36 * i) s)
+unfolding points_bytes span point_of
 bytes_again s i zero b h l = refl
 bytes_again s i (suc k) b h l =
     let e : fix_item s 36 i ≡ take 36 (drop (4 + 36 * i) s) = item_run s 36 i (omega (arith, fix_count_said s)) in
@@ -107,12 +107,12 @@ items_back Fits read bytes w long back s z i (x ∷ l) n e f =
     let next : drop (4 + w * suc i) s ≡ flatten (map bytes l) ++ z = sym (next_run s w i) ∙ ap (drop w) g ∙ behind (bytes x) (flatten (map bytes l) ++ z) w (long x) in
     ap₂ (λ y ys. y ∷ ys) (ap read item ∙ back x f.0) (items_back Fits read bytes w long back s z (suc i) l (omega arith) next f.1)
 
-bytes_flat : (l : List OutPoint) → bytes_of l ≡ flatten (map point_bytes l)
-unfolding bytes_of flatten
+bytes_flat : (l : List OutPoint) → points_bytes l ≡ flatten (map point_bytes l)
+unfolding points_bytes flatten
 bytes_flat [] = refl
 bytes_flat (p ∷ l) = ap (λ (x : List ℕ). point_bytes p ++ x) (bytes_flat l)
 
-points-back : (s z : List ℕ) (i : ℕ) (l : List OutPoint) → i + length l ≤ word s 0 → drop (4 + 36 * i) s ≡ bytes_of l ++ z → All Fit l → span (point_of s) i (length l) ≡ l
+points-back : (s z : List ℕ) (i : ℕ) (l : List OutPoint) → i + length l ≤ word s 0 → drop (4 + 36 * i) s ≡ points_bytes l ++ z → All Fit l → span (point_of s) i (length l) ≡ l
 unfolding point_of
 points-back s z i l n e f =
     items_back Fit (λ x. out_point_at x 0) point_bytes 36 length-point (λ p g. ap (λ (x : List ℕ). out_point_at x 0) (sym (append-nil (point_bytes p))) ∙ point-back p [] g)
@@ -122,12 +122,12 @@ points-back s z i l n e f =
 pub list_before : (l : List OutPoint) (z : List ℕ) → length l < 2 ^ 32 → All Fit l → points (point_list l ++ z) ≡ l
 unfolding point_list word
 list_before l z h f =
-    let s : List ℕ = to_le 4 (length l) ++ bytes_of l ++ z in
-    let g : s ≡ to_le 4 (length l) ++ (bytes_of l ++ z) = append_assoc (to_le 4 (length l)) (bytes_of l) z in
-    let w : word s 0 ≡ length l = ap (λ (x : List ℕ). word x 0) g ∙ word_back 4 (length l) [] (bytes_of l ++ z) 0 refl h in
+    let s : List ℕ = to_le 4 (length l) ++ points_bytes l ++ z in
+    let g : s ≡ to_le 4 (length l) ++ (points_bytes l ++ z) = append_assoc (to_le 4 (length l)) (points_bytes l) z in
+    let w : word s 0 ≡ length l = ap (λ (x : List ℕ). word x 0) g ∙ word_back 4 (length l) [] (points_bytes l ++ z) 0 refl h in
     let m : length s ≡ 4 + 36 * length l + length z = length-append (point_list l) z ∙ ap (λ (n : ℕ). n + length z) (length_list l) in
     ap (span (point_of s) 0) (fix_count-word s (omega arith) ∙ w)
-    ∙ points-back s z 0 l (omega arith) (ap (drop 4) g ∙ behind (to_le 4 (length l)) (bytes_of l ++ z) 4 (length-to_le 4 (length l))) f
+    ∙ points-back s z 0 l (omega arith) (ap (drop 4) g ∙ behind (to_le 4 (length l)) (points_bytes l ++ z) 4 (length-to_le 4 (length l))) f
 
 pub list_back : (l : List OutPoint) → length l < 2 ^ 32 → All Fit l → points (point_list l) ≡ l
 list_back l h f = ap points (sym (append-nil (point_list l))) ∙ list_before l [] h f

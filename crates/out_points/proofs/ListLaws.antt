@@ -9,15 +9,15 @@ use Rattle.molecule.proofs.Valid.{fixed}
 use Rattle.molecule.proofs.HeaderLaws.{fixvec-readable}
 use Rattle.transaction.specs.Ckb.{OutPoints as OutPointsForm, OutPoint as OutPointForm}
 use Rattle.out_points.specs.declared.{OutPoint.OutPoint}
-use Rattle.out_points.specs.OutPoints.{point_of, points, bytes_of, point_list}
+use Rattle.out_points.specs.OutPoints.{point_of, points, points_bytes, point_list}
 use Rattle.out_points.proofs.PointLaws.{length-point}
 use Rattle.out_points.proofs.EqualLaws.{and_both}
 
 pub length-points : (s : List ℕ) → length (points s) ≡ fix_count s
 length-points s = span-length (point_of s) 0 (fix_count s)
 
-pub length-bytes : (l : List OutPoint) → length (bytes_of l) ≡ 36 * length l
-unfolding bytes_of
+pub length-bytes : (l : List OutPoint) → length (points_bytes l) ≡ 36 * length l
+unfolding points_bytes
 length-bytes [] = refl
 length-bytes (p ∷ l) = simp length-append (omega (arith, length-point p, length-bytes l))
 

@@ -56,10 +56,10 @@ hash_bytes h = to_le 8 h.a ++ to_le 8 h.b ++ to_le 8 h.c ++ to_le 8 h.d
 unfoldable pub point_bytes : OutPoint → List ℕ
 point_bytes p = hash_bytes p.hash ++ to_le 4 p.index
 
-unfoldable pub bytes_of : List OutPoint → List ℕ
-bytes_of [] = []
-bytes_of (p ∷ l) = point_bytes p ++ bytes_of l
+unfoldable pub points_bytes : List OutPoint → List ℕ
+points_bytes [] = []
+points_bytes (p ∷ l) = point_bytes p ++ points_bytes l
 
 -- a list: its count in four bytes, then its out points
 unfoldable pub point_list : List OutPoint → List ℕ
-point_list l = to_le 4 (length l) ++ bytes_of l
+point_list l = to_le 4 (length l) ++ points_bytes l

@@ -15,7 +15,7 @@ use Rattle.hold_records.specs.declared.{Owner.Owner, Hold.Hold, Held.Held}
 use Rattle.hold_records.specs.Holds.{records_of, held_by}
 use Rattle.hold_records.proofs.ListLaws.{take_put}
 use Rattle.hold_records.proofs.LoopLaws.{trim_is}
-use Rattle.unavailable_picks.specs.Unavailable.{select}
+use Rattle.unavailable_picks.specs.Inner.{select}
 use Rattle.unavailable_picks.proofs.PickLaws.{select_yes, select_no, select-end, select-whole, Naming, name-start, name_yes, name_no}
 use Rattle.pick_kinds.specs.declared.{Kind.Kind}
 use Rattle.pick_kinds.specs.contracts.Kind.{the_type}

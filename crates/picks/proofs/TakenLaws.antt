@@ -24,7 +24,7 @@ use Rattle.hold_records.proofs.LoopLaws.{stands}
 use Rattle.hold_records.proofs.WriteLaws.{room_yes, put_yes}
 use Rattle.pick_kinds.specs.declared.{Kind.Kind}
 use Rattle.pick_kinds.specs.Kinds.{is_among, kind_of, Kinds}
-use Rattle.unavailable_picks.specs.Unavailable.{is_first, select}
+use Rattle.unavailable_picks.specs.Inner.{is_first, select}
 use Rattle.unavailable_picks.proofs.FirstLaws.{is_other, firsts-select, others-select}
 use Rattle.picks.specs.Inner.{is_free_kind, is_free, is_left, free_of, left_of, Tallied}
 

@@ -7,7 +7,7 @@ use Rattle.hold_records.specs.declared.{Owner.Owner, Hold.Hold, Held.Held}
 use Rattle.error.specs.Outcome.{Outcome}
 use Rattle.hold_records.specs.Holds.{records_of, held_by, take_these, after_take}
 use Rattle.pick_kinds.specs.declared.{Kind.Kind}
-use Rattle.unavailable_picks.specs.Unavailable.{select}
+use Rattle.unavailable_picks.specs.Inner.{select}
 
 -- pick i is to be taken: its kind (`kind_of`, crate pick_kinds) is that of a free one, the first on its cell
 unfoldable pub is_free_kind : Kind → Bool
@@ -35,6 +35,6 @@ pub record Tallied (owner : Owner) (l : List OutPoint) (h g : Held) (count : ℕ
   pub stands : min h.count 256 + count ≤ 256 → g.count ≡ min h.count 256 + count
   pub added : min h.count 256 + count ≤ 256 → records_of g ≡ records_of h ++ map (held_by owner) l
 
--- `take` of picks of known kinds, from the records left
-abbrev pub after_kinds : List Hold → List ℕ → List Kind → Owner → List ℕ → List ℕ → Outcome (List Hold) × List ℕ × List ℕ
-after_kinds left picked kinds owner out₁ out₂ = after_take (take_these left (free_of picked kinds) (left_of picked kinds) owner) out₁ out₂
+-- `take` of picks that are split by their kinds, from the records left
+abbrev pub split : List Hold → List ℕ → List Kind → Owner → List ℕ → List ℕ → Outcome (List Hold) × List ℕ × List ℕ
+split left picked kinds owner out₁ out₂ = after_take (take_these left (free_of picked kinds) (left_of picked kinds) owner) out₁ out₂

@@ -4,12 +4,12 @@
 ghost use Rattle.std.specs.Prelude.{◌≡◌, ◌&&◌, ◌+◌, ◌*◌, ◌≤◌, ◌<◌, min, nat_le, length, drop, IfOk};
 ghost use Rattle.molecule.specs.Layout.{fix_count};
 ghost use Rattle.molecule.specs.Write.{Put};
-ghost use Rattle.out_points.specs.OutPoints.{points, bytes_of};
+ghost use Rattle.out_points.specs.OutPoints.{points, points_bytes};
 ghost use Rattle.out_points.specs.Tables.{with_list};
 ghost use Rattle.hold_records.specs.declared.{Held.Held};
 ghost use Rattle.hold_records.specs.Holds.{records_of, told, cells_of, take_free, after_take};
 ghost use Rattle.hold_records.specs.Inner.{put_if};
-ghost use Rattle.picks.specs.Inner.{is_free, free_of, left_of, Tallied, after_kinds};
+ghost use Rattle.picks.specs.Inner.{is_free, free_of, left_of, Tallied, split};
 
 use error::Refusal;
 use hold_records::{Held, Hold, MOST_RECORDS, Owner};
@@ -77,7 +77,7 @@ impl<'a> Sorted<'a> {
     // Puts the picks that are not taken, one after the other from `at` on. By a loop of its own: see `put_points` of crate hold_records.
     fn put_refused(self, out: &mut [u8], at: usize) -> usize
         requires { at + 36 * length (left_of self.picked.now self.kinds.now) ≤ length out.old }
-        ensures { Put out.old at (bytes_of (left_of self.entry.picked.now self.entry.kinds.now)) out.new result }
+        ensures { Put out.old at (points_bytes (left_of self.entry.picked.now self.entry.kinds.now)) out.new result }
     {
         let n = molecule::fix_count(self.picked) as usize;
         let mut to = at;
@@ -120,7 +120,7 @@ impl<'a> Sorted<'a> {
         taken: &mut [u8],
         refused: &mut [u8],
     ) -> Result<Held, Refusal>
-        ensures after { (told result, taken.new, refused.new) ≡ after_kinds (records_of live) self.entry.picked.now self.entry.kinds.now owner taken.old refused.old }
+        ensures after { (told result, taken.new, refused.new) ≡ split (records_of live) self.entry.picked.now self.entry.kinds.now owner taken.old refused.old }
         ensures count_bound { IfOk result (λ g. g.count ≤ 256) }
     {
         let t = self.tally(live, owner);

@@ -1,7 +1,7 @@
 -- What a call on a lent table leaves: one law for each way out that all calls share.
-use mathlib.Core.Path.{◌≡◌, refl, sym, ap, ◌∙◌, subst}
+use mathlib.Core.Path.{◌≡◌}
 use Prim.Native.Nat.{ℕ}
-use mathlib.Core.Bool.{Bool, true, false}
+use mathlib.Core.Bool.{true, false}
 use mathlib.Core.List.{List, []}
 use borrow.Author.Tests.{eq-eqb, ne_eqb}
 use lib.Dec.{eqb}
@@ -10,7 +10,6 @@ use Rattle.std.proofs.Common.{Ok, Err, Result}
 use Rattle.error.specs.declared.{Refusal.Refusal}
 use Rattle.error.specs.Refusal.{number, values, answered}
 use Rattle.error.specs.Outcome.{Outcome, fine, refused, check, check_with, number_of, ◌>>◌, refusal}
-use Rattle.molecule.specs.Write.{put_at}
 use Rattle.table_bytes.specs.Lent.{Table, in_bytes, on_table, Leaves}
 
 module _ {T M A : Type 0} (F : Table T M) (s : T) (o : Outcome A) where

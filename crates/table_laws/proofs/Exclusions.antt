@@ -15,7 +15,7 @@ use Rattle.transaction.specs.Ckb.{Transaction}
 use Rattle.out_points.specs.declared.{Byte32.Byte32, OutPoint.OutPoint}
 use Rattle.out_points.specs.OutPoints.{Fit, byte32_at, eq_point, has, points}
 use Rattle.error.specs.declared.{Refusal.Refusal}
-use Rattle.error.specs.Refusal.{number, answered}
+use Rattle.error.specs.Refusal.{answered}
 use Rattle.std.specs.List.{filter}
 use Rattle.error.specs.Outcome.{Outcome, fine, refused, check, check_with, number_of, leaves, ◌>>◌}
 use Rattle.out_points.specs.Tables.{renew, has_room, with_list, writes}
@@ -26,9 +26,11 @@ use Rattle.exclusion_entries.specs.Exclusions.{MapEntry, has_hash, committed_at,
 use Rattle.exclusion_entries.specs.Entries.{map_bytes, FitEntry, excluded_at, is_map}
 use Rattle.exclusion_entries.proofs.MapLaws.{map-few, map-count, map-points, map-fits, put_is, zeros_are}
 use Rattle.exclusion_entries.specs.Calls.{map_table, with_tx, Applies}
-use Rattle.table_laws.proofs.Outcomes.{Fine, checked, refused-fine, tabled, done-is, table-left, moved, left-done, left-refused}
+use Rattle.table_laws.proofs.Outcomes.{Fine, checked, refused-fine, table-left, moved, left-done, left-refused}
 use Rattle.table_laws.specs.Exclusions as run
-use Rattle.table_laws.specs.Exclusions.{Called, answer_of, StaysMap, StaysWithin, ZerosWithin, RefusedSame, OthersSame, Stands, here, there, replaces, ends, is_done, outlives, StaysEntered, StaysExcluded, AddEnters, MigrateEnters, CommitMarks}
+use Rattle.table_laws.specs.Exclusions.{Called, answer_of, StaysMap, StaysWithin, ZerosWithin, RefusedSame, OthersSame, replaces, ends, is_done, outlives, StaysEntered, StaysExcluded, AddEnters, MigrateEnters, CommitMarks}
+use Rattle.table_laws.specs.Stands.{Stands, here, there}
+use Rattle.table_laws.proofs.Standing.{stands-filter, stands-renew, stands_new}
 use Rattle.std.specs.Prelude.{Ok, Err}
 use Rattle.table_laws.specs.Answers.{Answer}
 
@@ -206,32 +208,6 @@ others_same s t g (run.next r c) = let e = others_same s _ g r in other_left c (
 
 -- ---- an entry stands until a call ends it
 
-stands-keep : (x : MapEntry) (f : MapEntry → Bool) (l : List MapEntry) → f x ≡ true → Stands x l → Stands x (filter f l)
-stands-keep x f l h (here k) = rw h (here (filter f k))
-stands-keep x f l h (there y k s) = by (f y) (stands-keep x f k h s)
-  where
-    by : (b : Bool) → Stands x (filter f k) → Stands x (cond b (y ∷ filter f k) (filter f k))
-    by true s = there y (filter f k) s
-    by false s = s
-
-stands-renew : (x : MapEntry) (f : MapEntry → Bool) (e : MapEntry) (l : List MapEntry) → f x ≡ false → Stands x l → Stands x (renew f e l)
-unfolding renew
-stands-renew x f e l h (here k) = rw h (here (renew f e k))
-stands-renew x f e l h (there y k s) = by (f y) (stands-renew x f e k h s)
-  where
-    by : (b : Bool) → Stands x (renew f e k) → Stands x (cond b (e ∷ k) (y ∷ renew f e k))
-    by true n = there e k s
-    by false n = there y (renew f e k) n
-
-stands_new : (f : MapEntry → Bool) (e : MapEntry) (l : List MapEntry) → Stands e (renew f e l)
-unfolding renew
-stands_new f e [] = here []
-stands_new f e (y ∷ l) = by (f y) (stands_new f e l)
-  where
-    by : (b : Bool) → Stands e (renew f e l) → Stands e (cond b (e ∷ l) (y ∷ renew f e l))
-    by true s = here l
-    by false s = there y (renew f e l) s
-
 stands-marked : (x : MapEntry) (g : MapEntry → MapEntry) (l : List MapEntry) → Stands x l → Stands (g x) (map g l)
 stands-marked x g l (here k) = here (map g k)
 stands-marked x g l (there y k s) = there (g y) (map g k) (stands-marked x g k s)
@@ -257,15 +233,15 @@ stands_step x {s} (run.commit r hash block e) h i =
     no_hash (Stands x) hash (fine (map g (excluded_at s)))
     (subst (λ (y : MapEntry). Stands y (map g (excluded_at s))) (unmarked (byte32_at hash 0) block x h) (stands-marked x g (excluded_at s) i))
 stands_step x {s} (run.remove r hash e) h i =
-    no_hash (Stands x) hash (fine (without (byte32_at hash 0) (excluded_at s))) (stands-keep x (λ (y : MapEntry). not (has_hash (byte32_at hash 0) y)) (excluded_at s) (rw h) i)
-stands_step x {s} (run.truncate r tip e) h i = stands-keep x (λ (y : MapEntry). is_recent tip y.committed) (excluded_at s) (not-false (is_recent tip x.committed) h) i
+    no_hash (Stands x) hash (fine (without (byte32_at hash 0) (excluded_at s))) (stands-filter x (λ (y : MapEntry). not (has_hash (byte32_at hash 0) y)) (excluded_at s) (rw h) i)
+stands_step x {s} (run.truncate r tip e) h i = stands-filter x (λ (y : MapEntry). is_recent tip y.committed) (excluded_at s) (not-false (is_recent tip x.committed) h) i
 stands_step x {s} (run.migrate r old new tx e) h i =
     no_hash (Stands x) old _ (no_hash (Stands x) new _ (by (entered (byte32_at old 0) (excluded_at s)) (has_hash (byte32_at old 0) x) refl h))
   where
     by : (b d : Bool) → has_hash (byte32_at old 0) x ≡ d → cond b (cond d true (replaces new tx x)) false ≡ false
         → Fine (Stands x) (cond b (entering (filter (λ e. not (has_hash (byte32_at old 0) e)) (excluded_at s)) (byte32_at new 0) tx) (fine (excluded_at s)))
     by true true g k = absurd (false≢true (sym k))
-    by true false g k = stands_enters x (filter (λ e. not (has_hash (byte32_at old 0) e)) (excluded_at s)) new tx k (stands-keep x (λ (y : MapEntry). not (has_hash (byte32_at old 0) y)) (excluded_at s) (rw g) i)
+    by true false g k = stands_enters x (filter (λ e. not (has_hash (byte32_at old 0) e)) (excluded_at s)) new tx k (stands-filter x (λ (y : MapEntry). not (has_hash (byte32_at old 0) y)) (excluded_at s) (rw g) i)
     by false d g k = i
 
 stands-call : (x : MapEntry) {s t : List ℕ} (c : Called s t) → outlives x c ≡ true → Stands x (excluded_at s) → Stands x (excluded_at t)

@@ -13,15 +13,17 @@ use Rattle.std.specs.List.{filter}
 use Rattle.out_points.proofs.EqualLaws.{point-same, point_refl}
 use Rattle.out_points.proofs.ListLaws.{length-points}
 use Rattle.out_points.proofs.AgainLaws.{written_back, points-fit, count_fits}
-use Rattle.hold_records.specs.declared.{Owner.Owner, Hold.Hold, Held.Held, Taker.Taker}
-use Rattle.hold_records.specs.Holds.{records_of, cells_of, is_not_of, is_live, is_busy, is_new, firsts, others, owner_for}
+use Rattle.hold_records.specs.declared.{Owner.Owner, Hold.Hold, Taker.Taker}
+use Rattle.hold_records.specs.Holds.{cells_of, is_not_of, is_live, is_busy, is_new, firsts, others, owner_for}
 use Rattle.table_laws.specs.Holds as run
 use Rattle.table_bytes.specs.Lent.{Table}
-use Rattle.table_laws.specs.Holds.{by_value, Stands, Took, Locked, InRange, HeldRefused, HeldStands, LockedRefused, NotGiven, StaysHeld, HeldOnce}
+use Rattle.table_laws.specs.Holds.{by_value, Took, Locked, InRange, HeldRefused, HeldStands, LockedRefused, NotGiven, StaysHeld, HeldOnce}
+use Rattle.table_laws.specs.Stands.{Stands}
+use Rattle.table_laws.proofs.Standing.{stands-filter}
 use Rattle.table_laws.proofs.Outcomes.{left-done}
 use Rattle.table_laws.proofs.Calls.{unended, hold-fine, watch-fine, is_free, given, kept, locked-done, take_done}
 use Rattle.table_laws.proofs.Holds.{busy_not_given}
-use Rattle.table_laws.proofs.Stands.{stands-keep, stands-has, taken-stands, named-stands, still}
+use Rattle.table_laws.proofs.Stands.{stands-has, taken-stands, named-stands, still}
 
 -- ---- parts of lists whose numbers fit: they are no longer, and theirs fit too
 
@@ -125,7 +127,7 @@ others-has f p before (q ∷ l) e = by (f q) (not (has q before)) (eq_point p q)
 
 live_busy : (h : List Hold) (now : Millis) (spent : List OutPoint) (x : Hold) → Stands x h → is_live now x ≡ true → is_busy (unended h now) spent x.point ≡ true
 unfolding is_busy
-live_busy h now spent x s l = rw (stands-has x (unended h now) (stands-keep x (is_live now) h l s))
+live_busy h now spent x s l = rw (stands-has x (unended h now) (stands-filter x (is_live now) h l s))
 
 -- of one pick, and nothing spent
 one-pick : (left : List Hold) (p : OutPoint)

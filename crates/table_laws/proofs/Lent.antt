@@ -1,14 +1,12 @@
 -- The laws of lists of calls on a table of holds, for successive lent bytes.
-use mathlib.Core.Path.{◌≡◌, sym, ap}
 use Prim.Native.Nat.{ℕ, zero, suc}
 use native.Mathlib.Omega.{arith}
 use mathlib.Core.List.{List, [], ◌∷◌, map}
-use lib.ListN.{length, take, replicate, length-take, length-map}
+use lib.ListN.{take, replicate, length-take, length-map}
 use Rattle.arithmetic.specs.LittleEndian.{AllBytes}
 use Rattle.molecule.specs.{Layout.word, Partial.All}
 use Rattle.molecule.proofs.Offsets.{span-length}
 use Rattle.out_points.specs.OutPoints.{Fit}
-use Rattle.hold_records.specs.declared.{Hold.Hold}
 use Rattle.hold_records.specs.Holds.{records_of, cells_of}
 use Rattle.table_bytes.specs.declared.{Place.Place}
 use Rattle.table_bytes.specs.Places.{FitPlace, place_of, places}

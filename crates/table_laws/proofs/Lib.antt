@@ -5,4 +5,5 @@ pub mod Holds
 pub mod Lent
 pub mod OneEntry
 pub mod Outcomes
+pub mod Standing
 pub mod Stands

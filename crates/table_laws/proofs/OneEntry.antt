@@ -6,12 +6,12 @@ use mathlib.Core.Bool.{Bool, true, false, cond, not}
 use mathlib.Core.Option.{some}
 use native.Mathlib.Omega.{arith}
 use lib.Dec.{eqb}
-use lib.ListN.{length, replicate}
+use lib.ListN.{replicate}
 use Rattle.units.specs.declared.BlockNumber.{BlockNumber}
 use Rattle.out_points.specs.declared.{Byte32.Byte32}
 use Rattle.out_points.specs.OutPoints.{eq_hash, eq_point, byte32_at}
 use Rattle.std.specs.List.{filter}
-use Rattle.error.specs.Outcome.{Outcome, fine}
+use Rattle.error.specs.Outcome.{fine}
 use Rattle.out_points.specs.Tables.{renew}
 use Rattle.out_points.proofs.EqualLaws.{and_both, hash-same, point_refl}
 use Rattle.exclusion_entries.specs.Exclusions.{MapEntry, has_hash, committed_at, commit_on, without, remove_on, is_recent, truncated, truncate_on, pending, entering, add_on, entered, migrate_on}

@@ -21,7 +21,9 @@ use Rattle.table_laws.specs.Holds as run
 use Rattle.table_bytes.specs.Lent.{Table, Leaves}
 use Rattle.error.specs.Outcome.{Outcome}
 use Rattle.error.specs.Refusal.{answered}
-use Rattle.table_laws.specs.Holds.{Called, Stands, here, there, kept_if, if_done, after, Followed}
+use Rattle.table_laws.specs.Holds.{Called, kept_if, if_done, after, Followed}
+use Rattle.table_laws.specs.Stands.{Stands, here, there}
+use Rattle.table_laws.proofs.Standing.{stands-filter, stands-renew, stands_new}
 use Rattle.table_laws.proofs.Outcomes.{Fine, left-done, left-refused}
 use Rattle.table_laws.proofs.Calls.{unended, hold-fine, watch-fine, release-fine, locked-fine, take-fine}
 use Rattle.std.specs.Prelude.{Ok, Err}
@@ -29,26 +31,9 @@ use Rattle.table_laws.specs.Answers.{Answer}
 
 -- ---- which list operations it outlives
 
-pub stands-keep : (r : Hold) (f : Hold → Bool) (l : List Hold) → f r ≡ true → Stands r l → Stands r (filter f l)
-stands-keep r f l h (here k) = rw h (here (filter f k))
-stands-keep r f l h (there x k s) = by (f x) (stands-keep r f k h s)
-  where
-    by : (b : Bool) → Stands r (filter f k) → Stands r (cond b (x ∷ filter f k) (filter f k))
-    by true s = there x (filter f k) s
-    by false s = s
-
 stands-append : (r : Hold) (l m : List Hold) → Stands r l → Stands r (l ++ m)
 stands-append r l m (here k) = here (k ++ m)
 stands-append r l m (there x k s) = there x (k ++ m) (stands-append r k m s)
-
-stands-renew : (t : Millis) (r : Hold) (l : List Hold) (q : OutPoint) → is_tower_on q r ≡ false → Stands r l → Stands r (renew (is_tower_on q) (tower t q) l)
-unfolding renew
-stands-renew t r l q h (here k) = rw h (here (renew (is_tower_on q) (tower t q) k))
-stands-renew t r l q h (there x k s) = by (is_tower_on q x) (stands-renew t r k q h s)
-  where
-    by : (b : Bool) → Stands r (renew (is_tower_on q) (tower t q) k) → Stands r (cond b (tower t q ∷ k) (x ∷ renew (is_tower_on q) (tower t q) k))
-    by true n = there (tower t q) k s
-    by false n = there x (renew (is_tower_on q) (tower t q) k) n
 
 -- a record on none of the cells is not on the first of them, nor on one of the others
 unnamed_next : (r : Hold) (q : OutPoint) (ps : List OutPoint) → is_unnamed (q ∷ ps) r ≡ true → (is_tower_on q r ≡ false) × (is_unnamed ps r ≡ true)
@@ -68,18 +53,12 @@ unnamed_next r q ps h = by r.owner h
 stands_renewed : (t : Millis) (r : Hold) (ps : List OutPoint) (l : List Hold) → is_unnamed ps r ≡ true → Stands r l → Stands r (renew_all t l ps)
 unfolding renew_all
 stands_renewed t r [] l h s = s
-stands_renewed t r (q ∷ ps) l h s = let (a, b) = unnamed_next r q ps h in stands_renewed t r ps (renew (is_tower_on q) (tower t q) l) b (stands-renew t r l q a s)
+stands_renewed t r (q ∷ ps) l h s = let (a, b) = unnamed_next r q ps h in stands_renewed t r ps (renew (is_tower_on q) (tower t q) l) b (stands-renew r (is_tower_on q) (tower t q) l a s)
 
 -- a record that is renewed, or new, stands; and stays when it is renewed again with the same end
 
 renewed_here : (t : Millis) (p : OutPoint) (l : List Hold) → Stands (tower t p) (renew (is_tower_on p) (tower t p) l)
-unfolding renew
-renewed_here t p [] = here []
-renewed_here t p (x ∷ l) = by (is_tower_on p x) (renewed_here t p l)
-  where
-    by : (b : Bool) → Stands (tower t p) (renew (is_tower_on p) (tower t p) l) → Stands (tower t p) (cond b (tower t p ∷ l) (x ∷ renew (is_tower_on p) (tower t p) l))
-    by true s = here l
-    by false s = there x (renew (is_tower_on p) (tower t p) l) s
+renewed_here t p l = stands_new (is_tower_on p) (tower t p) l
 
 renewed_stays : (t : Millis) (p q : OutPoint) (l : List Hold) → Stands (tower t p) l → Stands (tower t p) (renew (is_tower_on q) (tower t q) l)
 unfolding is_tower_on by_owner
@@ -87,7 +66,7 @@ renewed_stays t p q l s = by (eq_point q p) refl
   where
     by : (b : Bool) → eq_point q p ≡ b → Stands (tower t p) (renew (is_tower_on q) (tower t q) l)
     by true e = subst (λ (o : OutPoint). Stands (tower t p) (renew (is_tower_on o) (tower t o) l)) (sym (point-same q p e)) (renewed_here t p l)
-    by false e = stands-renew t (tower t p) l q e s
+    by false e = stands-renew (tower t p) (is_tower_on q) (tower t q) l e s
 
 all_stays : (t : Millis) (p : OutPoint) (ps : List OutPoint) (l : List Hold) → Stands (tower t p) l → Stands (tower t p) (renew_all t l ps)
 unfolding renew_all
@@ -184,7 +163,7 @@ module _ {T : Type 0} {F : Table T (List Hold)} where
         where
           either : (b : Bool) → is_not_of holder x ≡ b → cond b true (has x.point (points cells)) ≡ true
               → Stands x (filter (is_not_of holder) (F.means s) ++ map (held_by (Owner.Funding holder)) (points cells))
-          either true k h = stands-append x (filter (is_not_of holder) (F.means s)) _ (stands-keep x (is_not_of holder) (F.means s) k q)
+          either true k h = stands-append x (filter (is_not_of holder) (F.means s)) _ (stands-filter x (is_not_of holder) (F.means s) k q)
           either false k h =
               subst (λ (y : Hold). Stands y (filter (is_not_of holder) (F.means s) ++ map (held_by (Owner.Funding holder)) (points cells))) (is-of x holder k)
               (taken-stands (Owner.Funding holder) x.point (filter (is_not_of holder) (F.means s)) (points cells) h)
@@ -199,14 +178,14 @@ module _ {T : Type 0} {F : Table T (List Hold)} where
       by false k = becomes (named-stands end x.point (points cells) (F.means s) (is-named x (points cells) k)) refl
   made x (run.release {s} {t} a cells e) q =
       by_answer F s x a _ _ e
-      (release-fine F s (λ l. Made x l _) cells (kept x _ _ (λ k. stands-keep x (is_unnamed (points cells)) (F.means s) k q))) q
+      (release-fine F s (λ l. Made x l _) cells (kept x _ _ (λ k. stands-filter x (is_unnamed (points cells)) (F.means s) k q))) q
   made x (run.locked {s} {t} a now out buffer e) q =
       by_answer F s x a _ _ e.0
-      (locked-fine F s (λ l. Made x l _) now out (kept x _ _ (λ k. stands-keep x (is_live now) (F.means s) k q))) q
+      (locked-fine F s (λ l. Made x l _) now out (kept x _ _ (λ k. stands-filter x (is_live now) (F.means s) k q))) q
   made x (run.take {s} {t} a picked spent taker now out₁ out₂ after₁ after₂ e) q =
       by_answer F s x a _ _ e.0
       (take-fine F s (λ l. Made x l _) picked spent taker now out₁ out₂
-      (kept x _ _ (λ k. stands-append x (unended (F.means s) now) _ (stands-keep x (is_live now) (F.means s) k q)))) q
+      (kept x _ _ (λ k. stands-append x (unended (F.means s) now) _ (stands-filter x (is_live now) (F.means s) k q)))) q
 
   still_from : (x : Hold) {s t : T} {y : Hold} → Stands x (F.means s) → Followed F x s t y → Stands y (F.means t) × (y.point ≡ x.point)
   still_from x q run.start = (q, refl)

@@ -12,6 +12,7 @@ use Rattle.exclusion_entries.specs.Exclusions.{MapEntry, has_hash, committed_at,
 use Rattle.exclusion_entries.specs.Entries.{excluded_at, is_map}
 use Rattle.exclusion_entries.specs.Calls.{Adds, Commits, Removes, Truncates, Migrates, Applies}
 use Rattle.table_laws.specs.Answers.{Answer}
+use Rattle.table_laws.specs.Stands.{Stands}
 
 -- a call that is lent the bytes s, answers r and leaves the bytes t; `apply` changes none
 pub data Called (s t : List ℕ) : Type 0 where
@@ -74,11 +75,6 @@ OthersSame = (s t : List ℕ) → is_map s ≡ false → Reached s t → t ≡ s
 
 -- ---- how long a transaction is excluded
 
--- the entry stands in the list
-pub data Stands (x : MapEntry) : List MapEntry → Type 0 where
-  here : (l : List MapEntry) → Stands x (x ∷ l)
-  there : (y : MapEntry) (l : List MapEntry) → Stands x l → Stands x (y ∷ l)
-
 -- a transaction that is entered under the hash takes the place of x
 unfoldable pub replaces : List ℕ → List ℕ → MapEntry → Bool
 replaces hash tx x = cond (eqb (length tx) 0) false (has_hash (byte32_at hash 0) x)
@@ -113,8 +109,8 @@ StaysExcluded = (x : MapEntry) (s t : List ℕ) → Stands x (excluded_at s) →
     → AllBytes t → (out after : List ℕ) → Applies t 0 out after
     → (p : OutPoint) → has p x.points ≡ true → has p (points after) ≡ true
 
--- where it comes from: a transaction that an `add` entered stands, pending, and so does one to which a known hash was migrated; and one that stood when a `commit`
--- was done stands, committed if the hash is its own
+-- where it comes from: a transaction that an `add` entered stands, pending, and so does one to which a known hash was migrated; and one that stood when a
+-- `commit` was done stands, committed if the hash is its own
 abbrev pub AddEnters : Type 0
 AddEnters = (s t hash tx : List ℕ) → (length tx ≡ 0 → ⊥) → Adds s 0 t hash tx → Stands (pending (byte32_at hash 0) tx) (excluded_at t)
 

@@ -14,6 +14,7 @@ use Rattle.hold_records.specs.Holds.{records_of, is_not_of, is_unnamed, is_tower
 use Rattle.table_bytes.specs.Lent.{Table}
 use Rattle.held_bytes.specs.Calls.{HoldsFunding, HoldsForWatchtower, ReleasesForWatchtower, LocksHeld, TakesCells}
 use Rattle.table_laws.specs.Answers.{Answer}
+use Rattle.table_laws.specs.Stands.{Stands}
 
 -- by value any table is one: what comes back is the table that the call returned, or the one that it was handed where it is refused
 abbrev pub by_value : Table Held (List Hold)
@@ -47,11 +48,6 @@ abbrev pub OneEach : {T : Type 0} → Table T (List Hold) → Type 0
 OneEach {T} F = (s : T) → Reached F s → (p : OutPoint) → towers p (F.means s) ≤ 1
 
 -- ---- who gets a cell: in the words of the calls' contracts, of the table and the bytes that a call leaves
-
--- the record stands in the list
-pub data Stands (x : Hold) : List Hold → Type 0 where
-  here : (l : List Hold) → Stands x (x ∷ l)
-  there : (y : Hold) (l : List Hold) → Stands x l → Stands x (y ∷ l)
 
 -- a `take` that is done: of s it makes t, and leaves `taken` and `refused` in the two buffers; the picks are bytes, as every lent slice is
 pub record Took {T : Type 0} (F : Table T (List Hold)) (s t : T) (picked spent : List ℕ) (taker : Taker) (now : Millis) (taken refused : List ℕ) : Type 0 where

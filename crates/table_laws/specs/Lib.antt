@@ -1,3 +1,4 @@
 pub mod Answers
 pub mod Exclusions
 pub mod Holds
+pub mod Stands

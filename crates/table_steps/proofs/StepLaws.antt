@@ -1,5 +1,5 @@
 -- What the contract of a call by value says is a step.
-use mathlib.Core.Path.{◌≡◌, refl, ap}
+use mathlib.Core.Path.{◌≡◌, ap}
 use Prim.Native.Nat.{ℕ}
 use mathlib.Core.List.{List}
 use Rattle.std.specs.Prelude.{Result, Ok, Err, IfOk}
@@ -7,7 +7,7 @@ use Rattle.units.specs.declared.{Millis.Millis}
 use Rattle.arithmetic.specs.LittleEndian.{AllBytes}
 use Rattle.error.specs.declared.{Refusal.Refusal}
 use Rattle.error.specs.Refusal.{answered}
-use Rattle.error.specs.Outcome.{Outcome, check, check_with, number_of, ◌>>=◌, ◌>>◌}
+use Rattle.error.specs.Outcome.{Outcome, check, check_with, number_of, ◌>>◌}
 use Rattle.hold_records.specs.declared.{Hold.Hold, Held.Held, Taker.Taker}
 use Rattle.hold_records.specs.Holds.{records_of, told, hold_funding, release_for_watchtower, hold_for_watchtower, lock_held, take_cells, after_lock, after_take}
 use Rattle.table_bytes.specs.Lent.{on_table, Leaves}

@@ -9,7 +9,7 @@ use Rattle.out_points.specs.declared.{OutPoint.OutPoint}
 use Rattle.out_points.specs.OutPoints.{eq_point, has}
 use Rattle.out_points.proofs.EqualLaws.{point-same, has_last}
 use Rattle.hold_records.specs.Holds.{is_new, firsts, others}
-use Rattle.unavailable_picks.specs.Unavailable.{is_first, select}
+use Rattle.unavailable_picks.specs.Inner.{is_first, select}
 
 module _ (f : OutPoint → Bool) (g : ℕ → OutPoint) where
   -- of what passes the test, the same stands in both

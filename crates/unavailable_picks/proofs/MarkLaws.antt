@@ -14,7 +14,7 @@ use Rattle.out_points.specs.declared.{OutPoint.OutPoint}
 use Rattle.out_points.specs.OutPoints.{eq_point, slot_of, has, point_of, points}
 use Rattle.out_points.proofs.EqualLaws.{point-same, slot_below}
 use Rattle.pick_kinds.specs.Kinds.{is_among}
-use Rattle.unavailable_picks.specs.Unavailable.{marked, Marks}
+use Rattle.unavailable_picks.specs.Inner.{marked, Marks}
 
 -- ---- set
 

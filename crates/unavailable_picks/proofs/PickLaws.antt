@@ -14,13 +14,13 @@ use Rattle.arithmetic.specs.LittleEndian.{to_le}
 use Rattle.molecule.specs.Layout.{span, fix_count}
 use Rattle.molecule.specs.Write.{put_at, put_end, Put}
 use Rattle.out_points.specs.declared.{OutPoint.OutPoint}
-use Rattle.out_points.specs.OutPoints.{has, point_of, points, point_bytes, bytes_of}
+use Rattle.out_points.specs.OutPoints.{has, point_of, points, point_bytes, points_bytes}
 use Rattle.hold_records.specs.declared.{Held.Held}
 use Rattle.hold_records.specs.Holds.{records_of, cells_of, is_busy, firsts}
 use Rattle.pick_kinds.specs.declared.{Kind.Kind}
 use Rattle.pick_kinds.specs.Kinds.{is_among, kind_of, Kinds}
 use Rattle.pick_kinds.proofs.KindLaws.{kind_put}
-use Rattle.unavailable_picks.specs.Unavailable.{is_first, select, named}
+use Rattle.unavailable_picks.specs.Inner.{is_first, select, named}
 use Rattle.out_points.specs.Tables.{has_room}
 use Rattle.hold_records.specs.Inner.{put_if}
 use Rattle.hold_records.proofs.WriteLaws.{Listing, list_start, list_more, list_end, list_long, room_no, room_yes, put_no, put_yes, list_put}
@@ -174,7 +174,7 @@ module _ {f : ℕ → Bool} {g : ℕ → OutPoint} {all : List OutPoint} {n i : 
   pub name_no : {b : Bool} → i < n → b ≡ f i → b ≡ false → Naming f g all n (i + 1) out₀ at₀ out at
   name_no l e t = record { listing = rw (select_no f g i n l (sym e ∙ t)) at k.listing }
 
-  pub name-end : n ≤ i → Put out₀ at₀ (bytes_of all) out at
+  pub name-end : n ≤ i → Put out₀ at₀ (points_bytes all) out at
   name-end l = list_end (rw (select-end f g i n l) at k.listing)
 
   pub name-long : length out ≡ length out₀
@@ -202,7 +202,7 @@ module _ (l : List OutPoint) (out : List ℕ) {n : ℕ} (en : n ≡ length l) wh
   named-kept s = put_no l out (room_no l out en s)
 
   pub named-written : {o₁ o₂ : List ℕ} {at c : ℕ} → 4 + 36 * n ≤ min (length out) 133116 → o₁ ≡ put_at out 0 (to_le 4 n) → at ≡ put_end out 0 (to_le 4 n)
-      → Put o₁ at (bytes_of l) o₂ c → o₂ ≡ put_if l out
+      → Put o₁ at (points_bytes l) o₂ c → o₂ ≡ put_if l out
   named-written room e f p = list_put l out en (omega arith) e f p ∙ sym (put_yes l out (room_yes l out en room))
 
 -- ---- put_unavailable

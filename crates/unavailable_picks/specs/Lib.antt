@@ -1,2 +1,1 @@
-pub mod Unavailable
-pub mod Picks
+pub mod Inner

@@ -4,14 +4,13 @@
 ghost use Rattle.std.specs.Prelude.{◌≡◌, true, [], ◌+◌, ◌*◌, ◌≤◌, ◌<◌, min, length, set};
 ghost use Rattle.molecule.specs.Layout.{fix_count};
 ghost use Rattle.molecule.specs.Write.{Put};
-ghost use Rattle.out_points.specs.OutPoints.{slot_of, point_of, points, bytes_of};
+ghost use Rattle.out_points.specs.OutPoints.{slot_of, point_of, points, points_bytes};
 ghost use Rattle.out_points.specs.Tables.{has_room};
 ghost use Rattle.hold_records.specs.Holds.{records_of, is_busy, firsts};
 ghost use Rattle.hold_records.specs.Inner.{put_if};
 ghost use Rattle.pick_kinds.specs.Kinds.{kind_of, Kinds};
 ghost use Rattle.pick_kinds.specs.Picks.{among_of, KindsOf};
-ghost use Rattle.unavailable_picks.specs.Unavailable.{marked, Marks, is_first};
-ghost use Rattle.unavailable_picks.specs.Picks.{named_of};
+ghost use Rattle.unavailable_picks.specs.Inner.{marked, Marks, is_first, named_of};
 
 use hold_records::{Held, MOST_RECORDS};
 use molecule::write;
@@ -173,7 +172,7 @@ impl<'a> Known<'a> {
     // Puts those picks, one after the other from `at` on. By a loop of its own: see `put_points` of crate hold_records.
     fn put_busy(self, out: &mut [u8], at: usize) -> usize
         requires in_bounds { at + 36 * length (named_of self.marked.picks) ≤ length out.old }
-        ensures { Put out.old at (bytes_of (named_of self.entry.marked.picks)) out.new result }
+        ensures { Put out.old at (points_bytes (named_of self.entry.marked.picks)) out.new result }
     {
         let picked = self.marked.picks.picked;
         let mut to = at;

@@ -1,8 +1,4 @@
 use Rattle.std.proofs.Common.{arith}
-use mathlib.Core.Path.{subst}
-use Rattle.error.specs.Refusal.{answered}
-use Rattle.table_bytes.specs.Lent.{Leaves}
-use Rattle.held_bytes.specs.HeldBytes.{held_table}
 use Rattle.held_bytes.proofs.CallLaws.{held-on, lent_bad}
 use Rattle.held_bytes.proofs.calls.on_table.Goals as goal
 

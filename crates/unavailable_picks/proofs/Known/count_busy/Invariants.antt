@@ -1,8 +1,7 @@
 use Rattle.std.proofs.Common.{length}
 use Rattle.out_points.specs.OutPoints.{point_of}
 use Rattle.pick_kinds.specs.Picks.{among_of}
-use Rattle.unavailable_picks.specs.Unavailable.{is_first}
-use Rattle.unavailable_picks.specs.Picks.{named_of}
+use Rattle.unavailable_picks.specs.Inner.{is_first, named_of}
 use Rattle.unavailable_picks.proofs.PickLaws.{Counting}
 use Rattle.unavailable_picks.proofs.Known.count_busy.Given as goal
 

@@ -1,7 +1,6 @@
 use Rattle.out_points.specs.OutPoints.{point_of}
 use Rattle.pick_kinds.specs.Picks.{among_of}
-use Rattle.unavailable_picks.specs.Unavailable.{is_first}
-use Rattle.unavailable_picks.specs.Picks.{named_of}
+use Rattle.unavailable_picks.specs.Inner.{is_first, named_of}
 use Rattle.unavailable_picks.proofs.PickLaws.{Naming}
 use Rattle.unavailable_picks.proofs.Known.put_busy.Given as goal
 

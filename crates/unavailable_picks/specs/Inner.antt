@@ -1,9 +1,10 @@
--- What the functions of this crate answer; no call's contract cites it.
+-- What the functions inside promise one another; no contract of a call cites it.
 use Rattle.std.specs.Prelude.{◌≡◌, ℕ, zero, suc, Bool, true, false, not, cond, List, [], ◌∷◌, length, get_or, set}
 use Rattle.molecule.specs.Layout.{span}
 use Rattle.out_points.specs.declared.{OutPoint.OutPoint}
 use Rattle.out_points.specs.OutPoints.{slot_of, has, points}
 use Rattle.hold_records.specs.Holds.{firsts}
+use Rattle.pick_kinds.specs.declared.{Picks.Picks}
 use Rattle.pick_kinds.specs.Kinds.{is_among}
 
 -- the marks with those of the out points set: one for each slot
@@ -28,3 +29,7 @@ select t g i (suc k) = cond (t i) (g i ∷ select t g (suc i) k) (select t g (su
 -- the picks that are among the cells or spent, each once
 unfoldable pub named : List ℕ → List ℕ → List ℕ → List OutPoint
 named cells picked spent = firsts (is_among (points cells) (points spent)) [] (points picked)
+
+-- the picks that are busy, each once
+abbrev pub named_of : Picks → List OutPoint
+named_of p = named p.cells.now p.picked.now p.spent.now
