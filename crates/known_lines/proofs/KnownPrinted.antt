@@ -1,7 +1,6 @@
 -- Every line is what the definitions compute.
 use mathlib.Core.Path.{refl}
-use Rattle.transaction_writer.specs.Written.{fits}
-use Rattle.base_writer.specs.Answer.{in_room, leaves}
+use Rattle.transaction_writer.specs.Written.{in_room}
 use Rattle.error.specs.Outcome.{number_of, values_of}
 use Rattle.words.specs.Words.{set_words, in_words, writing}
 use Rattle.answer_words.specs.Answers.{count_words}
@@ -15,5 +14,5 @@ unfolding computing
 known_printed = refl and refl and refl and refl and refl and refl and refl and refl and refl and refl and refl and refl and done
 
 pub known_in_buffer : AllRight in_buffer
-unfolding computing fits in_room leaves set_words number_of values_of in_words writing count_words
+unfolding computing in_room set_words number_of values_of in_words writing count_words
 known_in_buffer = refl and refl and refl and done

@@ -5,7 +5,7 @@ use Rattle.std.specs.Prelude.{ℕ, ◌-◌, List, [], ◌∷◌, ◌++◌, lengt
 use Rattle.arithmetic.specs.LittleEndian.{to_le}
 use Rattle.case_file.specs.CaseFile.{case_line}
 use Rattle.error.specs.Outcome.{fine}
-use Rattle.base_writer.specs.Answer.{written}
+use Rattle.transaction_writer.specs.Written.{written}
 use Rattle.words.specs.Words.{writing}
 use Rattle.answer_words.specs.Answers.{count_words}
 use Rattle.known_cases.specs.Rows.{Row, ◌gives◌}
