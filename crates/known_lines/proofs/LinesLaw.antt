@@ -56,7 +56,10 @@ delta-answer : (type : List ℕ) (ours peer : Tx) → (funding_output_delta type
 unfolding funding_output_delta token_delta line_with answer followed ◌>>◌ ◌>>=◌
 delta-answer type ours peer = by (is_empty type)
   where
-    by : (b : Bool) → (cond b (answer 0) (token_delta ours peer) >>= λ t. answer (record { capacity = growth capacity_of ours peer; token = t })).answer
+    grown : ℕ → Ruled Figures
+    grown t = answer (record { capacity = growth capacity_of ours peer; token = t })
+
+    by : (b : Bool) → (cond b (answer 0) (token_delta ours peer) >>= grown).answer
         ≡ fine (record { capacity = growth capacity_of ours peer; token = cond b 0 (growth amount_of ours peer) })
     by true = refl
     by false = refl
