@@ -78,7 +78,8 @@ pub fn surplus(
     rate: u64,
     size: u64,
 ) -> Result<Shannons, Refusal>
-    ensures { told_by shannon_count result ≡ verdict (covered opening (shannon_count gained) (shannon_count grown + total capacity_of (added_cells added.entry)) rate size) }
+    ensures { told_by shannon_count result
+        ≡ verdict (covered opening (shannon_count gained) (shannon_count grown + total capacity_of (added_cells added.entry)) rate size) }
 {
     let put = added.capacity();
     cover(opening, gained, grown, put, rate, size)

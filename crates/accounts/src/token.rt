@@ -17,7 +17,8 @@ use units::{Figure, Tokens};
 
 // A sum with the amount of one more cell of the type that is asked for, whatever that is; d is its data.
 fn add_amount(d: &[u8], sum: Tokens) -> Result<Tokens, Refusal>
-    ensures { (names : Names) (type o : List ℕ) → is_of type (record { output = o; cell_data = d.now }) ≡ true → told_by token_count result ≡ verdict (counted names type (token_count sum) (record { output = o; cell_data = d.now })) }
+    ensures { (names : Names) (type o : List ℕ) → is_of type (record { output = o; cell_data = d.now }) ≡ true → told_by token_count result
+        ≡ verdict (counted names type (token_count sum) (record { output = o; cell_data = d.now })) }
 {
     let amount = crate::read_udt_amount(d).ok_or(Refusal::InvalidPeerFundingTx)?;
     sum.checked_add(amount).ok_or(Refusal::OverflowError)
@@ -44,7 +45,8 @@ pub fn add_record(
 impl Added<'_> {
     // A sum with the tokens of output i.
     fn add_output(self, udt: &[u8], i: usize, sum: Tokens) -> Result<Tokens, Refusal>
-        ensures { told_by token_count result ≡ verdict (counted of_outputs udt.now (token_count sum) (cell_in self.entry.outputs.now self.entry.entries.now i)) }
+        ensures { told_by token_count result
+            ≡ verdict (counted of_outputs udt.now (token_count sum) (cell_in self.entry.outputs.now self.entry.entries.now i)) }
     {
         let o = molecule::item(self.outputs, i);
         let t = fields::type_script(o);

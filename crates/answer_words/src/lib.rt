@@ -1,5 +1,5 @@
-// The answers of the library's calls as a number and the words that each has to tell, the figures that come as words, and what is put at the start of a lent buffer.
-// The update's own answer is in crate words, which the run over a list of updates needs too.
+// The answers of the library's calls as a number and the words that each has to tell, the figures that come as words, and what is put at the start of a lent
+// buffer. The update's own answer is in crate words, which the run over a list of updates needs too.
 #![tactic(auto, using(crate::proofs::Ways::ways), unfolding(words::specs::Words::set_words, words::specs::Words::in_words, error::specs::Outcome::number_of, error::specs::Outcome::values_of, crate::specs::Answers::count_words, crate::specs::Answers::cell_words, crate::specs::Answers::pick_words, crate::specs::Answers::replay_words))]
 
 pub mod buffers;

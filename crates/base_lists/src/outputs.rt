@@ -33,7 +33,8 @@ pub struct Outputs<'a> {
 impl Outputs<'_> {
     // How long the change's output is; a change without a capacity has none.
     fn change_len(self) -> usize
-        ensures { result ≡ min (length (if_positive (shannon_count self.entry.change) (cell_output (shannon_count self.entry.change) self.entry.source.now self.entry.udt.now))) 133117 }
+        ensures { result ≡ min (length (if_positive (shannon_count self.entry.change) (cell_output (shannon_count self.entry.change) self.entry.source.now
+            self.entry.udt.now))) 133117 }
     {
         if self.change == Shannons::ZERO {
             0
@@ -44,7 +45,9 @@ impl Outputs<'_> {
 
     // How long the outputs are, whatever the funding cell's capacity is.
     pub fn len(self) -> usize
-        ensures { (n : ℕ) → result ≡ min (length (join (output_list n self.entry.lock.now self.entry.udt.now self.entry.present.list.now self.entry.present.count (shannon_count self.entry.change) self.entry.source.now))) 133117 }
+        ensures { (n : ℕ) → result
+            ≡ min (length (join (output_list n self.entry.lock.now self.entry.udt.now self.entry.present.list.now self.entry.present.count
+            (shannon_count self.entry.change) self.entry.source.now))) 133117 }
     {
         let lengths = Lengths {
             first: cell_len(self.lock, self.udt),

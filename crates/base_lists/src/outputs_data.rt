@@ -22,7 +22,8 @@ fn amount_item(t: Tokens) -> [u8; 20]
 }
 
 // The funding cell's tokens, if it is typed, and else no data; the entries of the present transaction after its first, each empty where it is missing; and the
-// change's tokens, unless they are 0. A typed cell of 0 tokens has data, so `tokens` is an `Option`; a change of 0 is none by the rules, so `change` needs none.
+// change's tokens, unless they are 0. A typed cell of 0 tokens has data, so `tokens` is an `Option`; a change of 0 is none by the rules, so `change` needs
+// none.
 #[derive(Clone, Copy, Debug, PartialEq, Eq)]
 pub struct OutputsData<'a> {
     pub tokens: Option<Tokens>,
@@ -47,7 +48,9 @@ impl OutputsData<'_> {
 
     // How long the list is, whatever the funding cell's tokens are.
     pub fn len(self) -> usize
-        ensures { (tokens : ℕ) → result ≡ min (length (join (data_list (is_some self.entry.tokens) tokens self.entry.present.list.now self.entry.present.count (token_count self.entry.change)))) 133117 }
+        ensures { (tokens : ℕ) → result
+            ≡ min (length (join (data_list (is_some self.entry.tokens) tokens self.entry.present.list.now self.entry.present.count
+            (token_count self.entry.change)))) 133117 }
     {
         let lengths = Lengths {
             first: self.first_len(),
@@ -59,8 +62,12 @@ impl OutputsData<'_> {
 
     // Puts the list behind its first item.
     fn put_behind(self, out: &mut [u8], at: usize, first: &[u8]) -> usize
-        ensures out_after { out.new ≡ put_list out.old at (around first.now self.entry.present.list.now self.entry.present.count (if_positive (token_count self.entry.change) (amount_item (token_count self.entry.change)))) }
-        ensures value { result ≡ put_list_end out.old at (around first.now self.entry.present.list.now self.entry.present.count (if_positive (token_count self.entry.change) (amount_item (token_count self.entry.change)))) }
+        ensures out_after { out.new
+            ≡ put_list out.old at (around first.now self.entry.present.list.now self.entry.present.count
+            (if_positive (token_count self.entry.change) (amount_item (token_count self.entry.change)))) }
+        ensures value { result
+            ≡ put_list_end out.old at (around first.now self.entry.present.list.now self.entry.present.count
+            (if_positive (token_count self.entry.change) (amount_item (token_count self.entry.change)))) }
     {
         if self.change == Tokens::ZERO {
             let list = Parts {

@@ -120,7 +120,9 @@ pub extern "C" fn basinpantry_write_transaction(
     out: &mut [u8],
     values: &mut [u64; WORDS],
 ) -> u32
-    ensures { ((result, values.new), out.new) ≡ writing count_words (written (bytes_if 3 (in_form cell_deps.now header_deps.now inputs.now outputs.now outputs_data.now witnesses.now) (tx_bytes version cell_deps.now header_deps.now inputs.now outputs.now outputs_data.now witnesses.now)) out.old) values.old }
+    ensures { ((result, values.new), out.new)
+        ≡ writing count_words (written (bytes_if 3 (in_form cell_deps.now header_deps.now inputs.now outputs.now outputs_data.now witnesses.now)
+        (tx_bytes version cell_deps.now header_deps.now inputs.now outputs.now outputs_data.now witnesses.now)) out.old) values.old }
 {
     let fields = TxFields {
         version,
@@ -156,7 +158,9 @@ pub extern "C" fn basinpantry_update_for_peer(
     records: &[u8],
     values: &mut [u64; WORDS],
 ) -> u32
-    ensures { (result, values.new) ≡ in_words surplus_words (judge lock.now udt.now ours.now (record { peer = peer.entry.now; records = records.now; source = source.now; rate = rate })) values.old }
+    ensures { (result, values.new)
+        ≡ in_words surplus_words (judge lock.now udt.now ours.now
+        (record { peer = peer.entry.now; records = records.now; source = source.now; rate = rate })) values.old }
 {
     let update = funding_tx::update_for_peer(ours, peer, lock, udt, source, rate, records);
     words::tell_update(update, values)
@@ -190,7 +194,9 @@ pub extern "C" fn basinpantry_build_funding_cell(
     remote_reserved: u64,
     values: &mut [u64; WORDS],
 ) -> u32
-    ensures { (result, values.new) ≡ in_words cell_words (build_funding_cell ours.now udt.now (request local_low local_high local_reserved remote_low remote_high remote_reserved)) values.old }
+    ensures { (result, values.new)
+        ≡ in_words cell_words (build_funding_cell ours.now udt.now (request local_low local_high local_reserved remote_low remote_high remote_reserved))
+        values.old }
 {
     let request = answer_words::request(
         local_low,
@@ -215,7 +221,8 @@ pub extern "C" fn basinpantry_build_udt_inputs_outputs(
     out: &mut [u8],
     values: &mut [u64; WORDS],
 ) -> u32
-    ensures { ((result, values.new), out.new) ≡ writing pick_words (udt_inputs_outputs cells.now udt.now source.now (wanted_low + 2 ^ 64 * wanted_high) out.old) values.old }
+    ensures { ((result, values.new), out.new)
+        ≡ writing pick_words (udt_inputs_outputs cells.now udt.now source.now (wanted_low + 2 ^ 64 * wanted_high) out.old) values.old }
 {
     let wanted = Tokens(amount::from_halves(wanted_low, wanted_high));
     let pick = udt_cells::build_udt_inputs_outputs(cells, udt, source, wanted, out);
@@ -242,7 +249,9 @@ pub extern "C" fn basinpantry_build_base<'a>(
     out: &mut [u8],
     values: &mut [u64; WORDS],
 ) -> u32
-    ensures { ((result, values.new), out.new) ≡ writing count_words (written (build_base (lent_of ours.now lock.now udt.now source.now cells.now udt_deps.now lock_dep.now extra_deps.now) (request local_low local_high local_reserved remote_low remote_high remote_reserved)) out.old) values.old }
+    ensures { ((result, values.new), out.new)
+        ≡ writing count_words (written (build_base (lent_of ours.now lock.now udt.now source.now cells.now udt_deps.now lock_dep.now extra_deps.now)
+        (request local_low local_high local_reserved remote_low remote_high remote_reserved)) out.old) values.old }
 {
     let request = answer_words::request(
         local_low,

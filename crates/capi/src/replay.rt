@@ -18,8 +18,10 @@ pub extern "C" fn basinpantry_replay<'a>(
     answers: &mut [u64],
     values: &mut [u64; WORDS],
 ) -> u32
-    ensures answers_after { ((result, values.new), answers.new) ≡ writing replay_words (after_replay (replay_of lock.now udt.now start.now updates.now (length answers.old)) answers.old) values.old }
-    ensures lawful { result ≡ 0 → LawfulReplay lock.now udt.now start.now updates.now answers.old (get_or values.new 0 0) (get_or values.new 1 0) (get_or values.new 2 0) answers.new }
+    ensures answers_after { ((result, values.new), answers.new)
+        ≡ writing replay_words (after_replay (replay_of lock.now udt.now start.now updates.now (length answers.old)) answers.old) values.old }
+    ensures lawful { result ≡ 0
+        → LawfulReplay lock.now udt.now start.now updates.now answers.old (get_or values.new 0 0) (get_or values.new 1 0) (get_or values.new 2 0) answers.new }
 {
     let negotiation = Negotiation {
         start,

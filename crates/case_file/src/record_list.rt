@@ -150,7 +150,8 @@ impl<'a> CaseFile<'a> {
 
     // Puts the list of the records from a place on at the start of out.
     pub(crate) fn put_list(self, out: &mut [u8], from: usize, list: Measured) -> usize
-        requires { (list.size ≡ length (join (walk list.count self.bytes.now from))) × (4 * list.count + 4 ≤ list.size) × (list.size ≤ length out.old) × (list.size < 2 ^ 32) }
+        requires { (list.size ≡ length (join (walk list.count self.bytes.now from))) × (4 * list.count + 4 ≤ list.size) × (list.size ≤ length out.old)
+            × (list.size < 2 ^ 32) }
         ensures { Put out.old 0 (join (walk list.count self.entry.bytes.now from)) out.new result }
     {
         let Measured { count, size } = list;

@@ -71,14 +71,15 @@ fn keeps_after_first<'a, F: Fn(&'a [u8], &'a [u8]) -> bool>(
     extends: F,
 ) -> bool
     requires { F.IsAlwaysCallable extends }
-    ensures { (test : List ℕ → List ℕ → Bool) → ((x y : _) (r : Bool) → F.post extends x y r → r ≡ test x.now y.now) → result ≡ (leb (item_count ours.now) (item_count peer.now) && test ours.now peer.now) }
+    ensures { (test : List ℕ → List ℕ → Bool) → ((x y : _) (r : Bool) → F.post extends x y r → r ≡ test x.now y.now) → result
+        ≡ (leb (item_count ours.now) (item_count peer.now) && test ours.now peer.now) }
 {
     molecule::item_count(ours) <= molecule::item_count(peer) && extends(ours, peer)
 }
 
 // Whether the peer keeps what is ours and has the expected funding cell as output 0; the refusal is 5. Tests that read one list stand together, and where
-// there is no transaction of ours no list is read: all of them have the one refusal, so their order can't be told. A struct of the two scripts, which the caller
-// has apart, would be made for this call alone. An `Answer` would name the one refusal at each of the exits.
+// there is no transaction of ours no list is read: all of them have the one refusal, so their order can't be told. A struct of the two scripts, which the
+// caller has apart, would be made for this call alone. An `Answer` would name the one refusal at each of the exits.
 pub fn keeps_ours(ours: &[u8], peer: &[u8], lock: &[u8], udt: &[u8]) -> bool
     ensures { check 5 result ≡ verdict (comparison lock.now udt.now (tx_at ours.now) (tx_at peer.now)) }
 {

@@ -69,8 +69,8 @@ impl Both<'_> {
         Ok(Growth { capacity, token })
     }
 
-    // The account of an update in which output 0 has grown by so much: what is left of what the records brought in over the growth and the outputs that the peer
-    // added, in capacity and in tokens.
+    // The account of an update in which output 0 has grown by so much: what is left of what the records brought in over the growth and the outputs that the
+    // peer added, in capacity and in tokens.
     fn account(self, rate: u64, brought: Brought, growth: Growth) -> Update
         ensures { told result ≡ verdict (account_of self.entry rate brought growth) }
     {

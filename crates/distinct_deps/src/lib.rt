@@ -113,8 +113,8 @@ fn choose_indexed(lists: DepLists<'_>, places: &mut [usize]) -> Option<usize>
 }
 
 // Puts a place of each dep, in the order in which they first stand, at the start of `places`, and returns how many there are, or nothing where there are more
-// than the two slices have room for. Both slices are work room. To put a place among others in order moves those behind it, so many deps are put in order at once;
-// with more than there is room for, at most 3,597 are ever moved.
+// than the two slices have room for. Both slices are work room. To put a place among others in order moves those behind it, so many deps are put in order at
+// once; with more than there is room for, at most 3,597 are ever moved.
 pub fn choose_places(
     lists: DepLists<'_>,
     places: &mut [usize],

@@ -137,7 +137,8 @@ impl fmt::Display for Refusal {
 
 impl Error for Refusal {}
 
-// An answer's number for programs, 0 where the call is done: the C interface has it, and `From` can't be of a `Result` for a number, since both are the library's.
+// An answer's number for programs, 0 where the call is done: the C interface has it, and `From` can't be of a `Result` for a number, since both are the
+// library's.
 pub fn number<T: Drop>(answer: Result<T, Refusal>) -> u8
     ensures { result ≡ answered answer }
 {

@@ -1,5 +1,5 @@
-// The calls on a lent exclusion map that leave every entry at its place: `commit`, which gives one its block, and `apply`, which lists the cells of all. Bytes that are no map are refused; a
-// refusal leaves the map's bytes and the buffer as they were.
+// The calls on a lent exclusion map that leave every entry at its place: `commit`, which gives one its block, and `apply`, which lists the cells of all. Bytes
+// that are no map are refused; a refusal leaves the map's bytes and the buffer as they were.
 #![tactic(auto, using(crate::proofs::Ways::ways))]
 
 ghost use Rattle.std.specs.Prelude.{◌≡◌, true, map, ◌+◌, ◌*◌, ◌≤◌, length, drop};

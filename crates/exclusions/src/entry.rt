@@ -54,8 +54,8 @@ impl<'a> NewEntry<'a> {
         write::put_u32(out, at, self.point_count())
     }
 
-    // Puts the out points that the inputs spend. `as_chunks` of the inputs would be no plainer: their places in `out` would be counted beside them all the same,
-    // and `write::put` copies a length that it asks for, where here it is known.
+    // Puts the out points that the inputs spend. `as_chunks` of the inputs would be no plainer: their places in `out` would be counted beside them all the
+    // same, and `write::put` copies a length that it asks for, where here it is known.
     fn put_points(self, out: &mut [u8], at: usize)
         requires { at + 36 * fix_count self.inputs.now ≤ length out.old }
         ensures { out.new ≡ splice out.old at (points_bytes (points_of_inputs self.entry.inputs.now)) }

@@ -1,5 +1,6 @@
-// LiveCellsExclusionMap: the cells that funding transactions spend, kept out of later picks. The map is bytes that the caller keeps and lends to each call, which works on them in
-// place. A transaction that can't be read is refused first, then bytes that are no map; a refusal leaves the map's bytes and the buffer as they were.
+// LiveCellsExclusionMap: the cells that funding transactions spend, kept out of later picks. The map is bytes that the caller keeps and lends to each call,
+// which works on them in place. A transaction that can't be read is refused first, then bytes that are no map; a refusal leaves the map's bytes and the buffer
+// as they were.
 #![tactic(auto, using(crate::proofs::Ways::ways))]
 
 ghost use Rattle.error.specs.Refusal.{answered};

@@ -73,7 +73,8 @@ impl<'a> Assembly<'a> {
     // The figures that are written.
     fn make_plan(&self) -> Plan
         requires { (readable Script self.now.lent.source.now ≡ true) × (readable (option Script) self.now.lent.udt.now ≡ true) }
-        ensures { Planned result self.now.cell.capacity self.now.cell.token self.now.picked.taken self.now.picked.change self.now.lent.source.now self.now.lent.udt.now }
+        ensures { Planned result self.now.cell.capacity self.now.cell.token self.now.picked.taken self.now.picked.change self.now.lent.source.now
+            self.now.lent.udt.now }
     {
         let Picked { taken, change } = self.picked;
         Plan {

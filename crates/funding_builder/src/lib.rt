@@ -60,8 +60,8 @@ pub struct Lent<'a> {
 }
 
 impl<'a> Lent<'a> {
-    // Whether the lent lists are readable; the refusal is 3. A `bool`, and no `Result`, as four tests have one refusal (docs/PROVING.md, "A chain of checks with
-    // one number").
+    // Whether the lent lists are readable; the refusal is 3. A `bool`, and no `Result`, as four tests have one refusal (docs/PROVING.md, "A chain of checks
+    // with one number").
     fn are_lists(&self) -> bool
         ensures { check 3 result ≡ lists self.now.cells.now self.now.udt_deps.now self.now.lock_dep.now self.now.extra_deps.now }
     {

@@ -21,7 +21,8 @@ pub fn judge_against(
     rate: u64,
     records: &[u8],
 ) -> Update
-    ensures { told result ≡ judge_against lock.now udt.now (tx_at ours.now) (record { peer = peer.entry.now; records = records.now; source = source.now; rate = rate }) }
+    ensures { told result
+        ≡ judge_against lock.now udt.now (tx_at ours.now) (record { peer = peer.entry.now; records = records.now; source = source.now; rate = rate }) }
 {
     // taken anew, a slice comes in as its two words, and not by way of memory
     let ours = &ours[0..ours.len()];
@@ -47,8 +48,8 @@ pub fn judge_against(
 }
 
 // Judges the peer's transaction against ours (empty for none), under the expected funding lock, the expected token type (empty for none), our source lock
-// and a fee rate, over one record for each input that the peer added. Nothing that is lent is changed or copied. The parameters are those of the C interface, which
-// lends each apart, here and in the functions that are this call without its first check and with its answer.
+// and a fee rate, over one record for each input that the peer added. Nothing that is lent is changed or copied. The parameters are those of the C interface,
+// which lends each apart, here and in the functions that are this call without its first check and with its answer.
 pub fn update_for_peer(
     ours: &[u8],
     peer: &[u8],
@@ -87,8 +88,11 @@ pub fn next_in_force<'a>(
     rate: u64,
     records: &[u8],
 ) -> &'a [u8]
-    ensures reference { result ≡ handed_back (judge lock.now udt.now ours.now (record { peer = peer.entry.now; records = records.now; source = source.now; rate = rate })) ours.entry peer.entry }
-    ensures bytes { result.now ≡ next (update_for_peer lock.now udt.now) ours.now (record { peer = peer.entry.now; records = records.now; source = source.now; rate = rate }) }
+    ensures reference { result
+        ≡ handed_back (judge lock.now udt.now ours.now
+        (record { peer = peer.entry.now; records = records.now; source = source.now; rate = rate })) ours.entry peer.entry }
+    ensures bytes { result.now
+        ≡ next (update_for_peer lock.now udt.now) ours.now (record { peer = peer.entry.now; records = records.now; source = source.now; rate = rate }) }
 {
     let update = update_for_peer(ours, peer, lock, udt, source, rate, records);
     in_force(update, ours, peer)

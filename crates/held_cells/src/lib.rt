@@ -1,6 +1,6 @@
 // The node's own cells that a transaction of its own spends before it is committed: the table goes in by value and comes back by value, and the
-// caller of a refused call still has the very table that it lent. Parameters stand one by one, as in the C functions of the calls: a struct would be made there for
-// each single call.
+// caller of a refused call still has the very table that it lent. Parameters stand one by one, as in the C functions of the calls: a struct would be made there
+// for each single call.
 #![tactic(auto, using(crate::proofs::Ways::ways))]
 
 ghost use Rattle.std.specs.Prelude.{◌≡◌, ◌++◌, map, ◌+◌, ◌-◌, ◌<◌, ◌≤◌, IfOk};

@@ -46,8 +46,9 @@ pub struct Held {
     pub count: usize,
 }
 
-// Which records a table is to keep. No closure for it: a public function that calls one needs a `requires`, and the public functions here have none. For the same
-// reason `held_bytes::read_kept`, which reads the records from bytes, and `without` of crate watchtower_holds, which goes by marks, have loops of their own.
+// Which records a table is to keep. No closure for it: a public function that calls one needs a `requires`, and the public functions here have none. For the
+// same reason `held_bytes::read_kept`, which reads the records from bytes, and `without` of crate watchtower_holds, which goes by marks, have loops of their
+// own.
 #[derive(Clone, Copy, Debug, PartialEq, Eq, Hash)]
 pub enum Rule {
     // All but the watchtower records that have ended.
@@ -135,8 +136,8 @@ fn cell_of(r: Hold) -> OutPoint
     r.point
 }
 
-// Puts the cells of the records from `from` on, one after the other from `at` on. This list and the two of picks (`unavailable_picks`, `picks`) each have a loop
-// of their own: one loop for all would be a public function over a closure that gives the points, and such a one needs a `requires`.
+// Puts the cells of the records from `from` on, one after the other from `at` on. This list and the two of picks (`unavailable_picks`, `picks`) each have a
+// loop of their own: one loop for all would be a public function over a closure that gives the points, and such a one needs a `requires`.
 fn put_points(h: Held, from: usize, out: &mut [u8], at: usize) -> usize
     requires { at + 36 * (min h.count 256 - from) ≤ length out.old }
     ensures put { Put out.old at (points_bytes (cells_of (drop from (records_of h)))) out.new result }

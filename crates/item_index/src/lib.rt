@@ -30,8 +30,8 @@ impl<'a> Keys<'a> {
         molecule::part(x, self.skip, x.len())
     }
 
-    // Whether the item at p comes before the one at q; of two that are the same the one at the smaller place comes first. In a call of its own, to which the keys go
-    // by way of memory, it makes the sort a fifth slower.
+    // Whether the item at p comes before the one at q; of two that are the same the one at the smaller place comes first. In a call of its own, to which the
+    // keys go by way of memory, it makes the sort a fifth slower.
     #[inline(always)]
     fn comes_first(self, p: u32, q: u32) -> bool
         ensures { result ≡ comes (keys_of self.entry) p q }
@@ -114,8 +114,8 @@ impl<'a> Keys<'a> {
         }
     }
 
-    // Whether x is one of the items of which s is the index. By hand, since it ends where x is met: the library's search goes on, and of items that a peer repeats
-    // takes three times as many comparisons.
+    // Whether x is one of the items of which s is the index. By hand, since it ends where x is met: the library's search goes on, and of items that a peer
+    // repeats takes three times as many comparisons.
     pub fn has(self, s: &[u32], x: &[u8]) -> bool
         ensures { Index (keys_of self.entry) (length s.now) s.now → result ≡ contains x.now (span (keys_of self.entry) 0 (length s.now)) }
     {

@@ -44,8 +44,8 @@ fn compare_words(a: &[u8], b: &[u8]) -> Ordering
     word(a, last).cmp(&word(b, last))
 }
 
-// Which of two strings comes first in the order of their bytes. By words, since with `a.cmp(&b)` for all a search among 64 or more keys takes 1.2 to 1.4 times as
-// long; and within the sort and the searches, since a call would cost a tenth.
+// Which of two strings comes first in the order of their bytes. By words, since with `a.cmp(&b)` for all a search among 64 or more keys takes 1.2 to 1.4 times
+// as long; and within the sort and the searches, since a call would cost a tenth.
 #[inline(always)]
 pub fn compare(a: &[u8], b: &[u8]) -> Ordering
     ensures { result ≡ order_of a.now b.now }

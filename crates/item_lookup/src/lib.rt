@@ -101,8 +101,8 @@ impl<'a> Search<'a> {
         Chain::TooLong
     }
 
-    // Puts their items into chains, but for those that are met there: `heads` has the first item of each chain, `next` the one after it. Where a chain is too long
-    // the others are left out. What is linked decides only how long a search takes.
+    // Puts their items into chains, but for those that are met there: `heads` has the first item of each chain, `next` the one after it. Where a chain is too
+    // long the others are left out. What is linked decides only how long a search takes.
     fn link(self, heads: &mut [u32], next: &mut [u32])
         requires in_bounds { 8192 ≤ length heads.old }
         requires n_in_bounds { self.n ≤ length next.old }

@@ -50,7 +50,8 @@ fn on(outer: Place, inner: Place) -> Place
     }
 }
 
-// Item i of n. This and the next three take what the functions of `molecule` take that answer the parts themselves: a struct of these would be made for one call.
+// Item i of n. This and the next three take what the functions of `molecule` take that answer the parts themselves: a struct of these would be made for one
+// call.
 fn field_place(s: &[u8], n: usize, i: u32) -> Place
     ensures { FieldAt s.now n i result }
 {

@@ -1,5 +1,5 @@
--- Worked base transactions (docs/RULES.md, "Our own side", and its table): for each answer of `build_base` lent bytes that reach it, as one table of what the definitions
--- compute and what the paper says. proofs/KnownBases.antt proves all rows at once.
+-- Worked base transactions (docs/RULES.md, "Our own side", and its table): for each answer of `build_base` lent bytes that reach it, as one table of what the
+-- definitions compute and what the paper says. proofs/KnownBases.antt proves all rows at once.
 use Rattle.std.specs.Prelude.{ℕ, ◌-◌, ◌^◌, List, [], ◌∷◌, ◌++◌, replicate}
 use Rattle.std.proofs.Math.Option.{some}
 use Rattle.arithmetic.specs.LittleEndian.{to_le}
@@ -11,7 +11,8 @@ use Rattle.funding_cell.specs.declared.{FundingRequest.FundingRequest}
 use Rattle.transaction_writer.specs.Written.{written}
 use Rattle.funding_builder.specs.Base.{Lent, build_base}
 use Rattle.known_cases.specs.Rows.{Row, ◌gives◌}
-use Rattle.known_cases.specs.Cases.{plain_script, expected_lock, our_lock, token_type, input, inputs, dep, header, output, plain, token, amount, room, transaction, spending}
+use Rattle.known_cases.specs.Cases.{plain_script, expected_lock, our_lock, token_type, input, inputs, dep, header, output, plain, token, amount, room}
+use Rattle.known_cases.specs.Cases.{transaction, spending}
 
 -- ---- what is lent
 
@@ -29,7 +30,16 @@ dep_list l = encode CellDeps l
 
 -- from none, under a lock, with a type and our lock; and untyped, under the expected lock
 abbrev pub scripts : List ℕ → List ℕ → List ℕ → Lent
-scripts lock type source = record { ours = []; lock = lock; udt = type; source = source; cells = encode TokenCells []; udt_deps = []; lock_dep = []; extra_deps = dep_list [] }
+scripts lock type source = record {
+  ours = [];
+  lock = lock;
+  udt = type;
+  source = source;
+  cells = encode TokenCells [];
+  udt_deps = [];
+  lock_dep = [];
+  extra_deps = dep_list [];
+}
 
 abbrev from_none : Lent
 from_none = scripts expected_lock [] our_lock
@@ -48,15 +58,35 @@ three_cells = token_cell 1 (amount 30) ∷ token_cell 2 (amount 50) ∷ token_ce
 -- from none, of the token, with these cells, the token's dep 0 and the lock's dep 1
 abbrev token_from_none : List (Value TokenCell) → Lent
 token_from_none cells =
-    record { ours = []; lock = expected_lock; udt = token_type; source = our_lock; cells = encode TokenCells cells; udt_deps = dep_list (dep 0 ∷ []); lock_dep = encode CellDep (dep 1); extra_deps = dep_list [] }
+    record {
+      ours = [];
+      lock = expected_lock;
+      udt = token_type;
+      source = our_lock;
+      cells = encode TokenCells cells;
+      udt_deps = dep_list (dep 0
+          ∷ []);
+      lock_dep = encode CellDep (dep 1);
+      extra_deps = dep_list [];
+    }
 
--- from a transaction of ours with one input, 5 tokens at output 0, and a second output whose data is missing: of the token, with these cells and deps, and the extra deps 2 and 0
+-- from a transaction of ours with one input, 5 tokens at output 0, and a second output whose data is missing: of the token, with these cells and deps, and the
+-- extra deps 2 and 0
 abbrev present : List ℕ
 present = spending (inputs 1) (token 100 ∷ plain 61 ∷ []) (amount 5 ∷ [])
 
 abbrev typed_from : List ℕ → List (Value TokenCell) → List ℕ → List ℕ → Lent
 typed_from ours cells udt_deps lock_dep =
-    record { ours = ours; lock = expected_lock; udt = token_type; source = our_lock; cells = encode TokenCells cells; udt_deps = udt_deps; lock_dep = lock_dep; extra_deps = dep_list (dep 2 ∷ dep 0 ∷ []) }
+    record {
+      ours = ours;
+      lock = expected_lock;
+      udt = token_type;
+      source = our_lock;
+      cells = encode TokenCells cells;
+      udt_deps = udt_deps;
+      lock_dep = lock_dep;
+      extra_deps = dep_list (dep 2 ∷ dep 0 ∷ []);
+    }
 
 abbrev typed : List (Value TokenCell) → List ℕ → List ℕ → Lent
 typed cells udt_deps lock_dep = typed_from present cells udt_deps lock_dep
@@ -65,7 +95,8 @@ typed cells udt_deps lock_dep = typed_from present cells udt_deps lock_dep
 abbrev supplied : List (Value TokenCell) → Lent
 supplied cells = typed cells (dep_list (dep 0 ∷ [])) (encode CellDep (dep 1))
 
--- from a transaction of ours with a version, deps, a header dep, three inputs, two outputs after 0, the last without data, and a witness; two cells, and the same deps
+-- from a transaction of ours with a version, deps, a header dep, three inputs, two outputs after 0, the last without data, and a witness; two cells, and the
+-- same deps
 abbrev grown : List ℕ
 grown = transaction 1 (dep 3 ∷ dep 0 ∷ []) (header 9 ∷ []) (inputs 3) (token 100 ∷ plain 61 ∷ plain 62 ∷ []) (amount 5 ∷ (1 ∷ 2 ∷ 3 ∷ []) ∷ []) ((8 ∷ []) ∷ [])
 
@@ -115,12 +146,14 @@ unpicked_base = transaction 0 (dep 2 ∷ dep 0 ∷ []) [] (inputs 1) (token 20 �
 -- from none the first picked input has witness 0; the remote figures are unread. With the picked inputs, the tokens and the change; and with no change
 abbrev first_base : List (Value CellInput) → ℕ → ℕ → List ℕ
 first_base picked tokens change =
-    transaction 0 (dep 0 ∷ dep 1 ∷ []) [] picked (token 7 ∷ output 1 (some (plain_script 2)) 9000000000 ∷ []) (amount tokens ∷ amount change ∷ []) (placeholder ∷ [])
+    transaction 0 (dep 0 ∷ dep 1 ∷ []) [] picked (token 7 ∷ output 1 (some (plain_script 2)) 9000000000 ∷ []) (amount tokens ∷ amount change
+    ∷ []) (placeholder ∷ [])
 
 abbrev exact_base : List ℕ
 exact_base = transaction 0 (dep 0 ∷ dep 1 ∷ []) [] (input 1 ∷ input 2 ∷ []) (token 7 ∷ []) (amount 80 ∷ []) (placeholder ∷ [])
 
--- behind three inputs: empty witnesses for the second and the third; each dep once, where it first stands, the present ones before the token's; version and header dep stay, the witness does not
+-- behind three inputs: empty witnesses for the second and the third; each dep once, where it first stands, the present ones before the token's; version and
+-- header dep stay, the witness does not
 abbrev grown_base : List ℕ
 grown_base =
     transaction 1 (dep 3 ∷ dep 0 ∷ dep 1 ∷ dep 2 ∷ []) (header 9 ∷ []) (input 0 ∷ input 1 ∷ input 2 ∷ input 11 ∷ input 12 ∷ [])
@@ -144,15 +177,34 @@ rows =
     ∷ (answer on_grown 70 1170 gives 0 ∷ 1167 ∷ [])
     ∷ (buffer on_grown 70 1170 gives grown_base ++ room 3)
     -- 1: our transaction is unreadable
-    ∷ (answer (record { ours = no_list; lock = no_list; udt = []; source = our_lock; cells = []; udt_deps = []; lock_dep = []; extra_deps = [] }) 5 300 gives 1 ∷ [])
+    ∷ (answer (record { ours = no_list; lock = no_list; udt = []; source = our_lock; cells = []; udt_deps = []; lock_dep = []; extra_deps = [] }) 5 300
+    gives 1 ∷ [])
     -- 3: a script, the funding lock, the type or our lock; or a lent list
     ∷ (answer (scripts no_list [] our_lock) 5 300 gives 3 ∷ [])
     ∷ (answer (scripts expected_lock no_list our_lock) 5 300 gives 3 ∷ [])
     ∷ (answer (scripts expected_lock [] no_list) 5 300 gives 3 ∷ [])
-    ∷ (answer (record { ours = []; lock = expected_lock; udt = []; source = our_lock; cells = no_list; udt_deps = []; lock_dep = []; extra_deps = dep_list [] }) 5 300 gives 3 ∷ [])
+    ∷ (answer (record {
+      ours = [];
+      lock = expected_lock;
+      udt = [];
+      source = our_lock;
+      cells = no_list;
+      udt_deps = [];
+      lock_dep = [];
+      extra_deps = dep_list [];
+    }) 5 300 gives 3 ∷ [])
     ∷ (answer (typed three_cells no_list (encode CellDep (dep 1))) 70 902 gives 3 ∷ [])
     ∷ (answer (typed three_cells (dep_list []) no_list) 70 902 gives 3 ∷ [])
-    ∷ (answer (record { ours = []; lock = expected_lock; udt = []; source = our_lock; cells = encode TokenCells []; udt_deps = []; lock_dep = []; extra_deps = no_list }) 5 300 gives 3 ∷ [])
+    ∷ (answer (record {
+      ours = [];
+      lock = expected_lock;
+      udt = [];
+      source = our_lock;
+      cells = encode TokenCells [];
+      udt_deps = [];
+      lock_dep = [];
+      extra_deps = no_list;
+    }) 5 300 gives 3 ∷ [])
     -- 7: a figure too wide
     ∷ (answer from_none (2 ^ 64) 300 gives 7 ∷ [])
     -- 12: a token cell's data under 16 bytes; 10: the total is 2^128; 9: the list ended short

@@ -1,5 +1,6 @@
--- The other calls of our own side, and the writers of a transaction, worked through: lent bytes that reach each of their refusals, and what then stands in the buffer. What they do when they
--- are not refused is among the known outcomes (crates/known_outcomes), but for figures of the funding cell on which wrong rules answer otherwise. proofs/KnownParts.antt proves all rows at once.
+-- The other calls of our own side, and the writers of a transaction, worked through: lent bytes that reach each of their refusals, and what then stands in the
+-- buffer. What they do when they are not refused is among the known outcomes (crates/known_outcomes), but for figures of the funding cell on which wrong rules
+-- answer otherwise. proofs/KnownParts.antt proves all rows at once.
 use Rattle.std.specs.Prelude.{ℕ, ◌-◌, ◌^◌, List, [], ◌∷◌, ◌++◌, replicate}
 use Rattle.units.specs.Units.{in_shannons}
 use Rattle.molecule.specs.Molecule.{Value, encode, readable}
@@ -90,7 +91,8 @@ parts =
     ∷ (funded usual [] (sides (2 ^ 63 - 7) 7 (2 ^ 63 - 13) 13) gives 7 ∷ [])
     -- an untyped amount of 2^64; not 7 shannons, as if its low half were taken
     ∷ (funded [] [] (funding (2 ^ 64) 7) gives 7 ∷ [])
-    -- funded is a transaction with outputs: ours has an input and none, untyped and typed; not 36, nor 20 and 16, as if any transaction or any input were enough
+    -- funded is a transaction with outputs: ours has an input and none, untyped and typed; not 36, nor 20 and 16, as if any transaction or any input were
+    -- enough
     ∷ (funded (bare 1) [] (sides 5 7 11 13) gives 0 ∷ 12 ∷ 0 ∷ [])
     ∷ (funded (bare 1) token_type (sides 5 7 11 13) gives 0 ∷ 7 ∷ 5 ∷ [])
     -- ours has an output and no inputs; not 12, as if inputs were needed

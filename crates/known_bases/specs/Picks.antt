@@ -1,4 +1,5 @@
--- The token pick and its change output worked through (docs/RULES.md, "Our own side"). proofs/KnownPicks.antt proves all rows. Those that docs/RULES.md stars are rows of crate known_outcomes too.
+-- The token pick and its change output worked through (docs/RULES.md, "Our own side"). proofs/KnownPicks.antt proves all rows. Those that docs/RULES.md stars
+-- are rows of crate known_outcomes too.
 use Rattle.std.specs.Prelude.{ℕ, ◌-◌, ◌^◌, List, [], ◌∷◌, ◌++◌, map, length, replicate}
 use Rattle.molecule.specs.Layout.{items_of}
 use Rattle.molecule.specs.Molecule.{encode}

@@ -75,7 +75,8 @@ room n = replicate n 7
 
 -- ---- transactions: version, cell deps, header deps, inputs, outputs and their data
 
-abbrev pub transaction : ℕ → List (Value CellDep) → List (Value Byte32) → List (Value CellInput) → List (Value CellOutput) → List (List ℕ) → List (List ℕ) → List ℕ
+abbrev pub transaction : ℕ → List (Value CellDep) → List (Value Byte32) → List (Value CellInput) → List (Value CellOutput) → List (List ℕ) → List (List ℕ)
+    → List ℕ
 transaction version ds hs is os es ws = encode Transaction ((to_le 4 version, (ds, (hs, (is, (os, (es, tt)))))), (ws, tt))
 
 -- of version 0, with no deps and no witnesses
@@ -124,7 +125,8 @@ offer peer records = at_rate 1000 peer records
 -- so many inputs, each worth 200,000 shannons; outputs of 100 each; cell deps; and bytes in its one witness
 abbrev pub crowd : ℕ → ℕ → ℕ → ℕ → Call
 crowd ins outs ds bytes =
-    offer (transaction 0 (deps ds) [] (inputs ins) (replicate outs (plain 100)) (replicate outs []) (replicate bytes 0 ∷ [])) (replicate ins (cell (plain 200000) []))
+    offer (transaction 0 (deps ds) [] (inputs ins) (replicate outs (plain 100)) (replicate outs []) (replicate bytes 0 ∷ [])) (replicate ins
+    (cell (plain 200000) []))
 
 -- everything that a verdict is made of
 pub record Case : Type 0 where

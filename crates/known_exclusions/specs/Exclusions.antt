@@ -1,5 +1,5 @@
--- The calls on a lent exclusion map worked through, from the definitions of their contracts and with lent bytes: what docs/RULES.md stars, and an example of each
--- other answer. proofs/KnownExclusions.antt proves all rows.
+-- The calls on a lent exclusion map worked through, from the definitions of their contracts and with lent bytes: what docs/RULES.md stars, and an example of
+-- each other answer. proofs/KnownExclusions.antt proves all rows.
 use Rattle.std.specs.Prelude.{ℕ, ◌+◌, ◌-◌, ◌*◌, ◌^◌, List, [], ◌∷◌, ◌++◌, map, replicate}
 use Rattle.std.proofs.Math.Option.{Option, none, some}
 use Rattle.arithmetic.specs.LittleEndian.{to_le}
@@ -101,7 +101,8 @@ three = committed_of 7 1 2 ∷ pending_of 5 1 ∷ pending_of 6 0 ∷ []
 abbrev pub twice : List MapEntry
 twice = pending_of 7 2 ∷ pending_of 5 1 ∷ pending_of 7 1 ∷ []
 
--- bytes that are no map: of another length, with 65 entries, with 513 out points in one entry and in two, with an entry of the kind 2, with a block at a pending one
+-- bytes that are no map: of another length, with 65 entries, with 513 out points in one entry and in two, with an entry of the kind 2, with a block at a
+-- pending one
 abbrev pub shorter : List ℕ
 shorter = replicate 21507 0
 
@@ -196,7 +197,8 @@ works =
     ∷ (remove (lent two) (hash 7) gives puts (lent two) (pending_of 5 1 ∷ []))
     ∷ (remove (lent two) (hash 6) gives puts (lent two) two)
     -- c + 13 is a whole number: committed in the last block there is, it stays
-    ∷ (truncate (lent (committed_of 7 (2 ^ 64 - 1) 2 ∷ [])) (2 ^ 64 - 1) gives puts (lent (committed_of 7 (2 ^ 64 - 1) 2 ∷ [])) (committed_of 7 (2 ^ 64 - 1) 2 ∷ []))
+    ∷ (truncate (lent (committed_of 7 (2 ^ 64 - 1) 2 ∷ [])) (2 ^ 64 - 1)
+    gives puts (lent (committed_of 7 (2 ^ 64 - 1) 2 ∷ [])) (committed_of 7 (2 ^ 64 - 1) 2 ∷ []))
     ∷ (truncate (lent two) 14 gives puts (lent two) (pending_of 5 1 ∷ []))
     -- the new one goes last, also onto its own hash, or takes the place of an entered one; by no transaction the old one only goes
     ∷ (migrate (lent two) (hash 7) (hash 8) (bare 1) gives puts (lent two) (pending_of 5 1 ∷ pending_of 8 1 ∷ []))

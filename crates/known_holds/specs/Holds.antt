@@ -8,7 +8,8 @@ use Rattle.error.specs.Outcome.{Outcome, fine, refused}
 use Rattle.out_points.specs.Tables.{after_list}
 use Rattle.hold_records.specs.declared.{Owner.Owner, Hold.Hold, Taker.Taker}
 use Rattle.units.specs.declared.{Millis.Millis}
-use Rattle.hold_records.specs.Holds.{held_by, hold_funding, hold_for_watchtower, release_for_watchtower, lock_held, unavailable, take_cells, after_lock, after_take}
+use Rattle.hold_records.specs.Holds.{held_by, hold_funding, hold_for_watchtower, release_for_watchtower, lock_held, unavailable, take_cells, after_lock}
+use Rattle.hold_records.specs.Holds.{after_take}
 use Rattle.known_cases.specs.Rows.{Row, ◌gives◌}
 use Rattle.known_cases.specs.Cases.{ms, point, room}
 
@@ -77,8 +78,10 @@ returning =
     ∷ (hold_funding (others 255) 1 (of1 A) gives fine (others 255 ++ (funding 1 A ∷ [])))
     ∷ (hold_funding (others 256) 5 (of2 A B) gives fine (funding 5 A ∷ funding 5 B ∷ []))
     ∷ (hold_funding (others 256) 1 no_list gives refused 3 [])
-    -- "`hold_for_watchtower` sets the end to now + 1,800,000 (capped at 2^64 - 1), one record per cell"; "New records go last; a renewed watchtower record .. keeps its place"
-    ∷ (hold_for_watchtower (tower 5 A ∷ funding 7 B ∷ []) (point_list (C ∷ A ∷ B ∷ C ∷ [])) (ms 1000) gives fine (tower 1801000 A ∷ funding 7 B ∷ tower 1801000 C ∷ tower 1801000 B ∷ []))
+    -- "`hold_for_watchtower` sets the end to now + 1,800,000 (capped at 2^64 - 1), one record per cell"; "New records go last; a renewed watchtower record ..
+    -- keeps its place"
+    ∷ (hold_for_watchtower (tower 5 A ∷ funding 7 B ∷ []) (point_list (C ∷ A ∷ B ∷ C ∷ [])) (ms 1000)
+    gives fine (tower 1801000 A ∷ funding 7 B ∷ tower 1801000 C ∷ tower 1801000 B ∷ []))
     ∷ (hold_for_watchtower [] (of1 A) (ms 1000) gives fine (tower 1801000 A ∷ []))
     ∷ (hold_for_watchtower [] (of1 A) (ms (2 ^ 64 - 1800001)) gives fine (tower (2 ^ 64 - 1) A ∷ []))
     ∷ (hold_for_watchtower [] (of1 A) (ms (2 ^ 64 - 1)) gives fine (tower (2 ^ 64 - 1) A ∷ []))
@@ -124,10 +127,12 @@ locking =
 
 abbrev pub taking : List (Row (Outcome (List Hold) × List ℕ × List ℕ))
 taking =
-    -- "`take` first drops watchtower records whose end is not above now; then a pick is refused if held by anybody, spent, or taken earlier in the call; otherwise it is recorded"; "Both lists keep pick order"
+    -- "`take` first drops watchtower records whose end is not above now; then a pick is refused if held by anybody, spent, or taken earlier in the call;
+    -- otherwise it is recorded"; "Both lists keep pick order"
     (takes two_held (point_list (C ∷ A ∷ B ∷ A ∷ [])) (of1 C) (Taker.Funding 1) (ms 1000) (room 40) (room 112)
     gives (fine (funding 7 B ∷ funding 1 A ∷ []), of1 A, point_list (C ∷ B ∷ A ∷ [])))
-    ∷ (takes two_held (of2 A C) none (Taker.Funding 1) (ms 999) (room 41) (room 41) gives (fine (tower 1000 A ∷ funding 7 B ∷ funding 1 C ∷ []), of1 C ++ room 1, of1 A ++ room 1))
+    ∷ (takes two_held (of2 A C) none (Taker.Funding 1) (ms 999) (room 41) (room 41)
+    gives (fine (tower 1000 A ∷ funding 7 B ∷ funding 1 C ∷ []), of1 C ++ room 1, of1 A ++ room 1))
     -- held by the watchtower at 1,000: busy at 1,800,999, free at 1,801,000
     ∷ (takes (tower 1801000 A ∷ []) (of1 A) none (Taker.Funding 7) (ms 1800999) (room 4) (room 40) gives (fine (tower 1801000 A ∷ []), none, of1 A))
     ∷ (takes (tower 1801000 A ∷ []) (of1 A) none (Taker.Funding 7) (ms 1801000) (room 40) (room 4) gives (fine (funding 7 A ∷ []), of1 A, none))
@@ -136,7 +141,8 @@ taking =
     ∷ (takes (tower 1850000 A ∷ []) (of1 A) none Taker.Watchtower (ms 1849999) (room 4) (room 40) gives (fine (tower 1850000 A ∷ []), none, of1 A))
     ∷ (takes (tower 1850000 A ∷ []) (of1 A) none (Taker.Funding 7) (ms 1850000) (room 40) (room 4) gives (fine (funding 7 A ∷ []), of1 A, none))
     -- free A, B; pick A, A, B: taken A, B; refused A
-    ∷ (takes [] (point_list (A ∷ A ∷ B ∷ [])) none Taker.Watchtower (ms 1000) (room 76) (room 40) gives (fine (tower 61000 A ∷ tower 61000 B ∷ []), of2 A B, of1 A))
+    ∷ (takes [] (point_list (A ∷ A ∷ B ∷ [])) none Taker.Watchtower (ms 1000) (room 76) (room 40)
+    gives (fine (tower 61000 A ∷ tower 61000 B ∷ []), of2 A B, of1 A))
     -- "for the watchtower until now + 60,000 (capped)"
     ∷ (takes [] (of1 A) none Taker.Watchtower (ms 1000) (room 40) (room 4) gives (fine (tower 61000 A ∷ []), of1 A, none))
     ∷ (takes [] (of1 A) none Taker.Watchtower (ms (2 ^ 64 - 60000)) (room 40) (room 4) gives (fine (tower (2 ^ 64 - 1) A ∷ []), of1 A, none))

@@ -1,5 +1,5 @@
--- The calls on a lent table of holds worked through, from the definitions of their contracts (crates/held_bytes/specs/Calls.antt): for each call an example of each answer that it has, with the whole
--- bytes of the table and of the buffers after it. proofs/KnownLentHolds.antt proves all rows.
+-- The calls on a lent table of holds worked through, from the definitions of their contracts (crates/held_bytes/specs/Calls.antt): for each call an example of
+-- each answer that it has, with the whole bytes of the table and of the buffers after it. proofs/KnownLentHolds.antt proves all rows.
 use Rattle.std.specs.Prelude.{ℕ, ◌-◌, ◌*◌, length, replicate}
 use mathlib.Core.List.{List, [], ◌∷◌, ◌++◌, flatten}
 use Rattle.arithmetic.specs.LittleEndian.{to_le}
@@ -117,7 +117,8 @@ abbrev pub watched : List (Row (Outcome (List Hold) × List ℕ))
 watched =
     -- a new record goes last, a renewed one keeps its place, and its kind is then the named one
     (watch empty (of1 A) 1000 gives (fine (tower 1801000 A ∷ []), table 1 (tower_place 1801000 A ∷ [])))
-    ∷ (watch two (of2 C A) 1000 gives (fine (tower 1801000 A ∷ funding 7 B ∷ tower 1801000 C ∷ []), table 3 (tower_place 1801000 A ∷ funding_place 7 B ∷ tower_place 1801000 C ∷ [])))
+    ∷ (watch two (of2 C A) 1000
+    gives (fine (tower 1801000 A ∷ funding 7 B ∷ tower 1801000 C ∷ []), table 3 (tower_place 1801000 A ∷ funding_place 7 B ∷ tower_place 1801000 C ∷ [])))
     ∷ (watch odd (of1 A) 1000 gives (fine (tower 1801000 A ∷ []), table 1 (tower_place 1801000 A ∷ [])))
     -- 3, bytes of another length, or the list
     ∷ (watch shorter (of1 A) 1000 gives (refused 3 [], shorter))
@@ -185,12 +186,19 @@ abbrev pub taken : List (Row ((Outcome (List Hold) × List ℕ) × List ℕ × L
 taken =
     -- the ended record goes, what is taken goes last, and both lists keep pick order
     (takes two (point_list (C ∷ A ∷ B ∷ A ∷ [])) (of1 C) (Taker.Funding 1) 1000 (room 41) (room 113)
-    gives ((fine (funding 7 B ∷ funding 1 A ∷ []), table 2 (funding_place 7 B ∷ funding_place 1 A ∷ [])), of1 A ++ room 1, point_list (C ∷ B ∷ A ∷ []) ++ room 1))
+    gives (
+      (fine (funding 7 B ∷ funding 1 A ∷ []), table 2 (funding_place 7 B ∷ funding_place 1 A ∷ [])),
+      of1 A ++ room 1,
+      point_list (C ∷ B ∷ A ∷ [])
+          ++ room 1,
+    ))
     ∷ (takes empty (of1 A) none Taker.Watchtower 1000 (room 40) (room 4) gives ((fine (tower 61000 A ∷ []), table 1 (tower_place 61000 A ∷ [])), of1 A, none))
     -- nothing taken: the table is written all the same, with no ended record
-    ∷ (takes two (of1 B) none Taker.Watchtower 1000 (room 4) (room 40) gives ((fine (funding 7 B ∷ []), table 1 (funding_place 7 B ∷ funding_place 7 B ∷ [])), none, of1 B))
+    ∷ (takes two (of1 B) none Taker.Watchtower 1000 (room 4) (room 40)
+    gives ((fine (funding 7 B ∷ []), table 1 (funding_place 7 B ∷ funding_place 7 B ∷ [])), none, of1 B))
     -- 256 records pass, one more is 14
-    ∷ (takes (zeros 255) (of1 A) none (Taker.Funding 1) 1000 (room 40) (room 4) gives ((fine (of_zeros 255 ++ (funding 1 A ∷ [])), to_le 4 256 ++ replicate 12240 0 ++ funding_place 1 A), of1 A, none))
+    ∷ (takes (zeros 255) (of1 A) none (Taker.Funding 1) 1000 (room 40) (room 4)
+    gives ((fine (of_zeros 255 ++ (funding 1 A ∷ [])), to_le 4 256 ++ replicate 12240 0 ++ funding_place 1 A), of1 A, none))
     ∷ (takes (zeros 255) (of2 A B) none (Taker.Funding 1) 1000 (room 76) (room 4) gives ((refused 14 [], zeros 255), room 76, room 4))
     ∷ (takes (zeros 257) (of1 A) none (Taker.Funding 1) 1000 (room 40) (room 4) gives ((refused 14 [], zeros 257), room 40, room 4))
     -- 13, no room for the taken ones, or for the refused ones: the ended record stays

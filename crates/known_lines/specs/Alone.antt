@@ -7,7 +7,8 @@ use Rattle.transaction.specs.Ckb.{CellOutput, Records}
 use Rattle.rules.specs.Judge.{Call}
 use Rattle.rules.specs.Lines.{failing}
 use Rattle.known_lines.specs.Lines.{lines}
-use Rattle.known_cases.specs.Cases.{expected_lock, our_lock, token_type, input, dep, header, inputs, output, plain, token, amount, spending, usual, of_version, with_deps, with_headers, with_inputs, holding, crowd, cell, not_live, offer, Case, untyped, typed}
+use Rattle.known_cases.specs.Cases.{expected_lock, our_lock, token_type, input, dep, header, inputs, output, plain, token, amount, spending, usual, of_version}
+use Rattle.known_cases.specs.Cases.{with_deps, with_headers, with_inputs, holding, crowd, cell, not_live, offer, Case, untyped, typed}
 
 -- a case, the lines that fail in it, and the answer
 pub record Row : Type 0 where
@@ -64,13 +65,16 @@ comparison =
     ∷ alone "a header dep differs" (5 ∷ []) (untyped (with_headers (header 0 ∷ [])) (offer (with_headers (header 1 ∷ [])) []))
     ∷ alone "fewer inputs" (5 ∷ []) (untyped (with_inputs (inputs 2)) (offer (with_inputs (inputs 1)) []))
     ∷ alone "an input differs" (5 ∷ []) (untyped (with_inputs (input 0 ∷ [])) (offer (with_inputs (input 1 ∷ [])) []))
-    ∷ alone "fewer outputs" (5 ∷ []) (untyped (with_outputs (plain 100 ∷ plain 7 ∷ []) ([] ∷ [] ∷ [])) (offer (with_outputs (plain 100 ∷ []) ([] ∷ [] ∷ [])) []))
+    ∷ alone "fewer outputs" (5 ∷ []) (untyped (with_outputs (plain 100 ∷ plain 7 ∷ []) ([] ∷ [] ∷ []))
+    (offer (with_outputs (plain 100 ∷ []) ([] ∷ [] ∷ [])) []))
     ∷ alone "output 0's lock not as expected" (5 ∷ []) (untyped usual (offer (with_outputs (output 3 none 100 ∷ []) ([] ∷ [])) []))
     ∷ alone "output 0's type not as expected" (5 ∷ []) (untyped usual (offer (with_outputs (token 100 ∷ []) ([] ∷ [])) []))
     ∷ alone "output 0 untyped with data" (5 ∷ []) (untyped usual (offer (with_outputs (plain 100 ∷ []) ((1 ∷ []) ∷ [])) []))
-    ∷ alone "an output after 0 differs" (5 ∷ []) (untyped (with_outputs (plain 100 ∷ plain 7 ∷ []) ([] ∷ [] ∷ [])) (offer (with_outputs (plain 100 ∷ plain 8 ∷ []) ([] ∷ [] ∷ [])) []))
+    ∷ alone "an output after 0 differs" (5 ∷ []) (untyped (with_outputs (plain 100 ∷ plain 7 ∷ []) ([] ∷ [] ∷ []))
+    (offer (with_outputs (plain 100 ∷ plain 8 ∷ []) ([] ∷ [] ∷ [])) []))
     ∷ alone "fewer data entries" (5 ∷ []) (untyped (with_outputs (plain 100 ∷ []) ([] ∷ [] ∷ [])) (offer (with_outputs (plain 100 ∷ []) ([] ∷ [])) []))
-    ∷ alone "a data entry after 0 differs" (5 ∷ []) (untyped (with_outputs (plain 100 ∷ plain 7 ∷ []) ([] ∷ (1 ∷ []) ∷ [])) (offer (with_outputs (plain 100 ∷ plain 7 ∷ []) ([] ∷ (2 ∷ []) ∷ [])) []))
+    ∷ alone "a data entry after 0 differs" (5 ∷ []) (untyped (with_outputs (plain 100 ∷ plain 7 ∷ []) ([] ∷ (1 ∷ []) ∷ []))
+    (offer (with_outputs (plain 100 ∷ plain 7 ∷ []) ([] ∷ (2 ∷ []) ∷ [])) []))
     ∷ []
 
 abbrev pub records : List Row
@@ -95,12 +99,18 @@ contribution =
 
 abbrev pub tokens : List Row
 tokens =
-    alone "a record's amount under 16 bytes" (5 ∷ []) (typed (holding 5) (offer (spending (inputs 2) (token 100 ∷ []) (amount 5 ∷ [])) (cell (token 7) [] ∷ [])))
-    ∷ alone "the records' total 2^128 or more" (7 ∷ []) (typed (holding 5) (offer (spending (inputs 3) (token 100 ∷ []) (amount 5 ∷ [])) (cell (token 7) (amount (2 ^ 128 - 1)) ∷ cell (token 7) (amount 1) ∷ [])))
-    ∷ alone "an added output's amount under 16 bytes" (5 ∷ []) (typed (holding 5) (offer (spending (inputs 2) (token 100 ∷ token 7 ∷ []) (amount 5 ∷ [] ∷ [])) (cell (plain 7) [] ∷ [])))
+    alone "a record's amount under 16 bytes" (5 ∷ []) (typed (holding 5)
+    (offer (spending (inputs 2) (token 100 ∷ []) (amount 5 ∷ [])) (cell (token 7) [] ∷ [])))
+    ∷ alone "the records' total 2^128 or more" (7 ∷ []) (typed (holding 5)
+    (offer (spending (inputs 3) (token 100 ∷ []) (amount 5 ∷ [])) (cell (token 7) (amount (2 ^ 128 - 1)) ∷ cell (token 7) (amount 1) ∷ [])))
+    ∷ alone "an added output's amount under 16 bytes" (5 ∷ []) (typed (holding 5)
+    (offer (spending (inputs 2) (token 100 ∷ token 7 ∷ []) (amount 5 ∷ [] ∷ [])) (cell (plain 7) [] ∷ [])))
     -- growth plus outputs is no less than the outputs, and records that pass their own line come to less than 2^128
-    ∷ together ("the added outputs' total 2^128 or more" ∷ "growth plus outputs 2^128 or more" ∷ "token inputs below growth plus outputs" ∷ []) (7 ∷ []) (typed (holding 5) (offer (spending (inputs 2) (token 100 ∷ token 7 ∷ token 7 ∷ []) (amount 5 ∷ amount (2 ^ 128 - 1) ∷ amount 1 ∷ [])) (cell (plain 14) [] ∷ [])))
-    ∷ together ("growth plus outputs 2^128 or more" ∷ "token inputs below growth plus outputs" ∷ []) (7 ∷ []) (typed (holding 5) (offer (spending (inputs 2) (token 100 ∷ token 7 ∷ []) (amount 6 ∷ amount (2 ^ 128 - 1) ∷ [])) (cell (plain 7) [] ∷ [])))
+    ∷ together ("the added outputs' total 2^128 or more" ∷ "growth plus outputs 2^128 or more" ∷ "token inputs below growth plus outputs" ∷ []) (7
+    ∷ []) (typed (holding 5) (offer (spending (inputs 2) (token 100 ∷ token 7 ∷ token 7 ∷ []) (amount 5 ∷ amount (2 ^ 128 - 1) ∷ amount 1 ∷ []))
+    (cell (plain 14) [] ∷ [])))
+    ∷ together ("growth plus outputs 2^128 or more" ∷ "token inputs below growth plus outputs" ∷ []) (7 ∷ []) (typed (holding 5)
+    (offer (spending (inputs 2) (token 100 ∷ token 7 ∷ []) (amount 6 ∷ amount (2 ^ 128 - 1) ∷ [])) (cell (plain 7) [] ∷ [])))
     ∷ alone "token inputs below growth plus outputs" (5 ∷ []) (typed (holding 5) (offer (holding 6) []))
     ∷ []
 

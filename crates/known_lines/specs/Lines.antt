@@ -1,5 +1,5 @@
--- The lines of an update, in the order of the rules' table (crates/rules/specs/Judge.antt), and what an update that passes them all carries. proofs/LinesLaw.antt
--- proves that `judge` refuses with the first line that fails, and accepts with these surpluses where none does.
+-- The lines of an update, in the order of the rules' table (crates/rules/specs/Judge.antt), and what an update that passes them all carries.
+-- proofs/LinesLaw.antt proves that `judge` refuses with the first line that fails, and accepts with these surpluses where none does.
 use Rattle.std.specs.Prelude.{ℕ, ◌+◌, ◌-◌, cond, List}
 use Rattle.units.specs.Units.{Figures}
 use Rattle.lists.specs.Lists.{is_empty}

@@ -8,7 +8,9 @@ use Rattle.molecule.specs.Molecule.{Value, option, encode}
 use Rattle.transaction.specs.Ckb.{CellOutput, Record, Records}
 use Rattle.rules.specs.Judge.{Call}
 use Rattle.known_cases.specs.Rows.{Row, ◌gives◌}
-use Rattle.known_cases.specs.Cases.{plain_script, expected_lock, our_lock, input, inputs, dep, deps, header, output, plain, token, amount, transaction, spending, bare, usual, of_version, with_deps, with_headers, with_inputs, holding, cell, not_live, offer, Case, untyped, typed, answer}
+use Rattle.known_cases.specs.Cases.{plain_script, expected_lock, our_lock, input, inputs, dep, deps, header, output, plain, token, amount, transaction}
+use Rattle.known_cases.specs.Cases.{spending, bare, usual, of_version, with_deps, with_headers, with_inputs, holding, cell, not_live, offer, Case, untyped}
+use Rattle.known_cases.specs.Cases.{typed, answer}
 
 -- ---- transactions
 
@@ -32,7 +34,12 @@ four_fields = join (replicate 32 1 ∷ (0 ∷ []) ∷ to_le 4 0 ∷ [] ∷ [])
 
 -- ours and the peer's under a lock, a type and a source lock, no record
 abbrev under : List ℕ → List ℕ → List ℕ → List ℕ → List ℕ → Case
-under lock type source ours peer = record { lock = lock; type = type; ours = ours; call = record { peer = peer; records = encode Records []; source = source; rate = 1000 } }
+under lock type source ours peer = record {
+  lock = lock;
+  type = type;
+  ours = ours;
+  call = record { peer = peer; records = encode Records []; source = source; rate = 1000 };
+}
 
 abbrev scriptless : List ℕ → List ℕ → Case
 scriptless = under unreadable unreadable unreadable
@@ -40,7 +47,8 @@ scriptless = under unreadable unreadable unreadable
 -- ours and the peer's differ in what is compared last, a data entry after 0, and the peer's has an input more; any bytes as records
 abbrev differing : List ℕ → Case
 differing records =
-    untyped (spending [] (plain 100 ∷ []) ([] ∷ (1 ∷ []) ∷ [])) (record { peer = spending (inputs 1) (plain 100 ∷ []) ([] ∷ (2 ∷ []) ∷ []); records = records; source = our_lock; rate = 1000 })
+    untyped (spending [] (plain 100 ∷ []) ([] ∷ (1 ∷ [])
+    ∷ [])) (record { peer = spending (inputs 1) (plain 100 ∷ []) ([] ∷ (2 ∷ []) ∷ []); records = records; source = our_lock; rate = 1000 })
 
 -- 9 cell deps are added, and every line of the comparison fails but the one on fewer cell deps
 abbrev alien : Case
@@ -95,8 +103,10 @@ comparison =
     -- three outputs and their entries stay; not 5, as if they were compared with those one place on
     ∷ (answer (untyped (with_third 7 (1 ∷ [])) (offer (with_third 7 (1 ∷ [])) [])) gives 0 ∷ 0 ∷ 0 ∷ [])
     -- more entries than outputs, or fewer, that stay; not 5, as if outputs were counted against entries
-    ∷ (answer (untyped (spending (inputs 1) (plain 100 ∷ []) ([] ∷ [] ∷ [])) (offer (spending (inputs 1) (plain 100 ∷ []) ([] ∷ [] ∷ [])) [])) gives 0 ∷ 0 ∷ 0 ∷ [])
-    ∷ (answer (untyped (spending (inputs 1) (plain 100 ∷ plain 7 ∷ []) ([] ∷ [])) (offer (spending (inputs 1) (plain 100 ∷ plain 7 ∷ []) ([] ∷ [])) [])) gives 0 ∷ 0 ∷ 0 ∷ [])
+    ∷ (answer (untyped (spending (inputs 1) (plain 100 ∷ []) ([] ∷ [] ∷ []))
+    (offer (spending (inputs 1) (plain 100 ∷ []) ([] ∷ [] ∷ [])) [])) gives 0 ∷ 0 ∷ 0 ∷ [])
+    ∷ (answer (untyped (spending (inputs 1) (plain 100 ∷ plain 7 ∷ []) ([] ∷ []))
+    (offer (spending (inputs 1) (plain 100 ∷ plain 7 ∷ []) ([] ∷ [])) [])) gives 0 ∷ 0 ∷ 0 ∷ [])
     -- from none, output 0 under another lock, of a type, or untyped with data; not accepted, as if output 0 were looked at only where ours has one
     ∷ (answer (untyped [] (opening (output 3 none 100) [])) gives 5 ∷ [])
     ∷ (answer (untyped [] (opening (token 100) [])) gives 5 ∷ [])
@@ -118,7 +128,8 @@ amounts =
     -- 15 bytes; not accepted, as if they were enough
     ∷ (answer (typed [] (offer (spending (inputs 1) (token 100 ∷ []) (to_le 15 5 ∷ [])) (cell (token 1000) (amount 5) ∷ []))) gives 5 ∷ [])
     -- 2^128 - 1 come in, for a growth of 1 and an output of 2^128 - 2; not 7, as if less than 2^128 were too much
-    ∷ (answer (typed (holding 5) (offer (spending (inputs 2) (token 100 ∷ token 7 ∷ []) (amount 6 ∷ amount (2 ^ 128 - 2) ∷ [])) (cell (token 7) (amount (2 ^ 128 - 1)) ∷ []))) gives 0 ∷ 0 ∷ 0 ∷ [])
+    ∷ (answer (typed (holding 5) (offer (spending (inputs 2) (token 100 ∷ token 7 ∷ []) (amount 6 ∷ amount (2 ^ 128 - 2) ∷ []))
+    (cell (token 7) (amount (2 ^ 128 - 1)) ∷ []))) gives 0 ∷ 0 ∷ 0 ∷ [])
     -- ours has an input and no outputs, or no outputs and a short entry; not 5, as if our amount were read by inputs, or by entries
     ∷ (answer (typed (bare 1) (offer (spending (inputs 2) (token 100 ∷ []) (amount 5 ∷ [])) (cell (token 100) (amount 5) ∷ []))) gives 0 ∷ 0 ∷ 0 ∷ [])
     ∷ (answer (typed (spending [] [] ((1 ∷ []) ∷ [])) (offer (holding 5) (cell (token 1000) (amount 7) ∷ []))) gives 0 ∷ 900 ∷ 2 ∷ [])
@@ -168,11 +179,18 @@ order =
     -- one for two, under our lock; not 6
     ∷ (answer (untyped [] (offer (bare 2) (from_our_lock ∷ []))) gives 3 ∷ [])
     -- a record under our lock, and then one that is unreadable; not 6
-    ∷ (answer (untyped usual (record { peer = spending (inputs 3) (plain 100 ∷ []) ([] ∷ []); records = join (encode (option Record) from_our_lock ∷ unreadable ∷ []); source = our_lock; rate = 1000 })) gives 3 ∷ [])
+    ∷ (answer (untyped usual (record {
+      peer = spending (inputs 3) (plain 100 ∷ []) ([] ∷ []);
+      records = join (encode (option Record) from_our_lock
+          ∷ unreadable ∷ []);
+      source = our_lock;
+      rate = 1000;
+    })) gives 3 ∷ [])
     -- a token record with data under 16 bytes, and then one under our lock; not 5
     ∷ (answer (typed (holding 5) (offer (spending (inputs 3) (token 100 ∷ []) (amount 5 ∷ [])) (cell (token 50) [] ∷ from_our_lock ∷ []))) gives 6 ∷ 2 ∷ [])
     -- token records of 2^128 - 1 and 1, and then one that is not live; not 7
-    ∷ (answer (typed (holding 5) (offer (spending (inputs 4) (token 100 ∷ []) (amount 5 ∷ [])) (cell (token 50) (amount (2 ^ 128 - 1)) ∷ cell (token 50) (amount 1) ∷ not_live ∷ []))) gives 5 ∷ [])
+    ∷ (answer (typed (holding 5) (offer (spending (inputs 4) (token 100 ∷ []) (amount 5 ∷ []))
+    (cell (token 50) (amount (2 ^ 128 - 1)) ∷ cell (token 50) (amount 1) ∷ not_live ∷ []))) gives 5 ∷ [])
     -- a record under our lock, and output 0 missing; not 5
     ∷ (answer (untyped [] (offer (bare 1) (from_our_lock ∷ []))) gives 6 ∷ 0 ∷ [])
     -- output 0 missing, and no fee paid; not 8
@@ -182,11 +200,14 @@ order =
     -- 99 come in for an output of 100; not 8 with nothing paid
     ∷ (answer (untyped [] (offer usual (cell (plain 99) [] ∷ []))) gives 5 ∷ [])
     -- no fee paid, and token records of 2^128 - 1 and 1; not 7
-    ∷ (answer (typed [] (offer (spending (inputs 2) (token 100 ∷ []) (amount 5 ∷ [])) (cell (token 50) (amount (2 ^ 128 - 1)) ∷ cell (token 50) (amount 1) ∷ []))) gives 8 ∷ 0 ∷ 318 ∷ 1000 ∷ 318 ∷ [])
+    ∷ (answer (typed [] (offer (spending (inputs 2) (token 100 ∷ []) (amount 5 ∷ []))
+    (cell (token 50) (amount (2 ^ 128 - 1)) ∷ cell (token 50) (amount 1) ∷ []))) gives 8 ∷ 0 ∷ 318 ∷ 1000 ∷ 318 ∷ [])
     -- 99 come in for an output that grows by 100, and token records of 2^128 - 1 and 1; not 7
-    ∷ (answer (typed (holding 5) (offer (spending (inputs 3) (token 200 ∷ []) (amount 5 ∷ [])) (cell (token 50) (amount (2 ^ 128 - 1)) ∷ cell (token 49) (amount 1) ∷ []))) gives 5 ∷ [])
+    ∷ (answer (typed (holding 5) (offer (spending (inputs 3) (token 200 ∷ []) (amount 5 ∷ []))
+    (cell (token 50) (amount (2 ^ 128 - 1)) ∷ cell (token 49) (amount 1) ∷ []))) gives 5 ∷ [])
     -- a growth of 2^128 - 1, and outputs of 1 and of an amount under 16 bytes; not 7, as if the outputs' total began with the growth
-    ∷ (answer (typed (holding 0) (offer (spending (inputs 2) (token 100 ∷ token 1 ∷ token 1 ∷ []) (amount (2 ^ 128 - 1) ∷ amount 1 ∷ [] ∷ [])) (cell (plain 2) [] ∷ []))) gives 5 ∷ [])
+    ∷ (answer (typed (holding 0) (offer (spending (inputs 2) (token 100 ∷ token 1 ∷ token 1 ∷ []) (amount (2 ^ 128 - 1) ∷ amount 1 ∷ [] ∷ []))
+    (cell (plain 2) [] ∷ []))) gives 5 ∷ [])
     ∷ []
 
 abbrev pub orders : List (Row (List ℕ))

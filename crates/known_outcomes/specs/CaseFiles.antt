@@ -31,7 +31,8 @@ record_items (some r) = item 7 (encode CellOutput r.0) ++ item 8 r.1.0
 -- ours and the type may be empty: none
 abbrev pub file_at : ℕ → List ℕ → List ℕ → List ℕ → List (Value (option Record)) → List ℕ
 file_at rate ours type peer records =
-    item_if_any 1 ours ++ item 2 peer ++ item 3 expected_lock ++ item_if_any 4 type ++ item 5 our_lock ++ item 6 (to_le 8 rate) ++ flatten (map record_items records)
+    item_if_any 1 ours ++ item 2 peer ++ item 3 expected_lock ++ item_if_any 4 type ++ item 5 our_lock ++ item 6 (to_le 8 rate)
+    ++ flatten (map record_items records)
 
 abbrev pub file : List ℕ → List ℕ → List ℕ → List (Value (option Record)) → List ℕ
 file = file_at 1000

@@ -20,7 +20,8 @@ use Rattle.case_file.specs.CaseFile.{case_line}
 use Rattle.known_outcomes.specs.CaseFiles.{ascii, file, file_at, first_file}
 use Rattle.known_exclusions.specs.Exclusions.{listed, excluded_by}
 use Rattle.known_cases.specs.Rows.{Row, ◌gives◌}
-use Rattle.known_cases.specs.Cases.{plain_script, expected_lock, our_lock, token_type, inputs, output, plain, token, amount, ms, point, spending, with_inputs, crowd, cell, not_live, at_rate, offer, untyped, numbers, answer}
+use Rattle.known_cases.specs.Cases.{plain_script, expected_lock, our_lock, token_type, inputs, output, plain, token, amount, ms, point, spending, with_inputs}
+use Rattle.known_cases.specs.Cases.{crowd, cell, not_live, at_rate, offer, untyped, numbers, answer}
 
 abbrev bytes : List ℕ → List ℕ
 bytes s = length s ∷ []
@@ -66,7 +67,8 @@ held_after o = leaves o (λ l. l) []
 
 -- what is unavailable of A at a time, which the watchtower got at 1,000
 abbrev busy_at : ℕ → List ℕ
-busy_at time = listed (after_list (unavailable (held_after (hold_for_watchtower [] (point_list (point 1 ∷ [])) (ms 1000))) (point_list (point 1 ∷ [])) (point_list []) (ms time)) (room 1))
+busy_at time = listed (after_list (unavailable (held_after (hold_for_watchtower [] (point_list (point 1 ∷ [])) (ms 1000))) (point_list (point 1
+    ∷ [])) (point_list []) (ms time)) (room 1))
 
 -- A, A, B picked from an empty table
 abbrev picked_aab : Outcome (List Hold) × List ℕ × List ℕ

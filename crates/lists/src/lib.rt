@@ -21,8 +21,8 @@ const TWO_BLOCKS: usize = 128;
 
 const LONG_BLOCK: usize = 512;
 
-// Whether the N bytes from `at` on are the same. How often the loop runs is known, and it has no early exit, so that it is compiled to wide comparisons; `==` on
-// the two parts is slower.
+// Whether the N bytes from `at` on are the same. How often the loop runs is known, and it has no early exit, so that it is compiled to wide comparisons; `==`
+// on the two parts is slower.
 fn same_block<const N: usize>(a: &[u8], b: &[u8], at: usize) -> bool
     requires at_in_bounds { at + N ≤ length a.now }
     requires at_in_bounds_2 { at + N ≤ length b.now }
@@ -101,7 +101,8 @@ fn items_stand<'a, F: Fn(&'a [u8], usize) -> &'a [u8]>(
     item: F,
 ) -> bool
     requires { F.IsAlwaysCallable item }
-    ensures { (at : List ℕ → ℕ → List ℕ) → ((s : _) (i : ℕ) (x : _) → F.post item s i x → x.now ≡ at s.now i) → result ≡ extends (drop first (span (at a.now) 0 (item_count a.now))) (drop first (span (at b.now) 0 (item_count b.now))) }
+    ensures { (at : List ℕ → ℕ → List ℕ) → ((s : _) (i : ℕ) (x : _) → F.post item s i x → x.now ≡ at s.now i) → result
+        ≡ extends (drop first (span (at a.now) 0 (item_count a.now))) (drop first (span (at b.now) 0 (item_count b.now))) }
 {
     let m = molecule::item_count(a) as usize;
     let n = molecule::item_count(b) as usize;

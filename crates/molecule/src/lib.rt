@@ -8,7 +8,8 @@ pub mod write;
 
 ghost use Rattle.std.specs.Prelude.{◌≡◌, ◌+◌, min, Bool, length};
 ghost use Rattle.molecule.specs.Molecule.{Ty, readable, fixvec, dynvec, array, byte, table, option, end, ◌&◌};
-ghost use Rattle.molecule.specs.Layout.{part, part_start, inside, word, start, has_header, has_items, field_of, field_start, item_count, item_of, item_start, fix_count, fix_item, fix_start, content, content_start, entry_of, entry_start};
+ghost use Rattle.molecule.specs.Layout.{part, part_start, inside, word, start, has_header, has_items, field_of, field_start, item_count, item_of, item_start};
+ghost use Rattle.molecule.specs.Layout.{fix_count, fix_item, fix_start, content, content_start, entry_of, entry_start};
 
 use arithmetic::little_endian;
 
@@ -47,8 +48,8 @@ pub fn has_header(s: &[u8], n: usize) -> bool
     n < s.len() / 4 && word(s, 0) as usize == s.len() && start(s, n, 0) == 4 + 4 * n
 }
 
-// Whether s is a header and n items without gaps: a table of n fields, or a dynvec of n items. (`is_dynvec_of` goes over items and tests each as it comes: one walk
-// for both would test twice.)
+// Whether s is a header and n items without gaps: a table of n fields, or a dynvec of n items. (`is_dynvec_of` goes over items and tests each as it comes: one
+// walk for both would test twice.)
 pub fn has_items(s: &[u8], n: usize) -> bool
     ensures { result ≡ has_items s.now n }
 {

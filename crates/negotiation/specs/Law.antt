@@ -26,7 +26,8 @@ answers_in zero ws = []
 answers_in (suc n) ws = answer_in ws ∷ answers_in n (drop 5 ws)
 
 module _ (lock udt start updates before : List ℕ) where
-  -- A call of `replay`: what its contract (src/lib.rt) says of its arguments and result, word for word; `before` and `after` is what the lent words are before the call and after it.
+  -- A call of `replay`: what its contract (src/lib.rt) says of its arguments and result, word for word; `before` and `after` is what the lent words are before
+  -- the call and after it.
   abbrev pub Called : Replayed → List ℕ → Type 0
   Called r after = (told_replay r, after) ≡ after_replay (replay_of lock udt start updates (length before)) before
 
@@ -42,6 +43,7 @@ module _ (lock udt start updates before : List ℕ) where
         (forces (update_for_peer lock udt) start (calls_of updates)) (transaction_at start updates at)
     -- so many of the answers in the words are acceptances, and their surpluses in the words have the law too
     pub acceptances : accepted ≡ accepted_of (answers_in n after)
-    pub exact : All (λ f. Exact (update_for_peer lock udt) f.measure f.pick start (calls_of updates) (answers_in n after) (transaction_at start updates at)) (two_figures udt)
+    pub exact : All (λ f. Exact (update_for_peer lock udt) f.measure f.pick start (calls_of updates) (answers_in n after) (transaction_at start updates at))
+        (two_figures udt)
     -- the words beyond those of the n answers keep their value
     pub beyond : drop (5 * n) after ≡ drop (5 * n) before

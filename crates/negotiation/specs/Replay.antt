@@ -1,5 +1,5 @@
--- A list of updates judged one after another, each against the transaction that the one before it left in force (docs/RULES.md, "The three demands", 3): what `replay`
--- answers, and what it leaves in the lent buffer (ours: docs/DECISIONS.md, "Lists of updates").
+-- A list of updates judged one after another, each against the transaction that the one before it left in force (docs/RULES.md, "The three demands", 3): what
+-- `replay` answers, and what it leaves in the lent buffer (ours: docs/DECISIONS.md, "Lists of updates").
 use Rattle.std.specs.Prelude.{ℕ, ◌+◌, ◌*◌, List, [], ◌∷◌, ◌++◌, length, drop, leb, Result}
 use Rattle.molecule.specs.Molecule.{readable}
 use Rattle.molecule.specs.Layout.{item_count}

@@ -1,5 +1,5 @@
--- The list of updates that a caller lends to `replay`, and the calls that it stands for (ours: docs/DECISIONS.md, "Lists of updates"). It is a list of unsized items as in
--- docs/RULES.md, "The bytes underneath".
+-- The list of updates that a caller lends to `replay`, and the calls that it stands for (ours: docs/DECISIONS.md, "Lists of updates"). It is a list of unsized
+-- items as in docs/RULES.md, "The bytes underneath".
 use Rattle.std.specs.Prelude.{ℕ, zero, suc, ◌+◌, List}
 use Rattle.arithmetic.specs.LittleEndian.{u64_at}
 use Rattle.molecule.specs.Molecule.{Ty, table, dynvec, end, ◌&◌}

@@ -119,7 +119,8 @@ impl Negotiation<'_> {
     // update's own bytes.
     fn judge_at(self, known: bool, at: usize, i: usize) -> Update
         requires { known ≡ readable (option Transaction) (transaction_at self.start.now self.updates.now at) }
-        ensures { told result ≡ judge self.entry.lock.now self.entry.udt.now (transaction_at self.entry.start.now self.entry.updates.now at) (call_at self.entry.updates.now i) }
+        ensures { told result
+            ≡ judge self.entry.lock.now self.entry.udt.now (transaction_at self.entry.start.now self.entry.updates.now at) (call_at self.entry.updates.now i) }
     {
         if !known {
             return Err(Refusal::OurTransactionUnreadable);
@@ -136,7 +137,9 @@ impl Negotiation<'_> {
     // none is accepted.
     fn judge_all(self, answers: &mut [u64]) -> Summary
         requires { 5 * item_count self.updates.now ≤ length answers.old }
-        ensures { (told_replay (Ok result), answers.new) ≡ after_replay (fine (verdicts (update_for_peer self.entry.lock.now self.entry.udt.now) self.entry.start.now (calls_of self.entry.updates.now))) answers.old }
+        ensures { (told_replay (Ok result), answers.new)
+            ≡ after_replay (fine (verdicts (update_for_peer self.entry.lock.now self.entry.udt.now) self.entry.start.now (calls_of self.entry.updates.now)))
+            answers.old }
     {
         let n = molecule::item_count(self.updates) as usize;
         let known = transaction::is_optional_transaction(self.start);
@@ -159,7 +162,8 @@ impl Negotiation<'_> {
     // `answers` from 5 k on are its number (0: accepted) and its values, or the halves of its surpluses. Refused, before any update is judged: 3 where
     // `updates` is no list of updates, 13 where `answers` has fewer than five words for each.
     pub fn replay(self, answers: &mut [u64]) -> Replayed
-        ensures { (told_replay result, answers.new) ≡ after_replay (replay_of self.entry.lock.now self.entry.udt.now self.entry.start.now self.entry.updates.now (length answers.old)) answers.old }
+        ensures { (told_replay result, answers.new)
+            ≡ after_replay (replay_of self.entry.lock.now self.entry.udt.now self.entry.start.now self.entry.updates.now (length answers.old)) answers.old }
     {
         if !is_updates(self.updates) {
             return Err(Refusal::LentBytesUnreadable);

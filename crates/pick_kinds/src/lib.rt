@@ -1,5 +1,5 @@
-// What each pick is to the calls on holds: a repeat of an earlier pick, or the first on its cell, and then free or busy. The picks are indexed, and the cells that
-// are held and those that are spent go through the index once, so that the time goes by (picks + held + spent) log picks comparisons whatever the bytes.
+// What each pick is to the calls on holds: a repeat of an earlier pick, or the first on its cell, and then free or busy. The picks are indexed, and the cells
+// that are held and those that are spent go through the index once, so that the time goes by (picks + held + spent) log picks comparisons whatever the bytes.
 #![tactic(auto, using(crate::proofs::Ways::ways))]
 
 ghost use Rattle.std.specs.Prelude.{◌≡◌, true, ◌≤◌, ◌<◌, min, length};
@@ -147,8 +147,8 @@ impl<'a> Picks<'a> {
         molecule::fix_count(self.picked).min(MOST_PICKS as u32)
     }
 
-    // Puts what each pick is, and answers for how many picks it does so: for the first 7,394, and for none where kinds is too short or a list ends before its items
-    // do.
+    // Puts what each pick is, and answers for how many picks it does so: for the first 7,394, and for none where kinds is too short or a list ends before its
+    // items do.
     pub fn sort_out(self, kinds: &mut [Kind]) -> usize
         ensures { KindsOf self.entry result kinds.new }
     {

@@ -1,4 +1,5 @@
--- Readers (docs/RULES.md, "The bytes underneath": "A reader holds the transaction's bytes and a field's start"): the bytes that they hold, and the place in them.
+-- Readers (docs/RULES.md, "The bytes underneath": "A reader holds the transaction's bytes and a field's start"): the bytes that they hold, and the place in
+-- them.
 use Rattle.std.specs.Prelude.{ℕ, List}
 use Rattle.std.specs.Borrow.{Bor}
 use Rattle.reader.specs.Places.{field_at}

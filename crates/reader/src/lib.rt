@@ -1,4 +1,5 @@
-// A reader holds a transaction's bytes and a field's start. It is moved from a table to one of its fields, and what it hands back is a stretch of the bytes lent.
+// A reader holds a transaction's bytes and a field's start. It is moved from a table to one of its fields, and what it hands back is a stretch of the bytes
+// lent.
 #![tactic(auto, using(crate::proofs::Ways::ways), unfolding(crate::specs::Places::table_at, crate::specs::Places::table_start, crate::specs::Places::fixvec_at, crate::specs::Places::fixvec_start, crate::specs::Places::field_at))]
 
 pub mod lists;
@@ -44,7 +45,8 @@ impl<'a> Reader<'a> {
 
     // The table or dynvec where it stands.
     pub fn bytes(self) -> &'a [u8]
-        ensures { (result.now ≡ table_at self.entry.src.now self.entry.at) × (result.ref_ptr ≡ inside self.entry.src.ref_ptr (table_start self.entry.src.now self.entry.at)) }
+        ensures { (result.now ≡ table_at self.entry.src.now self.entry.at)
+            × (result.ref_ptr ≡ inside self.entry.src.ref_ptr (table_start self.entry.src.now self.entry.at)) }
     {
         places::bytes(self.src, self.at)
     }
@@ -58,21 +60,27 @@ impl<'a> Reader<'a> {
 
     // Item i of the dynvec where it stands.
     pub fn item(self, i: usize) -> &'a [u8]
-        ensures { (result.now ≡ item_of (table_at self.entry.src.now self.entry.at) i) × (result.ref_ptr ≡ inside self.entry.src.ref_ptr (table_start self.entry.src.now self.entry.at + item_start (table_at self.entry.src.now self.entry.at) i)) }
+        ensures { (result.now ≡ item_of (table_at self.entry.src.now self.entry.at) i)
+            × (result.ref_ptr ≡ inside self.entry.src.ref_ptr (table_start self.entry.src.now self.entry.at + item_start
+            (table_at self.entry.src.now self.entry.at) i)) }
     {
         places::item(self.src, self.at, i)
     }
 
     // The bytes of item i of the dynvec of fixvecs of bytes where it stands.
     pub fn entry(self, i: usize) -> &'a [u8]
-        ensures { (result.now ≡ entry_of (table_at self.entry.src.now self.entry.at) i) × (result.ref_ptr ≡ inside self.entry.src.ref_ptr (table_start self.entry.src.now self.entry.at + entry_start (table_at self.entry.src.now self.entry.at) i)) }
+        ensures { (result.now ≡ entry_of (table_at self.entry.src.now self.entry.at) i)
+            × (result.ref_ptr ≡ inside self.entry.src.ref_ptr (table_start self.entry.src.now self.entry.at + entry_start
+            (table_at self.entry.src.now self.entry.at) i)) }
     {
         places::entry(self.src, self.at, i)
     }
 
     // Item i of the fixvec of items of k bytes where it stands.
     pub fn fix_item(self, k: u32, i: usize) -> &'a [u8]
-        ensures { (result.now ≡ fix_item (fixvec_at self.entry.src.now self.entry.at k) k i) × (result.ref_ptr ≡ inside self.entry.src.ref_ptr (fixvec_start self.entry.src.now self.entry.at k + fix_start (fixvec_at self.entry.src.now self.entry.at k) k i)) }
+        ensures { (result.now ≡ fix_item (fixvec_at self.entry.src.now self.entry.at k) k i)
+            × (result.ref_ptr ≡ inside self.entry.src.ref_ptr (fixvec_start self.entry.src.now self.entry.at k + fix_start
+            (fixvec_at self.entry.src.now self.entry.at k) k i)) }
     {
         places::fix_item(self.src, self.at, k, i)
     }

@@ -1,5 +1,5 @@
-// The version and the lists of a transaction, through a reader on its bytes. Of bytes that are no transaction each function answers 0 or a part of them; of a transaction, what
-// the accessors of `transaction::fields` answer.
+// The version and the lists of a transaction, through a reader on its bytes. Of bytes that are no transaction each function answers 0 or a part of them; of a
+// transaction, what the accessors of `transaction::fields` answer.
 ghost use Rattle.std.specs.Prelude.{◌≡◌, ◌+◌};
 ghost use Rattle.arithmetic.specs.LittleEndian.{u32_at};
 ghost use Rattle.molecule.specs.Layout.{inside, item_count, item_of, item_start, fix_item, fix_start, entry_of, entry_start};
@@ -23,7 +23,8 @@ pub fn cell_dep_count(tx: &[u8]) -> u32
 
 // One of the cell deps.
 pub fn cell_dep(tx: &[u8], i: usize) -> &[u8]
-    ensures { (result.now ≡ fix_item (fixvec_at tx.now (raw_at tx.now 1) 37) 37 i) × (result.ref_ptr ≡ inside tx.entry.ref_ptr (fixvec_start tx.now (raw_at tx.now 1) 37 + fix_start (fixvec_at tx.now (raw_at tx.now 1) 37) 37 i)) }
+    ensures { (result.now ≡ fix_item (fixvec_at tx.now (raw_at tx.now 1) 37) 37 i)
+        × (result.ref_ptr ≡ inside tx.entry.ref_ptr (fixvec_start tx.now (raw_at tx.now 1) 37 + fix_start (fixvec_at tx.now (raw_at tx.now 1) 37) 37 i)) }
 {
     Reader::new(tx).field(0).field(1).fix_item(37, i)
 }
@@ -37,7 +38,8 @@ pub fn header_dep_count(tx: &[u8]) -> u32
 
 // One of the header deps.
 pub fn header_dep(tx: &[u8], i: usize) -> &[u8]
-    ensures { (result.now ≡ fix_item (fixvec_at tx.now (raw_at tx.now 2) 32) 32 i) × (result.ref_ptr ≡ inside tx.entry.ref_ptr (fixvec_start tx.now (raw_at tx.now 2) 32 + fix_start (fixvec_at tx.now (raw_at tx.now 2) 32) 32 i)) }
+    ensures { (result.now ≡ fix_item (fixvec_at tx.now (raw_at tx.now 2) 32) 32 i)
+        × (result.ref_ptr ≡ inside tx.entry.ref_ptr (fixvec_start tx.now (raw_at tx.now 2) 32 + fix_start (fixvec_at tx.now (raw_at tx.now 2) 32) 32 i)) }
 {
     Reader::new(tx).field(0).field(2).fix_item(32, i)
 }
@@ -51,7 +53,8 @@ pub fn input_count(tx: &[u8]) -> u32
 
 // One of the inputs.
 pub fn input(tx: &[u8], i: usize) -> &[u8]
-    ensures { (result.now ≡ fix_item (fixvec_at tx.now (raw_at tx.now 3) 44) 44 i) × (result.ref_ptr ≡ inside tx.entry.ref_ptr (fixvec_start tx.now (raw_at tx.now 3) 44 + fix_start (fixvec_at tx.now (raw_at tx.now 3) 44) 44 i)) }
+    ensures { (result.now ≡ fix_item (fixvec_at tx.now (raw_at tx.now 3) 44) 44 i)
+        × (result.ref_ptr ≡ inside tx.entry.ref_ptr (fixvec_start tx.now (raw_at tx.now 3) 44 + fix_start (fixvec_at tx.now (raw_at tx.now 3) 44) 44 i)) }
 {
     Reader::new(tx).field(0).field(3).fix_item(44, i)
 }
@@ -65,7 +68,8 @@ pub fn output_count(tx: &[u8]) -> u32
 
 // One of the outputs.
 pub fn output(tx: &[u8], i: usize) -> &[u8]
-    ensures { (result.now ≡ item_of (table_at tx.now (raw_at tx.now 4)) i) × (result.ref_ptr ≡ inside tx.entry.ref_ptr (table_start tx.now (raw_at tx.now 4) + item_start (table_at tx.now (raw_at tx.now 4)) i)) }
+    ensures { (result.now ≡ item_of (table_at tx.now (raw_at tx.now 4)) i)
+        × (result.ref_ptr ≡ inside tx.entry.ref_ptr (table_start tx.now (raw_at tx.now 4) + item_start (table_at tx.now (raw_at tx.now 4)) i)) }
 {
     Reader::new(tx).field(0).field(4).item(i)
 }
@@ -79,7 +83,8 @@ pub fn output_data_count(tx: &[u8]) -> u32
 
 // The data of an output; a missing entry is empty.
 pub fn output_data(tx: &[u8], i: usize) -> &[u8]
-    ensures { (result.now ≡ entry_of (table_at tx.now (raw_at tx.now 5)) i) × (result.ref_ptr ≡ inside tx.entry.ref_ptr (table_start tx.now (raw_at tx.now 5) + entry_start (table_at tx.now (raw_at tx.now 5)) i)) }
+    ensures { (result.now ≡ entry_of (table_at tx.now (raw_at tx.now 5)) i)
+        × (result.ref_ptr ≡ inside tx.entry.ref_ptr (table_start tx.now (raw_at tx.now 5) + entry_start (table_at tx.now (raw_at tx.now 5)) i)) }
 {
     Reader::new(tx).field(0).field(5).entry(i)
 }
@@ -93,7 +98,8 @@ pub fn witness_count(tx: &[u8]) -> u32
 
 // One of the witnesses.
 pub fn witness(tx: &[u8], i: usize) -> &[u8]
-    ensures { (result.now ≡ entry_of (table_at tx.now (witnesses_at tx.now)) i) × (result.ref_ptr ≡ inside tx.entry.ref_ptr (table_start tx.now (witnesses_at tx.now) + entry_start (table_at tx.now (witnesses_at tx.now)) i)) }
+    ensures { (result.now ≡ entry_of (table_at tx.now (witnesses_at tx.now)) i)
+        × (result.ref_ptr ≡ inside tx.entry.ref_ptr (table_start tx.now (witnesses_at tx.now) + entry_start (table_at tx.now (witnesses_at tx.now)) i)) }
 {
     Reader::new(tx).field(1).entry(i)
 }

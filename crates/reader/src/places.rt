@@ -1,6 +1,6 @@
 // What stands at a place of lent bytes (RFC 0008): the fields of a table, the items of a list. Each function is total: past the end a number is 0 and a part
-// is empty. A part that is handed back is a stretch of the lent bytes: the contract says which bytes, and where in the lent slice they start. They take a slice and
-// a place, and `Reader` has the two in one: docs/RULES.md, "The form each place takes", asks for functions of both beneath its methods.
+// is empty. A part that is handed back is a stretch of the lent bytes: the contract says which bytes, and where in the lent slice they start. They take a slice
+// and a place, and `Reader` has the two in one: docs/RULES.md, "The form each place takes", asks for functions of both beneath its methods.
 ghost use Rattle.std.specs.Prelude.{◌≡◌, ◌+◌, min};
 ghost use Rattle.arithmetic.specs.LittleEndian.{u32_at};
 ghost use Rattle.molecule.specs.Layout.{part, part_start, inside, item_count, item_of, item_start, fix_item, fix_start, entry_of, entry_start};
@@ -47,14 +47,16 @@ pub fn item_count(s: &[u8], at: usize) -> u32
 
 // Item i of the dynvec.
 pub fn item(s: &[u8], at: usize, i: usize) -> &[u8]
-    ensures { (result.now ≡ item_of (table_at s.now at) i) × (result.ref_ptr ≡ inside s.entry.ref_ptr (table_start s.now at + item_start (table_at s.now at) i)) }
+    ensures { (result.now ≡ item_of (table_at s.now at) i)
+        × (result.ref_ptr ≡ inside s.entry.ref_ptr (table_start s.now at + item_start (table_at s.now at) i)) }
 {
     molecule::item(bytes(s, at), i)
 }
 
 // The bytes of item i of the dynvec of fixvecs of bytes.
 pub fn entry(s: &[u8], at: usize, i: usize) -> &[u8]
-    ensures { (result.now ≡ entry_of (table_at s.now at) i) × (result.ref_ptr ≡ inside s.entry.ref_ptr (table_start s.now at + entry_start (table_at s.now at) i)) }
+    ensures { (result.now ≡ entry_of (table_at s.now at) i)
+        × (result.ref_ptr ≡ inside s.entry.ref_ptr (table_start s.now at + entry_start (table_at s.now at) i)) }
 {
     molecule::entry(bytes(s, at), i)
 }
@@ -70,7 +72,8 @@ fn fixvec(s: &[u8], at: usize, k: u32) -> &[u8]
 
 // Item i of the fixvec of items of k bytes.
 pub fn fix_item(s: &[u8], at: usize, k: u32, i: usize) -> &[u8]
-    ensures { (result.now ≡ fix_item (fixvec_at s.now at k) k i) × (result.ref_ptr ≡ inside s.entry.ref_ptr (fixvec_start s.now at k + fix_start (fixvec_at s.now at k) k i)) }
+    ensures { (result.now ≡ fix_item (fixvec_at s.now at k) k i)
+        × (result.ref_ptr ≡ inside s.entry.ref_ptr (fixvec_start s.now at k + fix_start (fixvec_at s.now at k) k i)) }
 {
     molecule::fix_item(fixvec(s, at, k), k, i)
 }

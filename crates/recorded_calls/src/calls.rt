@@ -163,7 +163,8 @@ impl<T: Table> Replay for Calls<T> {
     }
 }
 
-// Replays the calls of standard input, whose kinds are these by number, and prints how many there are and how many are wrong. A write that fails is passed over.
+// Replays the calls of standard input, whose kinds are these by number, and prints how many there are and how many are wrong. A write that fails is passed
+// over.
 pub fn replay_calls<T: Table, K: Display>(
     rt: &(impl Input + Print + AllocGlobal),
     kinds: &[K],

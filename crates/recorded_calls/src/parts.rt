@@ -1,5 +1,5 @@
-// The parts of a recording. Of one that is cut off, or that says more than there is room for, the missing bytes are what stood in the room before. A read that fails
-// counts as the end of the input.
+// The parts of a recording. Of one that is cut off, or that says more than there is room for, the missing bytes are what stood in the room before. A read that
+// fails counts as the end of the input.
 ghost use Rattle.std.specs.Prelude.{◌≡◌, IfErr};
 ghost use Rattle.std.specs.IoError.{error_kind};
 ghost use Rattle.std.specs.declared.io.ErrorKind.TheVariants.{OutOfMemory};

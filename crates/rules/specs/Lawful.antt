@@ -1,4 +1,5 @@
--- The law over a list of calls of any entry, in as many figures as its acceptances carry (docs/RULES.md, "The three demands", 3), and what an entry owes for it.
+-- The law over a list of calls of any entry, in as many figures as its acceptances carry (docs/RULES.md, "The three demands", 3), and what an entry owes for
+-- it.
 use Rattle.std.specs.Prelude.{◌≡◌, ℕ, ◌+◌, true, false, List, [], ◌∷◌, ◌++◌, map, length}
 use Rattle.error.specs.Outcome.{Outcome, fine, refused}
 use Rattle.molecule.specs.Partial.{All}

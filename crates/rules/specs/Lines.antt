@@ -1,5 +1,5 @@
--- The lines of the rules' table (docs/RULES.md, "A peer's update arrives") in a `do` block: each has a name, and its number. What an update is answered follows from
--- its lines: the first that fails refuses it.
+-- The lines of the rules' table (docs/RULES.md, "A peer's update arrives") in a `do` block: each has a name, and its number. What an update is answered follows
+-- from its lines: the first that fails refuses it.
 use Rattle.std.specs.Prelude.{ℕ, Bool, true, cond, List, [], ◌∷◌, ◌++◌}
 use Prim.Native.String.{String}
 use lib.Text.{eqt}

@@ -1,4 +1,5 @@
--- A list of calls (docs/RULES.md, "The three demands", 3, and "What the peer put in"): each is judged against the transaction in force that the one before left.
+-- A list of calls (docs/RULES.md, "The three demands", 3, and "What the peer put in"): each is judged against the transaction in force that the one before
+-- left.
 use Rattle.std.specs.Prelude.{ℕ, ◌+◌, ◌≡◌, List, [], ◌∷◌, ◌++◌, map, length, drop, ℤ, pos}
 use Rattle.error.specs.Outcome.{Outcome, fine, refused, leaves}
 use Rattle.transaction.specs.Tx.{tx_at}

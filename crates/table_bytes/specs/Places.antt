@@ -1,4 +1,5 @@
--- A table of cells in bytes (ours: docs/DECISIONS.md, "Tables of cells", "A lent table is bytes of a fixed form"): its count in four bytes, then places of 48 bytes each.
+-- A table of cells in bytes (ours: docs/DECISIONS.md, "Tables of cells", "A lent table is bytes of a fixed form"): its count in four bytes, then places of 48
+-- bytes each.
 use Rattle.std.specs.Prelude.{ℕ, ◌^◌, ◌<◌, length}
 use mathlib.Core.List.{List, ◌++◌, map, flatten}
 use Rattle.arithmetic.specs.LittleEndian.{to_le, u32_at, u64_at}

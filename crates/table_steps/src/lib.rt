@@ -4,7 +4,8 @@
 #![tactic(auto, using(crate::proofs::Ways::ways))]
 
 ghost use Rattle.std.specs.Prelude.{◌≡◌, ◌≤◌, IfOk};
-ghost use Rattle.hold_records.specs.Holds.{records_of, told, hold_funding, release_for_watchtower, hold_for_watchtower, lock_held, take_cells, after_lock, after_take};
+ghost use Rattle.hold_records.specs.Holds.{records_of, told, hold_funding, release_for_watchtower, hold_for_watchtower, lock_held, take_cells, after_lock};
+ghost use Rattle.hold_records.specs.Holds.{after_take};
 ghost use Rattle.table_laws.specs.Holds.{by_value, table_after, Called, Funded, Watched, Locked, Took};
 
 use error::Refusal;

@@ -5,8 +5,10 @@
 ghost use Rattle.std.specs.Prelude.{◌≡◌, ◌+◌, ◌^◌, ◌<◌, get_or};
 ghost use Rattle.arithmetic.specs.LittleEndian.{u32_at, u64_at};
 ghost use Rattle.units.specs.Units.{in_shannons, shannon_count};
-ghost use Rattle.molecule.specs.Layout.{part, part_start, inside, field_of, field_start, item_count, item_of, item_start, fix_count, fix_item, fix_start, content_start, entry_of, entry_start};
-ghost use Rattle.transaction.specs.Tx.{raw_field, raw_start, witnesses_of, tx_at, args_of, capacity_of, lock_of, type_of, previous_output_of, first_of, data_of};
+ghost use Rattle.molecule.specs.Layout.{part, part_start, inside, field_of, field_start, item_count, item_of, item_start, fix_count, fix_item, fix_start};
+ghost use Rattle.molecule.specs.Layout.{content_start, entry_of, entry_start};
+ghost use Rattle.transaction.specs.Tx.{raw_field, raw_start, witnesses_of, tx_at, args_of, capacity_of, lock_of, type_of, previous_output_of, first_of};
+ghost use Rattle.transaction.specs.Tx.{data_of};
 
 use arithmetic::little_endian;
 use units::Shannons;

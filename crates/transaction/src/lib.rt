@@ -7,7 +7,8 @@ pub mod fields;
 ghost use Rattle.std.specs.Prelude.{◌≡◌};
 ghost use Rattle.molecule.specs.Molecule.{readable, option, fixvec, dynvec};
 ghost use Rattle.transaction.specs.Tx.{are_scripts};
-ghost use Rattle.transaction.specs.Ckb.{Byte32, OutPoints, CellDeps, CellInput, Script, CellOutput, RawTransaction, Transaction, TokenCell, TokenCells, Record, Records};
+ghost use Rattle.transaction.specs.Ckb.{Byte32, OutPoints, CellDeps, CellInput, Script, CellOutput, RawTransaction, Transaction, TokenCell, TokenCells, Record};
+ghost use Rattle.transaction.specs.Ckb.{Records};
 
 use molecule::{Bytes, BytesVec, Entity};
 
@@ -31,8 +32,8 @@ pub fn is_optional_script(s: &[u8]) -> bool
     Option::<entities::Script>::is(s)
 }
 
-// Whether the expected funding lock and type (empty for none) and our source lock are scripts. As an `Answer` the one test would be no shorter, and a struct of the
-// three, which the C interface lends apart, would be made for this call alone.
+// Whether the expected funding lock and type (empty for none) and our source lock are scripts. As an `Answer` the one test would be no shorter, and a struct of
+// the three, which the C interface lends apart, would be made for this call alone.
 pub fn are_scripts(lock: &[u8], udt: &[u8], source: &[u8]) -> bool
     ensures { result ≡ are_scripts lock.now udt.now source.now }
 {

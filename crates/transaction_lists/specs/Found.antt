@@ -1,5 +1,5 @@
--- What a transaction is asked for by number, and why it is refused (ours: docs/DECISIONS.md, "The C interface", "Reading by number"; the numbers are those of the table in
--- docs/RULES.md, "A peer's update arrives": 1 "our bytes unreadable", 3 for what is lent and is not in its form).
+-- What a transaction is asked for by number, and why it is refused (ours: docs/DECISIONS.md, "The C interface", "Reading by number"; the numbers are those of
+-- the table in docs/RULES.md, "A peer's update arrives": 1 "our bytes unreadable", 3 for what is lent and is not in its form).
 use Rattle.std.specs.Prelude.{ℕ, List}
 use lib.{Dec.ltb, ListN.length}
 use Rattle.molecule.specs.Molecule.{readable}

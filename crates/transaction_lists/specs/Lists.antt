@@ -1,5 +1,5 @@
--- The six lists of a transaction (RFC 0019) by number (ours: docs/DECISIONS.md, "The C interface", "Reading by number"): of bytes that are no transaction, and of a list
--- that there is not, there is nothing.
+-- The six lists of a transaction (RFC 0019) by number (ours: docs/DECISIONS.md, "The C interface", "Reading by number"): of bytes that are no transaction, and
+-- of a list that there is not, there is nothing.
 use Rattle.std.specs.Prelude.{ℕ, ◌+◌, cond, List, [], ◌∷◌}
 use lib.{Dec.ltb, ListN.length, ListN.get_or}
 use Rattle.molecule.specs.Layout.{field_start, fix_start, item_start, entry_start}

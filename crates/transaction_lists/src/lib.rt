@@ -1,4 +1,5 @@
-// What stands in a transaction, with its lists by number, for a caller that has no part of the bytes in hand. Each call reads once whether the bytes are a transaction.
+// What stands in a transaction, with its lists by number, for a caller that has no part of the bytes in hand. Each call reads once whether the bytes are a
+// transaction.
 #![tactic(auto, using(crate::proofs::Ways::ways))]
 
 ghost use Rattle.std.specs.Prelude.{◌≡◌, true, length};

@@ -26,7 +26,8 @@ pub record NotMissed (first other j : ℕ) : Type 0 where
 -- by their slot none of the watchtower's is missed among the first n records in l
 pub record Hints (m : List ℕ) (l : List Hold) (n : ℕ) : Type 0 where
   pub enough : length m ≡ 8186
-  pub each : (p : OutPoint) (j : ℕ) (d : Hold) → j < n → is_tower_on p (get_or l j d) ≡ true → NotMissed (get_or m (2 * slot_of p) 0) (get_or m (2 * slot_of p + 1) 0) j
+  pub each : (p : OutPoint) (j : ℕ) (d : Hold) → j < n → is_tower_on p (get_or l j d) ≡ true
+      → NotMissed (get_or m (2 * slot_of p) 0) (get_or m (2 * slot_of p + 1) 0) j
 
 -- ---- marks, one for each record
 

@@ -1,5 +1,5 @@
-// The watchtower's holds on cells: the table of holds goes in by value and comes back by value, and the caller of a refused call still has the very table that it
-// lent. Parameters stand one by one, as in the C functions of the calls: a struct would be made there for each single call.
+// The watchtower's holds on cells: the table of holds goes in by value and comes back by value, and the caller of a refused call still has the very table that
+// it lent. Parameters stand one by one, as in the C functions of the calls: a struct would be made there for each single call.
 #![tactic(auto, using(crate::proofs::Ways::ways))]
 
 ghost use Rattle.std.specs.Prelude.{◌≡◌, [], ◌+◌, ◌-◌, ◌*◌, ◌<◌, ◌≤◌, min, not, false, length, get_or, set, IfOk};
