@@ -67,11 +67,13 @@ def ordered(crates, uses):
     """The crates of a group in the order of GROUPS, but each above those that it uses."""
     done = []
 
-    def put(crate):
+    def put(crate, above=()):
+        if crate in above:
+            sys.exit('crates that use one another: ' + ', '.join(above[above.index(crate):]))
         if crate not in done:
             for other in crates:
                 if other in uses[crate]:
-                    put(other)
+                    put(other, above + (crate,))
             done.append(crate)
 
     for crate in crates:
@@ -116,7 +118,8 @@ def main():
         if stands != text:
             was, now = set(stands.split('\n')), set(text.split('\n'))
             wrong.append('crates.txt is not what tools/crates.py writes:')
-            wrong += [f'- {line}' for line in stands.split('\n') if line not in now] + [f'+ {line}' for line in text.split('\n') if line not in was]
+            lines = [f'- {line}' for line in stands.split('\n') if line not in now] + [f'+ {line}' for line in text.split('\n') if line not in was]
+            wrong += lines or ['the same lines in another order']
     elif stands != text:
         with open(path, 'w') as f:
             f.write(text)

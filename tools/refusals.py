@@ -183,8 +183,8 @@ def rust_from(all):
         set_to = [f'{v.field}: values[{i}]' for i, v in enumerate(r.values)]
         line = f'            {r.number} => Refusal::{r.name}' + (f' {{ {", ".join(set_to)} }}' if set_to else '') + ','
         stacked = [f'            {r.number} => Refusal::{r.name} {{', *(f'                {s},' for s in set_to), '            },']
-        # rustfmt stacks the fields of a literal of more than 84 columns (struct_lit_width, which goes with max_width)
-        out += stacked if len(', '.join(set_to)) > 25 else [line]
+        # rustfmt stacks what does not fit a line
+        out += stacked if len(line) > RUST else [line]
     return out
 
 

@@ -1,12 +1,11 @@
 -- What a passed test, and a passed check, says.
-use mathlib.Core.Path.{◌≡◌, refl, ap}
+use mathlib.Core.Path.{◌≡◌, refl}
 use Prim.Native.Nat.{ℕ}
 use native.Mathlib.Omega.{arith}
 use mathlib.Core.Bool.{Bool, true, false, ◌&&◌}
 use mathlib.Core.List.{List, []}
-use mathlib.Core.Option.{Option, none, some}
 use lib.Dec.{T}
-use Rattle.error.specs.Outcome.{Outcome, fine, refused, check, check_with, given, ◌>>=◌, ◌>>◌}
+use Rattle.error.specs.Outcome.{Outcome, fine, refused, check, check_with, ◌>>=◌, ◌>>◌}
 
 -- ---- tests
 
@@ -49,8 +48,3 @@ pub then-fine : {B : Type 0} (m : Outcome (Unit {0})) (r : Outcome B) (b : B) �
 unfolding ◌>>◌
 then-fine (fine u) r b e = (refl, e)
 then-fine (refused n l) r b e = absurd (never n l b e)
-
-pub given-fine : {A : Type 0} (n : ℕ) (o : Option A) (a : A) → given n o ≡ fine a → o ≡ some a
-unfolding given
-given-fine n none a e = absurd (never n [] a e)
-given-fine n (some x) a e = ap some (fine_inj e)

@@ -1,7 +1,11 @@
--- A refusal carries four values at most.
-use Rattle.std.proofs.Common.{◌≡◌, ℕ, ◌≤◌, List, [], ◌∷◌, length, take, get_or, refl, arith}
+-- A refusal has a number above 0, and carries four values at most.
+use Rattle.std.proofs.Common.{◌≡◌, ℕ, ◌<◌, ◌≤◌, List, [], ◌∷◌, length, take, get_or, refl, arith}
 use Rattle.error.specs.declared.Refusal.{Refusal}
-use Rattle.error.specs.Refusal.{values}
+use Rattle.error.specs.Refusal.{number, values}
+
+pub has_number : (r : Refusal) → 0 < number r
+unfolding number
+has_number r = grind arith
 
 pub few-values : (r : Refusal) → length (values r) ≤ 4
 unfolding values

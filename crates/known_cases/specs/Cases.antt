@@ -1,5 +1,5 @@
 -- What the cases are built from: values of the schema, written as bytes.
-use Rattle.std.specs.Prelude.{ℕ, List, [], ◌∷◌, length, replicate}
+use Rattle.std.specs.Prelude.{ℕ, List, [], ◌∷◌, replicate}
 use Rattle.std.proofs.Math.Option.{none, some}
 use Rattle.arithmetic.specs.LittleEndian.{to_le}
 use Rattle.units.specs.declared.{Millis.Millis}
@@ -10,7 +10,6 @@ use Rattle.error.specs.Outcome.{Outcome, fine, refused}
 use Rattle.units.specs.Units.{Figures}
 use Rattle.rules.specs.Judge.{Call, judge}
 use Rattle.out_points.specs.declared.{OutPoint.OutPoint}
-use Rattle.hold_records.specs.declared.{Hold.Hold, Held.Held}
 
 -- ---- scripts: a code hash of one byte repeated, hash type 0 and empty args
 
@@ -64,10 +63,6 @@ ms n = record { 0 = n }
 -- the out point that `input n` spends
 abbrev pub point : ℕ → OutPoint
 point n = record { hash = record { a = 0; b = 0; c = 0; d = 0 }; index = n }
-
--- the table of holds with these records
-abbrev pub holds_of : List Hold → Held
-holds_of l = record { records = l; count = length l }
 
 -- a buffer of so many bytes, each 7
 abbrev pub room : ℕ → List ℕ

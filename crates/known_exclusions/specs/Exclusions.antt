@@ -20,7 +20,7 @@ use Rattle.known_cases.specs.Cases.{bare, point}
 -- ---- the calls on bytes s: the outcome, and the bytes after it
 
 abbrev pub on_bytes : List ℕ → Outcome (List MapEntry) → Outcome (List MapEntry) × List ℕ
-on_bytes s o = (o, leaves o (λ l. put_at s 0 (map_bytes l)) s)
+on_bytes s o = (o, leaves o (map_table.put s []) s)
 
 abbrev pub add : List ℕ → List ℕ → List ℕ → Outcome (List MapEntry) × List ℕ
 add s hash tx = on_bytes s (with_tx tx (on_table map_table s (add_on (excluded_at s) hash tx)))

@@ -6,12 +6,11 @@ use Rattle.arithmetic.specs.LittleEndian.{to_le}
 use Rattle.out_points.specs.declared.{OutPoint.OutPoint}
 use Rattle.out_points.specs.OutPoints.{point_bytes, point_list}
 use Rattle.error.specs.Outcome.{Outcome, fine, refused, leaves}
-use Rattle.molecule.specs.Write.{put_at}
 use Rattle.out_points.specs.Tables.{writes, after_list}
 use Rattle.hold_records.specs.declared.{Hold.Hold, Taker.Taker}
 use Rattle.hold_records.specs.Holds.{cells_of, hold_funding, hold_for_watchtower, release_for_watchtower, lock_held, unavailable, take_cells, records_after}
 use Rattle.table_bytes.specs.Lent.{on_table}
-use Rattle.held_bytes.specs.HeldBytes.{held_at, held_bytes, held_table}
+use Rattle.held_bytes.specs.HeldBytes.{held_at, held_table}
 use Rattle.known_cases.specs.Rows.{Row, ◌gives◌}
 use Rattle.known_cases.specs.Cases.{ms, point, room}
 use Rattle.known_holds.specs.Holds.{A, B, C, funding, tower, of1, of2, none, no_list}
@@ -19,7 +18,7 @@ use Rattle.known_holds.specs.Holds.{A, B, C, funding, tower, of1, of2, none, no_
 -- ---- the calls on bytes s: the outcome, the bytes after it, and the buffers
 
 abbrev pub on_bytes : List ℕ → Outcome (List Hold) → Outcome (List Hold) × List ℕ
-on_bytes s o = (o, leaves o (λ l. put_at s 0 (held_bytes l)) s)
+on_bytes s o = (o, leaves o (held_table.put s []) s)
 
 abbrev pub hold : List ℕ → ℕ → List ℕ → Outcome (List Hold) × List ℕ
 hold s holder cells = on_bytes s (on_table held_table s (hold_funding (held_at s) holder cells))

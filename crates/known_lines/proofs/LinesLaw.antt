@@ -1,12 +1,12 @@
 -- `judge` refuses with the first line that fails, and accepts where none does.
-use mathlib.Core.Path.{◌≡◌, refl, sym, ap, ◌∙◌}
+use mathlib.Core.Path.{◌≡◌, refl, ap, ◌∙◌}
 use Prim.Native.Nat.{ℕ, suc, ◌+◌, ◌-◌, ◌^◌}
 use native.Mathlib.Omega.{arith}
 use mathlib.Core.Bool.{Bool, true, false, cond}
 use mathlib.Core.List.{List, [], ◌∷◌}
 use mathlib.Core.Option.{Option}
 use lib.{ListN.length, Dec.ltb}
-use Rattle.error.specs.Outcome.{Outcome, fine}
+use Rattle.error.specs.Outcome.{fine}
 use Rattle.molecule.specs.Molecule.{option, readable}
 use Rattle.transaction.specs.Ckb.{Transaction}
 use Rattle.units.specs.Units.{Figures}

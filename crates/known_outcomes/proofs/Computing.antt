@@ -3,7 +3,6 @@ use Rattle.units.specs.Fee.{change_capacity}
 use Rattle.units.specs.Units.{later}
 use Rattle.transaction.specs.Tx.{previous_output_of, args_of}
 use Rattle.out_points.specs.OutPoints.{eq_hash, eq_point, has, byte32_at, out_point_at, point_of, hash_bytes, point_bytes, points_bytes, point_list}
-use Rattle.std.specs.List.{filter}
 use Rattle.out_points.specs.Tables.{renew, has_room, with_list}
 use Rattle.hold_records.specs.Holds.{records_of, by_owner, at_most_256, is_live, is_tower_on, renew_all, hold_for_watchtower, is_busy, is_new, firsts, others, unavailable, owner_for, take_these, take_free, take_cells}
 use Rattle.error.specs.Outcome.{number_of, answer_by}

@@ -1,5 +1,5 @@
 -- Demand 3 (crates/funding_tx/proofs/Demand3.antt quotes it) of the words that `replay` leaves.
-use Rattle.std.proofs.Common.{Ok, Err}
+use Rattle.std.proofs.Common.{Ok, Err, true}
 use mathlib.Core.Path.{◌≡◌, refl, sym, ap, ◌∙◌}
 use Prim.Native.Nat.{ℕ, ◌*◌, ◌<◌}
 use native.Mathlib.Omega.{arith}
@@ -8,7 +8,8 @@ use borrow.Author.Tests.{ne_eqb}
 use lib.Dec.{T, leb}
 use lib.ListN.{length, take, drop}
 use lib.Seq.{take_at, drop_at}
-use Rattle.molecule.specs.Molecule.{readable}
+use Rattle.molecule.specs.Molecule.{option, readable}
+use Rattle.transaction.specs.Ckb.{Transaction}
 use Rattle.molecule.specs.Layout.{item_count}
 use Rattle.molecule.proofs.Offsets.{span-length}
 use Rattle.arithmetic.proofs.AmountLaws.{halves_are}
@@ -17,7 +18,7 @@ use Rattle.molecule.specs.Partial.{All}
 use Rattle.rules.specs.Surplus.{Measure}
 use Rattle.units.specs.Units.{Figures}
 use Rattle.rules.specs.Judge.{Call}
-use Rattle.rules.specs.Run.{Entry, Exact, update_for_peer, carried, sum_of, verdicts, in_force, forces}
+use Rattle.rules.specs.Run.{Entry, Exact, update_for_peer, carried, sum_of, verdicts, in_force, next, forces}
 use Rattle.error.proofs.Passed.{never, fine_inj, check-fine}
 use Rattle.rules.specs.Lawful.{Figure, Lawful, two_figures}
 use Rattle.rules.proofs.Accept.{update_owes}
@@ -67,6 +68,11 @@ done-of lock udt start updates room vs e =
     let (u, f) = check-fine 13 (leb (5 * item_count updates) room) _ vs d in
     (t, fine_inj f)
 
+-- what holds of the bytes after each call, and of the start, holds of the bytes at the end
+at_last : {C S : Type 0} (E : Entry C S) (P : List ℕ → Type 0) (calls : List C) (start : List ℕ) → P start → All P (forces E start calls) → P (in_force E start calls)
+at_last E P [] start p ps = p
+at_last E P (c ∷ cs) start p (q, qs) = at_last E P cs (next E start c) q qs
+
 -- what is said of answers is said of others that carry the same
 module _ (E : Entry Call Figures) (start : List ℕ) (calls : List Call) {end end' : List ℕ} (b : end' ≡ end) (vs ws : List (Outcome Figures)) where
   as_carried : (m : Measure) (pick : Figures → ℕ) → carried pick ws ≡ carried pick vs → Exact E m pick start calls vs end → Exact E m pick start calls ws end'
@@ -104,6 +110,7 @@ module _ (lock udt start updates before : List ℕ) (n accepted at : ℕ) (after
         count = c ∙ ap (length {A = Outcome Figures}) (sym ev) ∙ length-verdicts E start calls ∙ span-length (call_at updates) 0 (item_count updates);
         words = w;
         lawful = rw eb k';
+        readable_at = λ h. rw eb (at_last E (λ b. readable (option Transaction) b ≡ true) calls start h (k'.readable_on h));
         acceptances = k ∙ ap sum_of (sym (back (λ f. 1)));
         exact = all_carried E start calls eb (verdicts E start calls) (answers_in n after) (two_figures udt) (λ pick. back pick ∙ ap (carried pick) (sym ev)) k'.exact;
         beyond = rw (ea, l) (drop_at (all_words vs) (drop (5 * n) before) (5 * n) l);

@@ -70,7 +70,7 @@ either : {A : Type 0} (b : Bool) {x y : Ruled A} → Lined x → Lined y → Lin
 either true p q = p
 either false p q = q
 
--- what is told_replay by such a block
+-- what is answered by such a block
 numbered : {A : Type 0} (m : Ruled A) → Lined m → Numbered (verdict m)
 unfolding verdict first_failing outcome.◌>>◌ check_with
 numbered {A} m w = by m.lines w.lines

@@ -1,8 +1,9 @@
 -- Demand 3 as a statement about one function: what a caller finds in the words that `replay` leaves. It is proved in proofs/Demand3.antt; the C call
 -- `basinpantry_replay` has it in its own contract.
-use Rattle.std.specs.Prelude.{◌≡◌, ℕ, zero, suc, ◌+◌, ◌*◌, ◌^◌, cond, List, [], ◌∷◌, T, eqb, length, take, drop, get_or}
+use Rattle.std.specs.Prelude.{◌≡◌, ℕ, zero, suc, ◌+◌, ◌*◌, ◌^◌, true, cond, List, [], ◌∷◌, T, eqb, length, take, drop, get_or}
 use Rattle.molecule.specs.Partial.{All}
-use Rattle.molecule.specs.Molecule.{readable}
+use Rattle.molecule.specs.Molecule.{option, readable}
+use Rattle.transaction.specs.Ckb.{Transaction}
 use Rattle.molecule.specs.Layout.{item_count}
 use Rattle.error.specs.Outcome.{Outcome, fine, refused}
 use Rattle.units.specs.Units.{Figures}
@@ -41,6 +42,8 @@ module _ (lock udt start updates before : List ℕ) where
     -- these verdicts, and the transaction that the index names as the one then in force, are lawful
     pub lawful : Lawful (update_for_peer lock udt) (two_figures udt) start (calls_of updates) (verdicts (update_for_peer lock udt) start (calls_of updates))
         (forces (update_for_peer lock udt) start (calls_of updates)) (transaction_at start updates at)
+    -- from a readable transaction, or none, that one is readable, or none
+    pub readable_at : readable (option Transaction) start ≡ true → readable (option Transaction) (transaction_at start updates at) ≡ true
     -- so many of the answers in the words are acceptances, and their surpluses in the words have the law too
     pub acceptances : accepted ≡ accepted_of (answers_in n after)
     pub exact : All (λ f. Exact (update_for_peer lock udt) f.measure f.pick start (calls_of updates) (answers_in n after) (transaction_at start updates at))

@@ -37,7 +37,7 @@ replay_of lock udt start updates room = do
   check 13 (leb (5 * item_count updates) room)
   fine (verdicts (update_for_peer lock udt) start (calls_of updates))
 
--- what is told_replay, and the buffer: it begins with the words of the answers, and what is beyond keeps its value; after a refusal all is as it was
+-- what is answered, and the buffer: it begins with the words of the answers, and what is beyond keeps its value; after a refusal all is as it was
 unfoldable pub after_replay : Outcome (List (Outcome Figures)) → List ℕ → Outcome Summary × List ℕ
 after_replay (fine vs) out = (fine (summary_of vs), all_words vs ++ drop (length (all_words vs)) out)
 after_replay (refused n l) out = (refused n l, out)

@@ -75,11 +75,6 @@ pub line-accepted : {B : Type 0} (n : ℕ) (l : List ℕ) (s : String) (b : Bool
 unfolding verdict first_failing line_with followed ◌>>◌
 line-accepted n l s b r a e = check_with-fine n l b (first_failing r.lines r.answer) a e
 
--- of a block of one line
-pub last-accepted : (n : ℕ) (l : List ℕ) (s : String) (b : Bool) → verdict (line_with n l s b) ≡ fine tt → T b
-unfolding verdict first_failing line_with
-last-accepted n l s b e = (check_with-fine n l b (fine tt) tt e).0
-
 pub answer-accepted : {A : Type 0} {a b : A} → verdict (answer a) ≡ fine b → a ≡ b
 unfolding verdict first_failing answer
 answer-accepted e = fine_inj e

@@ -5,28 +5,14 @@ use native.Mathlib.Omega.{arith}
 use mathlib.Core.Bool.{Bool, true, false}
 use Rattle.error.specs.declared.{Refusal.Refusal}
 use Rattle.error.specs.Refusal.{number}
+use Rattle.error.proofs.RefusalLaws.{has_number}
 use Rattle.error.specs.Outcome.{Outcome, fine, refused, check, check_with, number_of, leaves, ◌>>◌}
 use Rattle.table_bytes.specs.Lent.{Table, on_table, Leaves}
 
 -- ---- no refusal has the number of a call that is done
 
 pub above : (why : Refusal) → number why ≡ 0 → ⊥
-unfolding number
-above Refusal.OurTransactionUnreadable e = omega (arith, e)
-above Refusal.PeerTransactionUnreadable e = omega (arith, e)
-above Refusal.LentBytesUnreadable e = omega (arith, e)
-above Refusal.PeerFundingTxExceedsLimit e = omega (arith, e)
-above Refusal.InvalidPeerFundingTx e = omega (arith, e)
-above (Refusal.PeerInputUsesOurFundingLock i) e = omega (arith, e)
-above Refusal.OverflowError e = omega (arith, e)
-above (Refusal.PeerFundingFeeTooLow a b c d) e = omega (arith, e)
-above Refusal.InsufficientCells e = omega (arith, e)
-above Refusal.TokenTotalOverflow e = omega (arith, e)
-above Refusal.MissingCellDep e = omega (arith, e)
-above Refusal.TokenCellDataTooShort e = omega (arith, e)
-above Refusal.BufferTooShort e = omega (arith, e)
-above Refusal.TooManyHolds e = omega (arith, e)
-above Refusal.TooManyExclusions e = omega (arith, e)
+above why e = omega (arith, e, has_number why)
 
 -- ---- the property of what is left, if the call is not refused
 

@@ -1,4 +1,4 @@
--- A transaction's bytes, or ours, which may be none: what is read of them.
+-- Our bytes, which may be none: what is read of them.
 use mathlib.Core.Path.{◌≡◌}
 use Prim.Native.Nat.{ℕ}
 use mathlib.Core.Bool.{true, false}
@@ -7,15 +7,7 @@ use mathlib.Core.Option.{none, some}
 use Rattle.molecule.specs.Partial.{only}
 use Rattle.molecule.specs.Molecule.{option, readable}
 use Rattle.transaction.specs.Ckb.{Transaction}
-use Rattle.transaction.specs.Tx.{tx_at, read_tx, read_ours}
-
-pub read_yes : (s : List ℕ) → readable Transaction s ≡ true → read_tx s ≡ some (tx_at s)
-unfolding read_tx only
-read_yes s h = rw h
-
-pub read_no : (s : List ℕ) → readable Transaction s ≡ false → read_tx s ≡ none
-unfolding read_tx only
-read_no s h = rw h
+use Rattle.transaction.specs.Tx.{tx_at, read_ours}
 
 pub ours_yes : (s : List ℕ) → readable (option Transaction) s ≡ true → read_ours s ≡ some (tx_at s)
 unfolding read_ours only
