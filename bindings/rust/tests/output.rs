@@ -7,6 +7,7 @@ use std::fs::{self, Permissions};
 use std::os::unix::fs::{MetadataExt, PermissionsExt, symlink};
 use std::path::{Path, PathBuf};
 use std::process::{Command, Stdio};
+use std::sync::OnceLock;
 
 /// An empty folder for a test.
 fn folder(name: &str) -> PathBuf {
@@ -22,11 +23,15 @@ fn names(folder: &Path) -> Vec<String> {
     names
 }
 
-/// What `case` writes of the example.
+/// What `case` writes of the example: made once, since the tests run side by side.
 fn expected() -> Vec<u8> {
-    let out = folder("expected").join("a.case");
-    assert_eq!(make(out.to_str().unwrap(), &[]).status, 0);
-    fs::read(out).unwrap()
+    static MADE: OnceLock<Vec<u8>> = OnceLock::new();
+    let make = || {
+        let out = folder("expected").join("a.case");
+        assert_eq!(make(out.to_str().unwrap(), &[]).status, 0);
+        fs::read(out).unwrap()
+    };
+    MADE.get_or_init(make).clone()
 }
 
 const EXAMPLE: &str = "case --ours json/ours.json --peer json/peer.json --lock json/funding_lock.json --type json/token_type.json \
