@@ -47,7 +47,7 @@ use Rattle.base_lists.specs.BaseLists.{amount_item, output_list, data_list}
 use Rattle.cell_deps.specs.CellDeps.{push_all, all_deps, cell_deps}
 use Rattle.cell_deps.proofs.LongLaws.{long-append, cell-deps-long}
 use Rattle.transaction_theorems.proofs.FieldsDecoded.{transaction_fields}
-use Rattle.funding_builder.specs.Base.{Lent, Packed, packed, base_tx, change_capacity, supplied, lists, with_pick, with_cell, with_request, build_base}
+use Rattle.funding_builder.specs.Base.{Lent, Packed, packed, base_tx, change_output_capacity, supplied, lists, with_pick, with_cell, with_request, build_base}
 use Rattle.funding_builder.proofs.PresentLaws.{deps-readable, option-of}
 use Rattle.base_theorems.proofs.Claims.{Figured, ReadsBack, fields_of, Encodes, Funds, Keeps, Distinct, Passes, Readable, Encoded, FirstOutput, Kept, Compared, Tidy, Tidied, Changes, Balanced, InBalance, OfCalls}
 use Rattle.base_theorems.proofs.PackedLaws.{Formed, ReadsAs, reads_as, item-readable, item-content}
@@ -123,7 +123,7 @@ module _ (l : Lent) (request : FundingRequest) (bytes : List ℕ) (b : AllBytes 
   after = length (tx_at l.ours).outputs - 1
 
   abbrev back : ℕ
-  back = change_capacity m.pick.change l.source l.udt
+  back = change_output_capacity m.pick.change l.source l.udt
 
   base_short : length (packed base) ≤ 133116
   base_short = rw m.is short

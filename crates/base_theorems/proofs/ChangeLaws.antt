@@ -24,7 +24,7 @@ use Rattle.udt_cells.proofs.PickTheorems.{held}
 use Rattle.list_writer.specs.ListWriter.{bytes_item, if_any, if_positive}
 use Rattle.base_inputs.specs.BaseInputs.{picked_input, picked}
 use Rattle.base_lists.specs.BaseLists.{amount_item}
-use Rattle.funding_builder.specs.Base.{Lent, change_capacity}
+use Rattle.funding_builder.specs.Base.{Lent, change_output_capacity}
 use Rattle.base_theorems.proofs.Claims.{Changes}
 use Rattle.base_theorems.proofs.CompareLaws.{map-append}
 use Rattle.base_theorems.proofs.PackedLaws.{item-content}
@@ -63,17 +63,17 @@ one-amount n = one-item (suc n) (amount_item (suc n)) (omega arith) (omega (arit
 
 -- there is a change output exactly if there is change
 pub change-count : (source udt : List ℕ) (c : ℕ)
-    → length (if_any (if_positive (change_capacity c source udt) (cell_output (change_capacity c source udt) source udt))) ≡ length (if_any (if_positive c (amount_item c)))
-unfolding change_capacity
+    → length (if_any (if_positive (change_output_capacity c source udt) (cell_output (change_output_capacity c source udt) source udt))) ≡ length (if_any (if_positive c (amount_item c)))
+unfolding change_output_capacity
 change-count source udt zero = unfold if_positive in unfold if_any in refl
 change-count source udt (suc n) = ap length (one-output source udt) ∙ sym (ap length (one-amount n))
 
 pub change-cells : (l : Lent) (n : ℕ)
-    → All (λ (x : List ℕ). length x < 2 ^ 32) (if_any (if_positive (change_capacity n l.source l.udt) (cell_output (change_capacity n l.source l.udt) l.source l.udt)))
+    → All (λ (x : List ℕ). length x < 2 ^ 32) (if_any (if_positive (change_output_capacity n l.source l.udt) (cell_output (change_output_capacity n l.source l.udt) l.source l.udt)))
     → Changes l n
-    (pair (if_any (if_positive (change_capacity n l.source l.udt) (cell_output (change_capacity n l.source l.udt) l.source l.udt)))
+    (pair (if_any (if_positive (change_output_capacity n l.source l.udt) (cell_output (change_output_capacity n l.source l.udt) l.source l.udt)))
     (map content (if_any (if_positive n (amount_item n)))))
-unfolding change_capacity
+unfolding change_output_capacity
 change-cells l zero a = unfold if_positive in unfold if_any in refl
 change-cells l (suc n) a =
     let c = capacity_for l.source l.udt in

@@ -20,7 +20,7 @@ use Rattle.rules.specs.Step.{Prefix, start, more}
 use Rattle.rules.proofs.Telescope.{prefix_refl, prefix_trans, prefix_length}
 use Rattle.rules.proofs.Checks.{pass, last_is}
 use Rattle.list_writer.specs.ListWriter.{item_or}
-use Rattle.cell_deps.specs.CellDeps.{pushed, push_all}
+use Rattle.cell_deps.specs.CellDeps.{dep_pushed, push_all}
 use Rattle.base_theorems.proofs.Claims.{Distinct}
 
 -- ---- a beginning
@@ -60,8 +60,8 @@ prefix_contains (more {x = x} {xs = xs} {ys = ys} p) = ap₂ ◌&&◌ (contains-
 
 -- ---- deps, pushed one by one
 
-pushed_grows : (deps : List (List ℕ)) (x : List ℕ) → Prefix deps (pushed deps x)
-unfolding pushed
+pushed_grows : (deps : List (List ℕ)) (x : List ℕ) → Prefix deps (dep_pushed deps x)
+unfolding dep_pushed
 pushed_grows deps x = by (contains x deps)
   where
     by : (b : Bool) → Prefix deps (cond b deps (deps ++ (x ∷ [])))
@@ -71,12 +71,12 @@ pushed_grows deps x = by (contains x deps)
 all_grow : (deps xs : List (List ℕ)) → Prefix deps (push_all deps xs)
 unfolding push_all
 all_grow deps [] = prefix_refl deps
-all_grow deps (x ∷ xs) = prefix_trans (pushed_grows deps x) (all_grow (pushed deps x) xs)
+all_grow deps (x ∷ xs) = prefix_trans (pushed_grows deps x) (all_grow (dep_pushed deps x) xs)
 
 push_append : (deps xs ys : List (List ℕ)) → push_all deps (xs ++ ys) ≡ push_all (push_all deps xs) ys
 unfolding push_all
 push_append deps [] ys = refl
-push_append deps (x ∷ xs) ys = push_append (pushed deps x) xs ys
+push_append deps (x ∷ xs) ys = push_append (dep_pushed deps x) xs ys
 
 -- none of xs is among deps
 abbrev Apart : List (List ℕ) → List (List ℕ) → Type 0
@@ -107,8 +107,8 @@ apart_last deps x (y ∷ ys) a h =
     let c = cond_false (eq_bytes x y) (contains x ys) h in
     (not_last y x deps a.0 (other x y c.0), apart_last deps x ys a.1 c.1)
 
-pushed_new : (deps : List (List ℕ)) (x : List ℕ) → contains x deps ≡ false → pushed deps x ≡ deps ++ (x ∷ [])
-unfolding pushed
+pushed_new : (deps : List (List ℕ)) (x : List ℕ) → contains x deps ≡ false → dep_pushed deps x ≡ deps ++ (x ∷ [])
+unfolding dep_pushed
 pushed_new deps x h = ap (λ (b : Bool). cond b deps (deps ++ (x ∷ []))) h
 
 push_distinct : (deps xs : List (List ℕ)) → Apart deps xs → Distinct xs → push_all deps xs ≡ deps ++ xs
@@ -140,8 +140,8 @@ distinct_last (y ∷ deps) x d h =
     let c = cond_false (eq_bytes x y) (contains x deps) h in
     (not_last y x deps d.0 (other x y c.0), distinct_last deps x d.1 c.1)
 
-pushed_distinct : (deps : List (List ℕ)) (x : List ℕ) → Distinct deps → Distinct (pushed deps x)
-unfolding pushed
+pushed_distinct : (deps : List (List ℕ)) (x : List ℕ) → Distinct deps → Distinct (dep_pushed deps x)
+unfolding dep_pushed
 pushed_distinct deps x d = by (contains x deps) refl
   where
     by : (b : Bool) → contains x deps ≡ b → Distinct (cond b deps (deps ++ (x ∷ [])))
@@ -151,7 +151,7 @@ pushed_distinct deps x d = by (contains x deps) refl
 pub all_distinct : (deps xs : List (List ℕ)) → Distinct deps → Distinct (push_all deps xs)
 unfolding push_all
 all_distinct deps [] d = d
-all_distinct deps (x ∷ xs) d = all_distinct (pushed deps x) xs (pushed_distinct deps x d)
+all_distinct deps (x ∷ xs) d = all_distinct (dep_pushed deps x) xs (pushed_distinct deps x d)
 
 -- ---- data entries
 

@@ -30,7 +30,7 @@ use Rattle.verdict_line.specs.VerdictLine.{line_of}
 use Rattle.case_file.specs.declared.items.Places.{Places}
 use Rattle.case_file.specs.declared.record_list.Measured.{Measured}
 use Rattle.case_file.specs.CaseFile.{Read, Case, ◌>>=◌, kind_at, length_at, body_at, item_at, optional_at, rate_at, records_from, record_list, read_case, case_of, verdict_of, case_line}
-use Rattle.case_file.specs.Walk.{end_of, places_of, optional_body, verdict_at, walk, measured}
+use Rattle.case_file.specs.Walk.{next_of, case_places, optional_body, verdict_at, walk, measured}
 use Rattle.case_file.specs.Walk as places
 use Rattle.case_file.proofs.RecordLaws.{only-some, item-some, walk-bytes}
 use Rattle.case_file.proofs.ListLaws.{length-walk}
@@ -55,7 +55,7 @@ case_by s None = none
 case_by s (Some p) = records_from (length s) s p.records >>= λ rs. some (case_at s p rs)
 
 -- reading goes on where the walk does
-on_by : (s : List ℕ) (o : Option (Read (List ℕ))) (f : Read (List ℕ) → Option Case) (g : ℕ → rust.Option Places) → ((x : Read (List ℕ)) → o ≡ some x → f x ≡ case_by s (g x.next)) → (o >>= f) ≡ case_by s (places.◌>>=◌ (end_of o) g)
+on_by : (s : List ℕ) (o : Option (Read (List ℕ))) (f : Read (List ℕ) → Option Case) (g : ℕ → rust.Option Places) → ((x : Read (List ℕ)) → o ≡ some x → f x ≡ case_by s (g x.next)) → (o >>= f) ≡ case_by s (places.◌>>=◌ (next_of o) g)
 unfolding ◌>>=◌
 on_by s none f g h = refl
 on_by s (some x) f g h = h x refl
@@ -75,8 +75,8 @@ optional_got s kind at {r} e = go (eqb (kind_at s at) kind) e
     go true e = item-got s kind at e
     go false e = ap (λ (x : Read (List ℕ)). x.got) (sym (some-injective _ _ e))
 
-head : (s : List ℕ) → read_case s ≡ case_by s (places_of s)
-unfolding read_case places_of
+head : (s : List ℕ) → read_case s ≡ case_by s (case_places s)
+unfolding read_case case_places
 head s =
     on_by s (optional_at s 1 0) _ _ (λ a ea. on_by s (item_at s 2 a.next) _ _ (λ b eb. on_by s (item_at s 3 b.next) _ _ (λ c ec. on_by s (optional_at s 4 c.next) _ _ (λ d ed. on_by s (item_at s 5 d.next) _ _ (λ e ee. on_by s (rate_at s e.next) _ _ (λ f ef.
     rw (optional_got s 1 0 ea, item-got s 2 a.next eb, item-got s 3 b.next ec, optional_got s 4 c.next ed, item-got s 5 d.next ee, item-got s 6 e.next (rate-there s e.next ef))))))))
@@ -122,14 +122,14 @@ module _ (s : List ℕ) (from : ℕ) {m : Measured} (f : measured (records_from 
       omega arith
 
 module _ (s : List ℕ) (short : length s ≤ 65536) where
-  case-is : case_of s ≡ case_by s (places_of s)
+  case-is : case_of s ≡ case_by s (case_places s)
   unfolding case_of only
   case-is = rw (le-leb (length s) 65536 short) (head s)
 
-  pub no_shape : None ≡ places_of s → told (Err Refusal.LentBytesUnreadable) ≡ verdict_of (case_of s)
+  pub no_shape : None ≡ case_places s → told (Err Refusal.LentBytesUnreadable) ≡ verdict_of (case_of s)
   no_shape h = unreadable s (case-is ∙ rw (sym h))
 
-  module _ {p : Places} (e : Some p ≡ places_of s) where
+  module _ {p : Places} (e : Some p ≡ case_places s) where
     pub no_records : None ≡ measured (records_from (length s) s p.records) → told (Err Refusal.LentBytesUnreadable) ≡ verdict_of (case_of s)
     unfolding ◌>>=◌
     no_records h = unreadable s (case-is ∙ rw (sym e, none_of (records_from (length s) s p.records) (sym h)))

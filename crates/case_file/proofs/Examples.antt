@@ -14,7 +14,7 @@ use Rattle.rules.specs.Judge.{judge, ruling, ruling_against, opening, closing, s
 use Rattle.rules.specs.Lines.{verdict, first_failing, followed, line_with}
 use Rattle.rules.specs.Lines as lines
 use Rattle.verdict_line.specs.VerdictLine.{digit, digits, decimal, spaced, refused_with, line_of}
-use Rattle.case_file.specs.CaseFile.{◌>>=◌, kind_at, length_at, all_zero, item_at, optional_at, rate_at, dead_at, cell_at, record_at, records_from, record_bytes, record_list, read_case, case_of, verdict_of, case_line}
+use Rattle.case_file.specs.CaseFile.{◌>>=◌, kind_at, length_at, all_zero, item_at, optional_at, rate_at, dead_at, cell_at, resolved_at, records_from, record_bytes, record_list, read_case, case_of, verdict_of, case_line}
 
 -- items 2, 3 and 5 of length 0, and a rate of 7
 abbrev no_scripts : List ℕ
@@ -44,7 +44,7 @@ whole = 1 ∷ 0 ∷ 0 ∷ 16 ∷ 1 ∷ 0 ∷ 0 ∷ 0 ∷ 1 ∷ 0 ∷ 0 ∷ 32 �
 
 whole-case : case_of whole
     ≡ some (record { ours = 1 ∷ []; peer = 2 ∷ []; lock = 3 ∷ []; type = 4 ∷ []; source = 5 ∷ []; rate = 7; records = some (record { output = 6 ∷ 7 ∷ []; cell_data = 8 ∷ [] }) ∷ none ∷ [] })
-unfolding case_of read_case only pick optional_at item_at rate_at ◌>>=◌ kind_at length_at num_at le part all_zero records_from record_at dead_at cell_at
+unfolding case_of read_case only pick optional_at item_at rate_at ◌>>=◌ kind_at length_at num_at le part all_zero records_from resolved_at dead_at cell_at
 whole-case = refl
 
 -- the list that those records are lent in
@@ -55,35 +55,35 @@ whole-records = refl
 
 -- padding that is not zero
 padding : case_of (1 ∷ 0 ∷ 0 ∷ 16 ∷ 1 ∷ 0 ∷ 0 ∷ 1 ∷ 0 ∷ 0 ∷ 0 ∷ 32 ∷ 0 ∷ 0 ∷ 0 ∷ 48 ∷ 0 ∷ 0 ∷ 0 ∷ 80 ∷ 8 ∷ 0 ∷ 0 ∷ 96 ∷ 7 ∷ 0 ∷ 0 ∷ 0 ∷ 0 ∷ 0 ∷ 0 ∷ 0 ∷ []) ≡ none
-unfolding case_of read_case only pick optional_at item_at rate_at ◌>>=◌ kind_at length_at num_at le part all_zero records_from record_at dead_at cell_at
+unfolding case_of read_case only pick optional_at item_at rate_at ◌>>=◌ kind_at length_at num_at le part all_zero records_from resolved_at dead_at cell_at
 padding = refl
 
 -- the lock before the peer's transaction
 order : case_of (0 ∷ 0 ∷ 0 ∷ 48 ∷ 0 ∷ 0 ∷ 0 ∷ 32 ∷ 0 ∷ 0 ∷ 0 ∷ 80 ∷ 8 ∷ 0 ∷ 0 ∷ 96 ∷ 7 ∷ 0 ∷ 0 ∷ 0 ∷ 0 ∷ 0 ∷ 0 ∷ 0 ∷ []) ≡ none
-unfolding case_of read_case only pick optional_at item_at rate_at ◌>>=◌ kind_at length_at num_at le part all_zero records_from record_at dead_at cell_at
+unfolding case_of read_case only pick optional_at item_at rate_at ◌>>=◌ kind_at length_at num_at le part all_zero records_from resolved_at dead_at cell_at
 order = refl
 
 -- a body past the end of the file
 past : case_of (0 ∷ 0 ∷ 0 ∷ 32 ∷ 0 ∷ 0 ∷ 0 ∷ 48 ∷ 0 ∷ 0 ∷ 0 ∷ 80 ∷ 8 ∷ 0 ∷ 0 ∷ 96 ∷ 7 ∷ 0 ∷ 0 ∷ 0 ∷ 0 ∷ 0 ∷ 0 ∷ []) ≡ none
-unfolding case_of read_case only pick optional_at item_at rate_at ◌>>=◌ kind_at length_at num_at le part all_zero records_from record_at dead_at cell_at
+unfolding case_of read_case only pick optional_at item_at rate_at ◌>>=◌ kind_at length_at num_at le part all_zero records_from resolved_at dead_at cell_at
 past = refl
 
 -- a rate of 7 bytes
 short_rate : case_of (0 ∷ 0 ∷ 0 ∷ 32 ∷ 0 ∷ 0 ∷ 0 ∷ 48 ∷ 0 ∷ 0 ∷ 0 ∷ 80 ∷ 7 ∷ 0 ∷ 0 ∷ 96 ∷ 7 ∷ 0 ∷ 0 ∷ 0 ∷ 0 ∷ 0 ∷ 0 ∷ 0 ∷ []) ≡ none
-unfolding case_of read_case only pick optional_at item_at rate_at ◌>>=◌ kind_at length_at num_at le part all_zero records_from record_at dead_at cell_at
+unfolding case_of read_case only pick optional_at item_at rate_at ◌>>=◌ kind_at length_at num_at le part all_zero records_from resolved_at dead_at cell_at
 short_rate = refl
 
 -- a byte after the last item
 trailing : case_of (0 ∷ 0 ∷ 0 ∷ 32 ∷ 0 ∷ 0 ∷ 0 ∷ 48 ∷ 0 ∷ 0 ∷ 0 ∷ 80 ∷ 8 ∷ 0 ∷ 0 ∷ 96 ∷ 7 ∷ 0 ∷ 0 ∷ 0 ∷ 0 ∷ 0 ∷ 0 ∷ 0 ∷ 0 ∷ []) ≡ none
-unfolding case_of read_case only pick optional_at item_at rate_at ◌>>=◌ kind_at length_at num_at le part all_zero records_from record_at dead_at cell_at
+unfolding case_of read_case only pick optional_at item_at rate_at ◌>>=◌ kind_at length_at num_at le part all_zero records_from resolved_at dead_at cell_at
 trailing = refl
 
 -- an output without its data
 no_data : case_of (0 ∷ 0 ∷ 0 ∷ 32 ∷ 0 ∷ 0 ∷ 0 ∷ 48 ∷ 0 ∷ 0 ∷ 0 ∷ 80 ∷ 8 ∷ 0 ∷ 0 ∷ 96 ∷ 7 ∷ 0 ∷ 0 ∷ 0 ∷ 0 ∷ 0 ∷ 0 ∷ 0 ∷ 0 ∷ 0 ∷ 0 ∷ 112 ∷ []) ≡ none
-unfolding case_of read_case only pick optional_at item_at rate_at ◌>>=◌ kind_at length_at num_at le part all_zero records_from record_at dead_at cell_at
+unfolding case_of read_case only pick optional_at item_at rate_at ◌>>=◌ kind_at length_at num_at le part all_zero records_from resolved_at dead_at cell_at
 no_data = refl
 
 -- a cell that is not live, with a body
 long_dead : case_of (0 ∷ 0 ∷ 0 ∷ 32 ∷ 0 ∷ 0 ∷ 0 ∷ 48 ∷ 0 ∷ 0 ∷ 0 ∷ 80 ∷ 8 ∷ 0 ∷ 0 ∷ 96 ∷ 7 ∷ 0 ∷ 0 ∷ 0 ∷ 0 ∷ 0 ∷ 0 ∷ 0 ∷ 1 ∷ 0 ∷ 0 ∷ 144 ∷ 1 ∷ 0 ∷ 0 ∷ 0 ∷ []) ≡ none
-unfolding case_of read_case only pick optional_at item_at rate_at ◌>>=◌ kind_at length_at num_at le part all_zero records_from record_at dead_at cell_at
+unfolding case_of read_case only pick optional_at item_at rate_at ◌>>=◌ kind_at length_at num_at le part all_zero records_from resolved_at dead_at cell_at
 long_dead = refl

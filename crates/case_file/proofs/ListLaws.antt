@@ -14,7 +14,7 @@ use Rattle.molecule.specs.Write.{put_at, put_end, Put}
 use Rattle.molecule.proofs.ItemsLaws.{length-join, unwords_length, length-offsets, length_flatten}
 use Rattle.molecule.proofs.WriteLaws.{did, none, then, and_put, as_bytes, length-kept}
 use Rattle.case_file.specs.CaseFile.{kind_at, body_at, item_at}
-use Rattle.case_file.specs.Walk.{end_of, body_there, entry_at, next_at, cell_bytes, walk}
+use Rattle.case_file.specs.Walk.{next_of, body_there, entry_at, next_at, cell_bytes, walk}
 use Rattle.case_file.proofs.RecordLaws.{entry-none, cell-length}
 
 -- ---- a cell
@@ -49,7 +49,7 @@ module _ (out : List ℕ) (at : ℕ) (o d : List ℕ) {o₁ o₂ o₃ o₄ : Lis
 
 -- ---- a record
 
-pub entry-cell : (s : List ℕ) (at : ℕ) → eqb (kind_at s at) 9 ≡ false → entry_at s at ≡ cell_bytes (body_at s at) (body_there s (end_of (item_at s 7 at)))
+pub entry-cell : (s : List ℕ) (at : ℕ) → eqb (kind_at s at) 9 ≡ false → entry_at s at ≡ cell_bytes (body_at s at) (body_there s (next_of (item_at s 7 at)))
 unfolding entry_at pick
 entry-cell s at h = rw h
 
@@ -57,7 +57,7 @@ module _ (s : List ℕ) (at : ℕ) (out : List ℕ) (to : ℕ) (h : to + length 
   pub entry_none-put : eqb (kind_at s at) 9 ≡ true → Put out to (entry_at s at) out to
   entry_none-put z = rw (entry-none s at z) (none out to (omega arith))
 
-  module _ (z : eqb (kind_at s at) 9 ≡ false) {o d : List ℕ} (b : o ≡ body_at s at) (c : d ≡ body_there s (end_of (item_at s 7 at))) where
+  module _ (z : eqb (kind_at s at) 9 ≡ false) {o d : List ℕ} (b : o ≡ body_at s at) (c : d ≡ body_there s (next_of (item_at s 7 at))) where
     entry-is : cell_bytes o d ≡ entry_at s at
     entry-is = rw (b, c) (sym (entry-cell s at z))
 

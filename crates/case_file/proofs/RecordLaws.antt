@@ -19,8 +19,8 @@ use Rattle.molecule.specs.Layout.{part}
 use Rattle.molecule.proofs.ItemsLaws.{length-join}
 use Rattle.rules.specs.Cells.{Cell}
 use Rattle.case_file.specs.declared.record_list.Measured.{Measured}
-use Rattle.case_file.specs.CaseFile.{Read, ◌>>=◌, kind_at, length_at, body_end, item_end, body_at, all_zero, item_at, dead_at, cell_at, record_at, records_from, record_bytes, record_list}
-use Rattle.case_file.specs.Walk.{end_of, entry_at, cell_bytes, walk, measured}
+use Rattle.case_file.specs.CaseFile.{Read, ◌>>=◌, kind_at, length_at, body_end, item_end, body_at, all_zero, item_at, dead_at, cell_at, resolved_at, records_from, record_bytes, record_list}
+use Rattle.case_file.specs.Walk.{next_of, entry_at, cell_bytes, walk, measured}
 
 -- ---- what is known where something is found
 
@@ -59,29 +59,29 @@ unfolding cell_bytes flatten
 cell-length o d = length-join (o ∷ (to_le 4 (length d) ++ d) ∷ []) ∙ simp (length-append, length-to_le) (omega arith)
 
 -- where something ends it is there
-pub ended_at : {A : Type 0} (o : Option (Read A)) {n : ℕ} → Some n ≡ end_of o → (r : Read A) × (o ≡ some r) × (n ≡ r.next)
+pub ended_at : {A : Type 0} (o : Option (Read A)) {n : ℕ} → Some n ≡ next_of o → (r : Read A) × (o ≡ some r) × (n ≡ r.next)
 ended_at none {n} h = absurd (none-some n (sym h))
 ended_at (some r) {n} h = (r, refl, same_Some n r.next h)
 
-pub nothing_at : {A : Type 0} (o : Option (Read A)) → None ≡ end_of o → o ≡ none
+pub nothing_at : {A : Type 0} (o : Option (Read A)) → None ≡ next_of o → o ≡ none
 nothing_at none h = refl
 nothing_at (some r) h = absurd (none-some r.next h)
 
 -- ---- the ways out of the functions that find the end of a record
 
 -- what is read changes, the place after it does not
-same_end : {A : Type 0} (g : List ℕ → A) (o : Option (Read (List ℕ))) → end_of (o >>= λ x. some (record { got = g x.got; next = x.next })) ≡ end_of o
+same_end : {A : Type 0} (g : List ℕ → A) (o : Option (Read (List ℕ))) → next_of (o >>= λ x. some (record { got = g x.got; next = x.next })) ≡ next_of o
 unfolding ◌>>=◌
 same_end g none = refl
 same_end g (some x) = refl
 
 only_end : (g : List ℕ → Option Cell) (b : Bool) (o : Option (Read (List ℕ)))
-    → end_of (only b (o >>= λ x. some (record { got = g x.got; next = x.next }))) ≡ end_of (only b o)
+    → next_of (only b (o >>= λ x. some (record { got = g x.got; next = x.next }))) ≡ next_of (only b o)
 unfolding only
 only_end g true o = same_end g o
 only_end g false o = refl
 
-pub dead_is : (s : List ℕ) (at : ℕ) → end_of (dead_at s at) ≡ end_of (only (eqb (length_at s at) 0) (item_at s 9 at))
+pub dead_is : (s : List ℕ) (at : ℕ) → next_of (dead_at s at) ≡ next_of (only (eqb (length_at s at) 0) (item_at s 9 at))
 unfolding dead_at
 dead_is s at = only_end (λ _. none) (eqb (length_at s at) 0) (item_at s 9 at)
 
@@ -89,15 +89,15 @@ abbrev cell_of : Read (List ℕ) → List ℕ → Option Cell
 cell_of output content = some (record { output = output.got; cell_data = content })
 
 -- item 8 after item 7
-pub no_cell : (s : List ℕ) (at : ℕ) → None ≡ end_of (item_at s 7 at) → end_of (cell_at s at) ≡ None
+pub no_cell : (s : List ℕ) (at : ℕ) → None ≡ next_of (item_at s 7 at) → next_of (cell_at s at) ≡ None
 unfolding cell_at ◌>>=◌
 no_cell s at h = rw (nothing_at (item_at s 7 at) h)
 
-second_end : (s : List ℕ) (at p : ℕ) (x : Read (List ℕ)) → item_at s 7 at ≡ some x → p ≡ x.next → end_of (cell_at s at) ≡ end_of (item_at s 8 p)
+second_end : (s : List ℕ) (at p : ℕ) (x : Read (List ℕ)) → item_at s 7 at ≡ some x → p ≡ x.next → next_of (cell_at s at) ≡ next_of (item_at s 8 p)
 unfolding cell_at ◌>>=◌
 second_end s at p x e n = rw (e, n) (same_end (cell_of x) (item_at s 8 x.next))
 
-pub cell-is : (s : List ℕ) (at : ℕ) {p : ℕ} → Some p ≡ end_of (item_at s 7 at) → end_of (cell_at s at) ≡ end_of (item_at s 8 p)
+pub cell-is : (s : List ℕ) (at : ℕ) {p : ℕ} → Some p ≡ next_of (item_at s 7 at) → next_of (cell_at s at) ≡ next_of (item_at s 8 p)
 cell-is s at {p} h = let (x, e, n) = ended_at (item_at s 7 at) h in second_end s at p x e n
 
 -- ---- a record that is found: the bytes that it has in the list, and how many more they may be than in the file
@@ -175,25 +175,25 @@ unfolding pick
 picked s at true k h = dead_entry s at k h
 picked s at false k h = cell-entry s at k h
 
-pub record_some : (s : List ℕ) (at : ℕ) {r : Read (Option Cell)} → record_at s at ≡ some r → Entry s at r
-unfolding record_at
+pub record_some : (s : List ℕ) (at : ℕ) {r : Read (Option Cell)} → resolved_at s at ≡ some r → Entry s at r
+unfolding resolved_at
 record_some s at e = picked s at (eqb (kind_at s at) 9) refl e
 
 -- ---- all records
 
 -- one more, before others
-walk_cons : (s : List ℕ) (at : ℕ) (r : Read (Option Cell)) (rs ws : List (Option Cell)) → record_at s at ≡ some r → map record_bytes ws ≡ walk (length ws) s r.next → some (r.got ∷ ws) ≡ some rs
+walk_cons : (s : List ℕ) (at : ℕ) (r : Read (Option Cell)) (rs ws : List (Option Cell)) → resolved_at s at ≡ some r → map record_bytes ws ≡ walk (length ws) s r.next → some (r.got ∷ ws) ≡ some rs
     → map record_bytes rs ≡ walk (length rs) s at
 unfolding walk
 walk_cons s at r rs ws e h g = rw (sym (some-injective _ _ g), e, (record_some s at e).bytes, h)
 
 walk_step : (k : ℕ) (s : List ℕ) (at : ℕ) (rs : List (Option Cell)) (b : Bool)
     → ((to : ℕ) (ws : List (Option Cell)) → records_from k s to ≡ some ws → map record_bytes ws ≡ walk (length ws) s to)
-    → pick b (some []) (record_at s at >>= λ r. records_from k s r.next >>= λ ws. some (r.got ∷ ws)) ≡ some rs → map record_bytes rs ≡ walk (length rs) s at
+    → pick b (some []) (resolved_at s at >>= λ r. records_from k s r.next >>= λ ws. some (r.got ∷ ws)) ≡ some rs → map record_bytes rs ≡ walk (length rs) s at
 unfolding pick walk
 walk_step k s at rs true ih e = rw (sym (some-injective _ _ e))
 walk_step k s at rs false ih e =
-    let (r, e₁, e₂) = bind_some (record_at s at) _ e in
+    let (r, e₁, e₂) = bind_some (resolved_at s at) _ e in
     let (ws, e₃, e₄) = bind_some (records_from k s r.next) _ e₂ in
     walk_cons s at r rs ws e₁ (ih r.next ws e₃) e₄
 
@@ -252,7 +252,7 @@ count-one g count size (some rs) =
 
 -- a turn from at, of which k more are allowed
 module _ (s : List ℕ) (at count size : ℕ) {m : rust.Option Measured} where
-  turn_found : (k : ℕ) (r : Read (Option Cell)) → at < length s → length s < at + k → record_at s at ≡ some r → m ≡ more count size (records_from k s at)
+  turn_found : (k : ℕ) (r : Read (Option Cell)) → at < length s → length s < at + k → resolved_at s at ≡ some r → m ≡ more count size (records_from k s at)
       → m ≡ more (count + 1) (size + 4 + length (record_bytes r.got)) (records_from (k - 1) s r.next)
   unfolding records_from pick ◌>>=◌
   turn_found zero r h f e g = absurd (omega arith)
@@ -260,7 +260,7 @@ module _ (s : List ℕ) (at count size : ℕ) {m : rust.Option Measured} where
       let j : suc k - 1 ≡ k = omega arith in
       rw j (g ∙ rw (ne_eqb at (length s) (omega arith), e) (count-one r.got count size (records_from k s r.next)))
 
-  turn_none : (k : ℕ) → at < length s → length s < at + k → record_at s at ≡ none → m ≡ more count size (records_from k s at) → m ≡ None
+  turn_none : (k : ℕ) → at < length s → length s < at + k → resolved_at s at ≡ none → m ≡ more count size (records_from k s at) → m ≡ None
   unfolding records_from pick ◌>>=◌ more
   turn_none zero h f e g = absurd (omega arith)
   turn_none (suc k) h f e g = g ∙ rw (ne_eqb at (length s) (omega arith), e)
@@ -271,12 +271,12 @@ module _ (s : List ℕ) (at count size : ℕ) {m : rust.Option Measured} where
   turn_end (suc k) h f g = g ∙ rw (eq-eqb at (length s) h) (rw (add-zero count, add-zero size))
 
 module _ {s : List ℕ} {from at count size : ℕ} (c : Scanning s from at count size) where
-  pub scan_stop : at < length s → None ≡ end_of (record_at s at) → None ≡ measured (records_from (length s) s from)
-  scan_stop h e = sym (turn_none s at count size c.fuel h c.enough (nothing_at (record_at s at) e) c.ahead)
+  pub scan_stop : at < length s → None ≡ next_of (resolved_at s at) → None ≡ measured (records_from (length s) s from)
+  scan_stop h e = sym (turn_none s at count size c.fuel h c.enough (nothing_at (resolved_at s at) e) c.ahead)
 
-  pub scan_more : {next n : ℕ} → at < length s → Some next ≡ end_of (record_at s at) → n ≡ length (entry_at s at) → Scanning s from next (count + 1) (size + (4 + n))
+  pub scan_more : {next n : ℕ} → at < length s → Some next ≡ next_of (resolved_at s at) → n ≡ length (entry_at s at) → Scanning s from next (count + 1) (size + (4 + n))
   scan_more {next} {n} h e l =
-      let (r, f, g) = ended_at (record_at s at) e in
+      let (r, f, g) = ended_at (resolved_at s at) e in
       let i = record_some s at f in
       let b : n ≡ length (record_bytes r.got) = l ∙ sym (ap length i.bytes) in
       let w : size + (4 + n) ≡ size + 4 + n = omega arith in
@@ -296,5 +296,5 @@ module _ {s : List ℕ} {from at count size : ℕ} (c : Scanning s from at count
   pub scan_fits : size ≤ 163844
   scan_fits = omega arith
 
-  pub scan_less : {next : ℕ} → at < length s → Some next ≡ end_of (record_at s at) → length s - next < length s - at
-  scan_less h e = let (r, f, g) = ended_at (record_at s at) e in let i = record_some s at f in omega arith
+  pub scan_less : {next : ℕ} → at < length s → Some next ≡ next_of (resolved_at s at) → length s - next < length s - at
+  scan_less h e = let (r, f, g) = ended_at (resolved_at s at) e in let i = record_some s at f in omega arith

@@ -75,13 +75,13 @@ cell_at s at = do
   content ← item_at s 8 output.next
   some (record { got = some (record { output = output.got; cell_data = content.got }); next = content.next })
 
-unfoldable pub record_at : List ℕ → ℕ → Option (Read (Option Cell))
-record_at s at = pick (eqb (kind_at s at) 9) (dead_at s at) (cell_at s at)
+unfoldable pub resolved_at : List ℕ → ℕ → Option (Read (Option Cell))
+resolved_at s at = pick (eqb (kind_at s at) 9) (dead_at s at) (cell_at s at)
 
 -- the records from a place up to the end of the file, fewer than n: each takes up 4 bytes, so the length of the file is enough
 unfoldable pub records_from : ℕ → List ℕ → ℕ → Option (List (Option Cell))
 records_from zero s at = none
-records_from (suc n) s at = pick (eqb at (length s)) (some []) (record_at s at >>= λ r. records_from n s r.next >>= λ rs. some (r.got ∷ rs))
+records_from (suc n) s at = pick (eqb at (length s)) (some []) (resolved_at s at >>= λ r. records_from n s r.next >>= λ rs. some (r.got ∷ rs))
 
 -- a record as `update_for_peer` is lent it: not live is no bytes, any other a table of the output and the data, with its count
 unfoldable pub record_bytes : Option Cell → List ℕ

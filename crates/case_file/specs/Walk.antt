@@ -13,22 +13,22 @@ use Rattle.case_file.specs.declared.items.Kind.{Kind}
 use Rattle.case_file.specs.declared.items.Kind.TheVariants.{Ours, Peer, Lock, Udt, Source, Rate, Output, Data, NotLive}
 use Rattle.case_file.specs.declared.items.Places.{Places}
 use Rattle.case_file.specs.declared.record_list.Measured.{Measured}
-use Rattle.case_file.specs.CaseFile.{Read, kind_at, body_at, item_at, optional_at, rate_at, record_at, record_list}
+use Rattle.case_file.specs.CaseFile.{Read, kind_at, body_at, item_at, optional_at, rate_at, resolved_at, record_list}
 
-abbrev pub number_of : Kind → ℕ
-number_of Ours = 1
-number_of Peer = 2
-number_of Lock = 3
-number_of Udt = 4
-number_of Source = 5
-number_of Rate = 6
-number_of Output = 7
-number_of Data = 8
-number_of NotLive = 9
+abbrev pub kind_number : Kind → ℕ
+kind_number Ours = 1
+kind_number Peer = 2
+kind_number Lock = 3
+kind_number Udt = 4
+kind_number Source = 5
+kind_number Rate = 6
+kind_number Output = 7
+kind_number Data = 8
+kind_number NotLive = 9
 
-abbrev pub end_of : {A : Type 0} → maybe.Option (Read A) → Option ℕ
-end_of none = None
-end_of (some r) = Some r.next
+abbrev pub next_of : {A : Type 0} → maybe.Option (Read A) → Option ℕ
+next_of none = None
+next_of (some r) = Some r.next
 
 -- ---- the items before the records
 
@@ -37,14 +37,14 @@ infixl 10 ◌>>=◌
 abbrev pub ◌>>=◌ : {A B : Type 0} → Option A → (A → Option B) → Option B
 ◌>>=◌ o f = option_and_then f o
 
-unfoldable pub places_of : List ℕ → Option Places
-places_of s = do
-  peer ← end_of (optional_at s 1 0)
-  lock ← end_of (item_at s 2 peer)
-  udt ← end_of (item_at s 3 lock)
-  source ← end_of (optional_at s 4 udt)
-  rate ← end_of (item_at s 5 source)
-  records ← end_of (rate_at s rate)
+unfoldable pub case_places : List ℕ → Option Places
+case_places s = do
+  peer ← next_of (optional_at s 1 0)
+  lock ← next_of (item_at s 2 peer)
+  udt ← next_of (item_at s 3 lock)
+  source ← next_of (optional_at s 4 udt)
+  rate ← next_of (item_at s 5 source)
+  records ← next_of (rate_at s rate)
   Some (record { peer = peer; lock = lock; udt = udt; source = source; rate = rate; records = records })
 
 unfoldable pub optional_body : List ℕ → ℕ → ℕ → List ℕ
@@ -69,11 +69,11 @@ body_there s (Some at) = body_at s at
 
 -- the record at a place, as it is lent
 unfoldable pub entry_at : List ℕ → ℕ → List ℕ
-entry_at s at = pick (eqb (kind_at s at) 9) [] (cell_bytes (body_at s at) (body_there s (end_of (item_at s 7 at))))
+entry_at s at = pick (eqb (kind_at s at) 9) [] (cell_bytes (body_at s at) (body_there s (next_of (item_at s 7 at))))
 
 -- where the next record stands: where there is none, at the end
 abbrev pub next_at : List ℕ → ℕ → ℕ
-next_at s at = unwrap_or (end_of (record_at s at)) (length s)
+next_at s at = unwrap_or (next_of (resolved_at s at)) (length s)
 
 -- n records from a place on
 unfoldable pub walk : ℕ → List ℕ → ℕ → List (List ℕ)

@@ -2,7 +2,7 @@
 ghost use Rattle.std.specs.Prelude.{◌≡◌, ◌≤◌, ◌<◌, length, eqb, IfSome};
 ghost use Rattle.molecule.specs.Partial.{only};
 ghost use Rattle.case_file.specs.CaseFile.{kind_at, length_at, body_at, all_zero, item_at, optional_at};
-ghost use Rattle.case_file.specs.Walk.{number_of, end_of, places_of, optional_body};
+ghost use Rattle.case_file.specs.Walk.{kind_number, next_of, case_places, optional_body};
 
 use arithmetic::little_endian;
 
@@ -51,7 +51,7 @@ fn all_zero(s: &[u8]) -> bool
 impl<'a> CaseFile<'a> {
     // Whether the word at a place has a kind. Where no word stands it has none.
     pub(crate) fn is_kind(self, kind: Kind, at: usize) -> bool
-        ensures { result ≡ eqb (kind_at self.entry.bytes.now at) (number_of kind) }
+        ensures { result ≡ eqb (kind_at self.entry.bytes.now at) (kind_number kind) }
     {
         little_endian::u32_at(self.bytes, at) / LENGTHS == kind as u32
     }
@@ -78,7 +78,7 @@ impl<'a> CaseFile<'a> {
 
     // The place after the item of a kind at a place: its word, its body, and its padding, which is zero.
     pub(crate) fn item_end(self, kind: Kind, at: usize) -> Option<usize>
-        ensures value { result ≡ end_of (item_at self.entry.bytes.now (number_of kind) at) }
+        ensures value { result ≡ next_of (item_at self.entry.bytes.now (kind_number kind) at) }
         ensures within { IfSome result (λ end. (at < end) × (end ≤ length self.entry.bytes.now)) }
     {
         let s = self.bytes;
@@ -101,7 +101,7 @@ impl<'a> CaseFile<'a> {
 
     // The same for an item whose body has so many bytes.
     pub(crate) fn sized_end(self, kind: Kind, len: u32, at: usize) -> Option<usize>
-        ensures value { result ≡ end_of (only (eqb (length_at self.entry.bytes.now at) len) (item_at self.entry.bytes.now (number_of kind) at)) }
+        ensures value { result ≡ next_of (only (eqb (length_at self.entry.bytes.now at) len) (item_at self.entry.bytes.now (kind_number kind) at)) }
         ensures within { IfSome result (λ end. (at < end) × (end ≤ length self.entry.bytes.now)) }
     {
         if self.length_at(at) != len {
@@ -112,7 +112,7 @@ impl<'a> CaseFile<'a> {
 
     // The same for an item that may be missing.
     fn optional_end(self, kind: Kind, at: usize) -> Option<usize>
-        ensures { result ≡ end_of (optional_at self.entry.bytes.now (number_of kind) at) }
+        ensures { result ≡ next_of (optional_at self.entry.bytes.now (kind_number kind) at) }
     {
         if self.is_kind(kind, at) {
             self.item_end(kind, at)
@@ -123,7 +123,7 @@ impl<'a> CaseFile<'a> {
 
     // The body of an item that may be missing: then it is empty.
     pub(crate) fn optional_body(self, kind: Kind, at: usize) -> &'a [u8]
-        ensures { result.now ≡ optional_body self.entry.bytes.now (number_of kind) at }
+        ensures { result.now ≡ optional_body self.entry.bytes.now (kind_number kind) at }
     {
         if !self.is_kind(kind, at) {
             return molecule::part(self.bytes, 0, 0);
@@ -133,7 +133,7 @@ impl<'a> CaseFile<'a> {
 
     // The places of a file, if each item is in its shape; a fee rate has 8 bytes.
     pub(crate) fn find_places(self) -> Option<Places>
-        ensures value { result ≡ places_of self.entry.bytes.now }
+        ensures value { result ≡ case_places self.entry.bytes.now }
         ensures within { IfSome result (λ p. (0 < p.records) × (p.records ≤ length self.entry.bytes.now)) }
     {
         let peer = self.optional_end(Kind::Ours, 0)?;

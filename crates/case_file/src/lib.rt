@@ -1,5 +1,5 @@
 // Judges the update that a case file holds, and writes the verdict line.
-#![tactic(auto, using(crate::proofs::Ways::ways), unfolding(crate::specs::CaseFile::optional_at, crate::specs::CaseFile::rate_at, crate::specs::CaseFile::record_at, crate::specs::CaseFile::dead_at, crate::specs::Walk::places_of, crate::specs::Walk::optional_body, crate::specs::Walk::verdict_at, molecule::specs::Partial::only, molecule::specs::Partial::pick))]
+#![tactic(auto, using(crate::proofs::Ways::ways), unfolding(crate::specs::CaseFile::optional_at, crate::specs::CaseFile::rate_at, crate::specs::CaseFile::resolved_at, crate::specs::CaseFile::dead_at, crate::specs::Walk::case_places, crate::specs::Walk::optional_body, crate::specs::Walk::verdict_at, molecule::specs::Partial::only, molecule::specs::Partial::pick))]
 
 mod items;
 mod record_list;

@@ -3,8 +3,8 @@ ghost use Rattle.std.specs.Prelude.{◌≡◌, ◌+◌, ◌≤◌, ◌<◌, ◌^
 ghost use mathlib.Core.List.{[], ◌∷◌, flatten};
 ghost use Rattle.molecule.specs.Items.{join, unwords, offsets};
 ghost use Rattle.molecule.specs.Write.{Put};
-ghost use Rattle.case_file.specs.CaseFile.{item_at, cell_at, record_at, records_from};
-ghost use Rattle.case_file.specs.Walk.{end_of, body_there, entry_at, next_at, cell_bytes, walk, measured};
+ghost use Rattle.case_file.specs.CaseFile.{item_at, cell_at, resolved_at, records_from};
+ghost use Rattle.case_file.specs.Walk.{next_of, body_there, entry_at, next_at, cell_bytes, walk, measured};
 
 use crate::items::{CaseFile, Kind};
 use molecule::write;
@@ -42,7 +42,7 @@ fn put_cell(out: &mut [u8], at: usize, output: &[u8], content: &[u8]) -> usize
 impl<'a> CaseFile<'a> {
     // The place after a cell: its output and its data.
     fn cell_end(self, at: usize) -> Option<usize>
-        ensures { result ≡ end_of (cell_at self.entry.bytes.now at) }
+        ensures { result ≡ next_of (cell_at self.entry.bytes.now at) }
     {
         let second = self.item_end(Kind::Output, at)?;
         self.item_end(Kind::Data, second)
@@ -50,7 +50,7 @@ impl<'a> CaseFile<'a> {
 
     // The place after the record at a place. One that is not live has length 0.
     fn record_end(self, at: usize) -> Option<usize>
-        ensures { result ≡ end_of (record_at self.entry.bytes.now at) }
+        ensures { result ≡ next_of (resolved_at self.entry.bytes.now at) }
     {
         if self.is_kind(Kind::NotLive, at) {
             self.sized_end(Kind::NotLive, 0, at)
@@ -68,7 +68,7 @@ impl<'a> CaseFile<'a> {
 
     // The data of the cell at a place, which stands behind its output.
     fn content(self, at: usize) -> &'a [u8]
-        ensures value { result.now ≡ body_there self.entry.bytes.now (end_of (item_at self.entry.bytes.now 7 at)) }
+        ensures value { result.now ≡ body_there self.entry.bytes.now (next_of (item_at self.entry.bytes.now 7 at)) }
         ensures upper_bound { length result.now ≤ 65536 }
     {
         match self.item_end(Kind::Output, at) {

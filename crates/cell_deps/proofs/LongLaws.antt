@@ -20,7 +20,7 @@ use Rattle.transaction.proofs.ListLaws.{dep-size}
 use Rattle.lists.specs.Lists.{contains}
 use Rattle.list_writer.specs.ListWriter.{fix_list, if_any}
 use Rattle.list_writer.proofs.AgainLaws.{items-long}
-use Rattle.cell_deps.specs.CellDeps.{pushed, push_all, all_deps, cell_deps, dep_at, dep_count}
+use Rattle.cell_deps.specs.CellDeps.{dep_pushed, push_all, all_deps, cell_deps, dep_at, dep_count}
 use Rattle.cell_deps.proofs.DepLaws.{all_spans}
 
 -- ---- lists of items of one length
@@ -30,8 +30,8 @@ module _ (k : ℕ) where
   long-append [] ys p q = q
   long-append (x ∷ xs) ys p q = (p.0, long-append xs ys p.1 q)
 
-  pushed_long : (deps : List (List ℕ)) (x : List ℕ) → Long k deps → length x ≡ k → Long k (pushed deps x)
-  unfolding pushed
+  pushed_long : (deps : List (List ℕ)) (x : List ℕ) → Long k deps → length x ≡ k → Long k (dep_pushed deps x)
+  unfolding dep_pushed
   pushed_long deps x p e = by (contains x deps)
     where
       by : (b : Bool) → Long k (cond b deps (deps ++ (x ∷ [])))
@@ -41,7 +41,7 @@ module _ (k : ℕ) where
   pub all_long : (deps xs : List (List ℕ)) → Long k deps → Long k xs → Long k (push_all deps xs)
   unfolding push_all
   all_long deps [] p q = p
-  all_long deps (x ∷ xs) p q = all_long (pushed deps x) xs (pushed_long deps x p q.0) q.1
+  all_long deps (x ∷ xs) p q = all_long (dep_pushed deps x) xs (pushed_long deps x p q.0) q.1
 
   pub any_long : (s : List ℕ) → (length s ≡ 0 → ⊥) → length s ≡ k → Long k (if_any s)
   unfolding if_any
@@ -94,8 +94,8 @@ module _ (a b c d : List ℕ) (ha : readable (option CellDeps) a ≡ true) (hb :
   too_many h = omega (arith, list_long 37 (cell_deps a b c d) cell-deps-long)
 
 -- each dep once is at most as many as there are
-pushed_most : (deps : List (List ℕ)) (x : List ℕ) → length (pushed deps x) ≤ length deps + 1
-unfolding pushed
+pushed_most : (deps : List (List ℕ)) (x : List ℕ) → length (dep_pushed deps x) ≤ length deps + 1
+unfolding dep_pushed
 pushed_most deps x = by (contains x deps)
   where
     by : (b : Bool) → length (cond b deps (deps ++ (x ∷ []))) ≤ length deps + 1
@@ -105,7 +105,7 @@ pushed_most deps x = by (contains x deps)
 all_most : (deps xs : List (List ℕ)) → length (push_all deps xs) ≤ length deps + length xs
 unfolding push_all
 all_most deps [] = omega arith
-all_most deps (x ∷ xs) = let a = pushed_most deps x in let b = all_most (pushed deps x) xs in omega arith
+all_most deps (x ∷ xs) = let a = pushed_most deps x in let b = all_most (dep_pushed deps x) xs in omega arith
 
 pub deps_most : (a b c d : List ℕ) → length (cell_deps a b c d) ≤ dep_count a b c d
 unfolding cell_deps

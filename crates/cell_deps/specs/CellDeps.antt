@@ -6,12 +6,12 @@ use Rattle.molecule.specs.Layout.{fix_count, fix_item, fix_items}
 use Rattle.list_writer.specs.ListWriter.{if_any}
 
 -- each dep once, where it first stands: a dep that is there already is not pushed again
-unfoldable pub pushed : List (List ℕ) → List ℕ → List (List ℕ)
-pushed deps x = cond (contains x deps) deps (deps ++ (x ∷ []))
+unfoldable pub dep_pushed : List (List ℕ) → List ℕ → List (List ℕ)
+dep_pushed deps x = cond (contains x deps) deps (deps ++ (x ∷ []))
 
 unfoldable pub push_all : List (List ℕ) → List (List ℕ) → List (List ℕ)
 push_all deps [] = deps
-push_all deps (x ∷ xs) = push_all (pushed deps x) xs
+push_all deps (x ∷ xs) = push_all (dep_pushed deps x) xs
 
 -- the present deps, the token's, the lock's, which is one dep or nothing, and the extra ones
 abbrev pub all_deps : List ℕ → List ℕ → List ℕ → List ℕ → List (List ℕ)

@@ -17,23 +17,23 @@ use Rattle.item_index.specs.Order.{order_of}
 use Rattle.lists.specs.Lists.{eq_bytes, contains}
 use Rattle.lists.proofs.SpanLaws.{span-on, span-end, span-whole}
 use Rattle.molecule.specs.Layout.{span}
-use Rattle.cell_deps.specs.CellDeps.{pushed, push_all, cell_deps, dep_at, dep_count, deps_at, Chooses, placed_at}
+use Rattle.cell_deps.specs.CellDeps.{dep_pushed, push_all, cell_deps, dep_at, dep_count, deps_at, Chooses, placed_at}
 use Rattle.cell_deps.proofs.DepLaws.{all_spans}
 use Rattle.distinct_deps.proofs.SortedLaws.{Ordered, Absent, Inserted, shifted-below, shifted_at, shifted-above, put_ordered, put_contains, contains_last, put_in, search_there, search_absent}
 
 -- ---- a dep that is there already, and one that is not
 
 module _ (deps : List (List ℕ)) (x : List ℕ) {r : Bool} (e : r ≡ contains x deps) where
-  pub there : r ≡ true → pushed deps x ≡ deps
-  unfolding pushed
+  pub there : r ≡ true → dep_pushed deps x ≡ deps
+  unfolding dep_pushed
   there t = rw (← e, t)
 
-  pub new : r ≡ false → pushed deps x ≡ deps ++ (x ∷ [])
-  unfolding pushed
+  pub new : r ≡ false → dep_pushed deps x ≡ deps ++ (x ∷ [])
+  unfolding dep_pushed
   new t = rw (← e, t)
 
-pushed_grows : (deps : List (List ℕ)) (x : List ℕ) → length deps ≤ length (pushed deps x)
-unfolding pushed
+pushed_grows : (deps : List (List ℕ)) (x : List ℕ) → length deps ≤ length (dep_pushed deps x)
+unfolding dep_pushed
 pushed_grows deps x = by (contains x deps)
   where
     by : (b : Bool) → length deps ≤ length (cond b deps (deps ++ (x ∷ [])))
@@ -43,7 +43,7 @@ pushed_grows deps x = by (contains x deps)
 pub all_grow : (deps xs : List (List ℕ)) → length deps ≤ length (push_all deps xs)
 unfolding push_all
 all_grow deps [] = omega arith
-all_grow deps (x ∷ xs) = let a = pushed_grows deps x in let b = all_grow (pushed deps x) xs in omega arith
+all_grow deps (x ∷ xs) = let a = pushed_grows deps x in let b = all_grow (dep_pushed deps x) xs in omega arith
 
 -- ---- the loop
 
@@ -100,7 +100,7 @@ module _ (a b c d : List ℕ) where
       abbrev y : List ℕ
       y = dep_at a b c d i
 
-      one_less : R ≡ push_all (pushed deps y) (span (dep_at a b c d) (i + 1) (n - (i + 1)))
+      one_less : R ≡ push_all (dep_pushed deps y) (span (dep_at a b c d) (i + 1) (n - (i + 1)))
       unfolding push_all
       one_less = k.rest ∙ ap (push_all deps) (span-on (dep_at a b c d) i n h)
 
@@ -164,7 +164,7 @@ module _ (a b c d : List ℕ) where
             let w = k.whole in
             let f : take (count + 1) (set p count i) ≡ take count p ++ (i ∷ []) = take_more_set p count i (omega arith) in
             let g : deps ++ (y ∷ []) ≡ map (dep_at a b c d) (take (count + 1) (set p count i)) = one_more ∙ ap (map (dep_at a b c d)) (sym f) in
-            let q : pushed deps y ≡ map (dep_at a b c d) (take (count + 1) (set p count i)) = new deps y refl fresh ∙ g in
+            let q : dep_pushed deps y ≡ map (dep_at a b c d) (take (count + 1) (set p count i)) = new deps y refl fresh ∙ g in
             record {
               within = omega arith;
               most = omega arith;

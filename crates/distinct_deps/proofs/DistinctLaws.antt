@@ -23,7 +23,7 @@ use Rattle.item_index.specs.Index.{Index, key_of, place_in}
 use Rattle.item_index.proofs.FindLaws.{index_front, position_eq}
 use Rattle.distinct_deps.specs.Listed.{Listed}
 use Rattle.item_index.proofs.OrderLaws.{three}
-use Rattle.cell_deps.specs.CellDeps.{before, any_count, last_dep_at, own_dep_at, dep_at, pushed, push_all, cell_deps, dep_count, deps_at, Chooses}
+use Rattle.cell_deps.specs.CellDeps.{before, any_count, last_dep_at, own_dep_at, dep_at, dep_pushed, push_all, cell_deps, dep_count, deps_at, Chooses}
 use Rattle.cell_deps.proofs.DepLaws.{before_in, before_past, any_none, span_agree, span-split, span-before, all_spans}
 use Rattle.distinct_deps.proofs.SortedLaws.{contains_last}
 use Rattle.distinct_deps.proofs.ChooseLaws.{there, new, all_grow, chosen-long}
@@ -245,7 +245,7 @@ module _ (a b c d : List ℕ) where
       abbrev y : List ℕ
       y = dep_at a b c d i
 
-      one_less : R ≡ push_all (pushed deps y) (span (dep_at a b c d) (i + 1) (n - (i + 1)))
+      one_less : R ≡ push_all (dep_pushed deps y) (span (dep_at a b c d) (i + 1) (n - (i + 1)))
       unfolding push_all
       one_less = k.rest ∙ ap (push_all deps) (span-on (dep_at a b c d) i n h)
 
@@ -286,7 +286,7 @@ module _ (a b c d : List ℕ) where
             let w = k.whole in
             let f : take (count + 1) (set p count i) ≡ take count p ++ (i ∷ []) = take_more_set p count i (omega arith) in
             let g : deps ++ (y ∷ []) ≡ map (dep_at a b c d) (take (count + 1) (set p count i)) = sym (map-append (dep_at a b c d) (take count p) (i ∷ [])) ∙ ap (map (dep_at a b c d)) (sym f) in
-            let q : pushed deps y ≡ map (dep_at a b c d) (take (count + 1) (set p count i)) = new deps y (sym (k.members y)) fresh ∙ g in
+            let q : dep_pushed deps y ≡ map (dep_at a b c d) (take (count + 1) (set p count i)) = new deps y (sym (k.members y)) fresh ∙ g in
             record {
               within = omega arith;
               all = k.all;

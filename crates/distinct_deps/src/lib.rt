@@ -10,7 +10,7 @@ ghost use Rattle.lists.specs.Lists.{contains};
 ghost use Rattle.cell_deps.specs.CellDeps.{any_count};
 ghost use Rattle.cell_deps.specs.DepLists.{dep_of, count_of};
 ghost use Rattle.distinct_deps.specs.Chosen.{ChoosesOf};
-ghost use Rattle.distinct_deps.specs.Indexed.{lists_in};
+ghost use Rattle.distinct_deps.specs.Indexed.{deps_in};
 
 use cell_deps::{DepLists, any_count};
 use in_turn::choose_in_turn;
@@ -40,7 +40,7 @@ struct IndexedLists<'a> {
 
 impl<'a> IndexedLists<'a> {
     fn lists(self) -> DepLists<'a>
-        ensures { result ≡ lists_in self.entry }
+        ensures { result ≡ deps_in self.entry }
     {
         DepLists {
             present: self.present.list,
@@ -52,8 +52,8 @@ impl<'a> IndexedLists<'a> {
 
     // Whether the dep at place i stands nowhere before.
     fn is_new(self, i: usize) -> bool
-        requires { i < count_of (lists_in self) }
-        ensures { result ≡ not (contains (dep_of (lists_in self.entry) i) (span (dep_of (lists_in self.entry)) 0 i)) }
+        requires { i < count_of (deps_in self) }
+        ensures { result ≡ not (contains (dep_of (deps_in self.entry) i) (span (dep_of (deps_in self.entry)) 0 i)) }
     {
         let x = self.lists().dep_at(i);
         let Some(own) = i.checked_sub(molecule::fix_count(self.present.list) as usize) else {
@@ -79,7 +79,7 @@ impl<'a> IndexedLists<'a> {
 
     // Puts the places of the new deps, in their order, and returns how many there are, or nothing where there are more than there is room for.
     fn gather(self, places: &mut [usize]) -> Option<usize>
-        ensures { ChoosesOf (lists_in self.entry) (length places.old) places.new result }
+        ensures { ChoosesOf (deps_in self.entry) (length places.old) places.new result }
     {
         let mut count = 0;
         for i in 0..self.lists().dep_count() {

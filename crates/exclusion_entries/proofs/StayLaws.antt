@@ -13,7 +13,7 @@ use Rattle.out_points.specs.Tables.{renew}
 use Rattle.exclusion_entries.specs.Exclusions.{MapEntry, excluded}
 use Rattle.exclusion_entries.specs.declared.{Rule.Rule, Survey.Survey}
 use Rattle.exclusion_entries.specs.Entries.{entry_bytes, entries_bytes, excluded_at, is_map}
-use Rattle.exclusion_entries.specs.Inner.{keeps, takes, stay, ahead, behind, front, loses, lost_one, took_one, stayed, turned, sweep, start, survey_of}
+use Rattle.exclusion_entries.specs.Inner.{keeps, takes, stay, ahead, behind, leading, loses, lost_one, took_one, stayed, turned, sweep, first_survey, survey_of}
 use Rattle.exclusion_entries.proofs.EntryLaws.{length-entry}
 use Rattle.exclusion_entries.proofs.MapLaws.{map-few, map-count, map-points}
 
@@ -43,23 +43,23 @@ module _ (f p : MapEntry → Bool) where
       by s true false k = rw k (ap (λ (r : List MapEntry). e ∷ r) s)
       by s false b k = s
 
-  pub stay-front : (l : List MapEntry) → stay f p false l ≡ front f p l ++ stay f p false (drop (length (front f p l)) l)
-  unfolding stay front
-  stay-front [] = refl
-  stay-front (e ∷ l) = by (stay-front l) (f e) (p e) refl refl
+  pub stay-leading : (l : List MapEntry) → stay f p false l ≡ leading f p l ++ stay f p false (drop (length (leading f p l)) l)
+  unfolding stay leading
+  stay-leading [] = refl
+  stay-leading (e ∷ l) = by (stay-leading l) (f e) (p e) refl refl
     where
-      by : stay f p false l ≡ front f p l ++ stay f p false (drop (length (front f p l)) l) → (a b : Bool) → f e ≡ a → p e ≡ b
-          → cond a (cond b (stay f p true l) (e ∷ stay f p false l)) (stay f p false l) ≡ cond a (cond b [] (e ∷ front f p l)) [] ++ stay f p false (drop (length (cond a (cond b [] (e ∷ front f p l)) [])) (e ∷ l))
+      by : stay f p false l ≡ leading f p l ++ stay f p false (drop (length (leading f p l)) l) → (a b : Bool) → f e ≡ a → p e ≡ b
+          → cond a (cond b (stay f p true l) (e ∷ stay f p false l)) (stay f p false l) ≡ cond a (cond b [] (e ∷ leading f p l)) [] ++ stay f p false (drop (length (cond a (cond b [] (e ∷ leading f p l)) [])) (e ∷ l))
       by s true true g h = rw (g, h)
       by s true false g h = ap (λ (r : List MapEntry). e ∷ r) s
       by s false b g h = rw g
 
-  pub front-is : (l : List MapEntry) → front f p l ≡ take (length (front f p l)) l
-  unfolding front
-  front-is [] = refl
-  front-is (e ∷ l) = by (front-is l) (f e) (p e)
+  pub leading-is : (l : List MapEntry) → leading f p l ≡ take (length (leading f p l)) l
+  unfolding leading
+  leading-is [] = refl
+  leading-is (e ∷ l) = by (leading-is l) (f e) (p e)
     where
-      by : front f p l ≡ take (length (front f p l)) l → (a b : Bool) → cond a (cond b [] (e ∷ front f p l)) [] ≡ take (length (cond a (cond b [] (e ∷ front f p l)) [])) (e ∷ l)
+      by : leading f p l ≡ take (length (leading f p l)) l → (a b : Bool) → cond a (cond b [] (e ∷ leading f p l)) [] ≡ take (length (cond a (cond b [] (e ∷ leading f p l)) [])) (e ∷ l)
       by s true true = refl
       by s true false = ap (λ (r : List MapEntry). e ∷ r) s
       by s false b = refl
@@ -112,8 +112,8 @@ module _ (f p : MapEntry → Bool) where
     pub stays_told : u.stays ≡ v.stays + length (stay f p v.taken l)
     pub points-told : u.points ≡ v.points + length (excluded (stay f p v.taken l))
     pub place-told : u.place ≡ v.place + cond v.taken 0 (length (entries_bytes (ahead f p l)))
-    pub from_told : u.from ≡ v.from + cond v.taken 0 (cond v.lost 0 (length (entries_bytes (front f p l))))
-    pub index-told : u.index ≡ v.index + cond v.taken 0 (cond v.lost 0 (length (front f p l)))
+    pub from_told : u.from ≡ v.from + cond v.taken 0 (cond v.lost 0 (length (entries_bytes (leading f p l))))
+    pub index-told : u.index ≡ v.index + cond v.taken 0 (cond v.lost 0 (length (leading f p l)))
 
   -- the first entry is not kept, is taken, stays: the rest tells all
   module _ (e : MapEntry) (l : List MapEntry) (stays points place from index : ℕ) (u : Survey) where
@@ -121,7 +121,7 @@ module _ (f p : MapEntry → Bool) where
     now lost taken = record { lost = lost; taken = taken; stays = stays; points = points; place = place; from = from; index = index }
 
     not_kept : (lost taken : Bool) → f e ≡ false → Tells (lost_one (now lost taken)) u l → Tells (now lost taken) u (e ∷ l)
-    unfolding lost_one stay loses ahead front entries_bytes
+    unfolding lost_one stay loses ahead leading entries_bytes
     not_kept true true k t = record {
       lost_told = t.lost_told;
       stays_told = rw k t.stays_told;
@@ -156,7 +156,7 @@ module _ (f p : MapEntry → Bool) where
     }
 
     took : (lost taken : Bool) → taken ≡ false → f e ≡ true → p e ≡ true → Tells (took_one (now lost taken)) u l → Tells (now lost taken) u (e ∷ l)
-    unfolding took_one stay loses ahead front entries_bytes
+    unfolding took_one stay loses ahead leading entries_bytes
     took lost true g k h t = absurd (let z : ◌≡◌ {A = ℕ} 0 1 = cc in omega arith)
     took true false g k h t = record {
       lost_told = t.lost_told;
@@ -176,7 +176,7 @@ module _ (f p : MapEntry → Bool) where
     }
 
     stays_on : (lost taken : Bool) → f e ≡ true → (taken ≡ false → p e ≡ false) → Tells (stayed (length e.points) (now lost taken)) u l → Tells (now lost taken) u (e ∷ l)
-    unfolding stayed stay loses ahead front entries_bytes excluded
+    unfolding stayed stay loses ahead leading entries_bytes excluded
     stays_on true true k h t = record {
       lost_told = t.lost_told;
       stays_told = rw (k) (omega (arith, t.stays_told));
@@ -206,12 +206,12 @@ module _ (f p : MapEntry → Bool) where
       stays_told = rw (k, h refl) (omega (arith, t.stays_told));
       points-told = rw (k, h refl) (omega (arith, t.points-told, length-append e.points (excluded (stay f p false l))));
       place-told = rw (k, h refl) (omega (arith, t.place-told, length-append (entry_bytes e) (entries_bytes (ahead f p l)), length-entry e));
-      from_told = rw (k, h refl) (omega (arith, t.from_told, length-append (entry_bytes e) (entries_bytes (front f p l)), length-entry e));
+      from_told = rw (k, h refl) (omega (arith, t.from_told, length-append (entry_bytes e) (entries_bytes (leading f p l)), length-entry e));
       index-told = rw (k, h refl) (omega (arith, t.index-told));
     }
 
   pub sweep_tells : (v : Survey) (l : List MapEntry) → Tells v (sweep f p v l) l
-  unfolding sweep stay loses ahead front entries_bytes excluded turned
+  unfolding sweep stay loses ahead leading entries_bytes excluded turned
   sweep_tells v [] = record {
     lost_told = by v.lost;
     stays_told = omega arith;
@@ -254,15 +254,15 @@ module _ (rule : Rule) (s : List ℕ) where
   unfolding survey_of
   told_bad = by (is_map s) refl
     where
-      by : {e : Refusal} → (b : Bool) → is_map s ≡ b → ◌≡◌ {A = Result Survey Refusal} (Err e) (cond b (Ok (sweep (keeps rule) (takes rule) start (excluded_at s))) (Err Refusal.LentBytesUnreadable)) → (is_map s ≡ false) × (e ≡ Refusal.LentBytesUnreadable)
+      by : {e : Refusal} → (b : Bool) → is_map s ≡ b → ◌≡◌ {A = Result Survey Refusal} (Err e) (cond b (Ok (sweep (keeps rule) (takes rule) first_survey (excluded_at s))) (Err Refusal.LentBytesUnreadable)) → (is_map s ≡ false) × (e ≡ Refusal.LentBytesUnreadable)
       by false k h = (k, cc)
       by true k h = cc
 
-  told_as : {v : Survey} → Ok v ≡ survey_of rule s → (is_map s ≡ true) × (v ≡ sweep (keeps rule) (takes rule) start (excluded_at s))
+  told_as : {v : Survey} → Ok v ≡ survey_of rule s → (is_map s ≡ true) × (v ≡ sweep (keeps rule) (takes rule) first_survey (excluded_at s))
   unfolding survey_of
   told_as = by (is_map s) refl
     where
-      by : {v : Survey} → (b : Bool) → is_map s ≡ b → ◌≡◌ {A = Result Survey Refusal} (Ok v) (cond b (Ok (sweep (keeps rule) (takes rule) start (excluded_at s))) (Err Refusal.LentBytesUnreadable)) → (is_map s ≡ true) × (v ≡ sweep (keeps rule) (takes rule) start (excluded_at s))
+      by : {v : Survey} → (b : Bool) → is_map s ≡ b → ◌≡◌ {A = Result Survey Refusal} (Ok v) (cond b (Ok (sweep (keeps rule) (takes rule) first_survey (excluded_at s))) (Err Refusal.LentBytesUnreadable)) → (is_map s ≡ true) × (v ≡ sweep (keeps rule) (takes rule) first_survey (excluded_at s))
       by true k h = (k, cc)
       by false k h = cc
 
@@ -273,31 +273,31 @@ module _ (rule : Rule) (s : List ℕ) {v : Survey} (e : Ok v ≡ survey_of rule 
   is : is_map s ≡ true
   is = told_good rule s e
 
-  tells : Tells (keeps rule) (takes rule) start v (excluded_at s)
-  tells = rw (told_as rule s e).1 (sweep_tells (keeps rule) (takes rule) start (excluded_at s))
+  tells : Tells (keeps rule) (takes rule) first_survey v (excluded_at s)
+  tells = rw (told_as rule s e).1 (sweep_tells (keeps rule) (takes rule) first_survey (excluded_at s))
 
   pub told_lost : v.lost ≡ loses (keeps rule) (takes rule) (excluded_at s)
-  unfolding start
+  unfolding first_survey
   told_lost = tells.lost_told
 
   pub told_stays : v.stays ≡ length (stay (keeps rule) (takes rule) false (excluded_at s))
-  unfolding start
+  unfolding first_survey
   told_stays = omega (arith, tells.stays_told)
 
   pub told-points : v.points ≡ length (excluded (stay (keeps rule) (takes rule) false (excluded_at s)))
-  unfolding start
+  unfolding first_survey
   told-points = omega (arith, tells.points-told)
 
   pub told-place : v.place ≡ 4 + length (entries_bytes (ahead (keeps rule) (takes rule) (excluded_at s)))
-  unfolding start
+  unfolding first_survey
   told-place = omega (arith, tells.place-told)
 
-  pub told-from : v.from ≡ 4 + length (entries_bytes (front (keeps rule) (takes rule) (excluded_at s)))
-  unfolding start
+  pub told-from : v.from ≡ 4 + length (entries_bytes (leading (keeps rule) (takes rule) (excluded_at s)))
+  unfolding first_survey
   told-from = omega (arith, tells.from_told)
 
-  pub told-index : v.index ≡ length (front (keeps rule) (takes rule) (excluded_at s))
-  unfolding start
+  pub told-index : v.index ≡ length (leading (keeps rule) (takes rule) (excluded_at s))
+  unfolding first_survey
   told-index = omega (arith, tells.index-told)
 
   pub stays_few : v.stays ≤ 64

@@ -17,7 +17,7 @@ use Rattle.out_points.specs.OutPoints.{eq_hash, byte32_at}
 use Rattle.exclusion_entries.specs.Exclusions.{has_hash}
 use Rattle.exclusion_entries.specs.declared.{Rule.Rule, Words.Words, Survey.Survey}
 use Rattle.exclusion_entries.specs.Entries.{entry_of, entry_size, entries_in, excluded_at, is_entry, are_entries, map_size, is_map}
-use Rattle.exclusion_entries.specs.Inner.{Small, keeps, takes, lost_one, took_one, stayed, turned, sweep, start, words_of, may_touch, survey_of}
+use Rattle.exclusion_entries.specs.Inner.{Small, keeps, takes, lost_one, took_one, stayed, turned, sweep, first_survey, words_of, may_touch, survey_of}
 use Rattle.exclusion_entries.proofs.EntryLaws.{points-count}
 
 -- ---- an entry that the rule does not touch
@@ -61,8 +61,8 @@ pub record Bounded (v : Survey) (i at left : ℕ) : Type 0 where
   pub from_most : v.from ≤ at
   pub index_most : v.index ≤ i
 
-bounded_start : Bounded start 0 4 512
-unfolding start
+bounded_start : Bounded first_survey 0 4 512
+unfolding first_survey
 bounded_start = omega arith
 
 bounded_turn : {v : Survey} {i at left : ℕ} (n : ℕ) (kept taken : Bool) → Bounded v i at left → n ≤ left → Bounded (turned kept taken n v) (i + 1) (at + (48 + 36 * n)) (left - n)
@@ -101,7 +101,7 @@ pub record Sweeping (rule : Rule) (s : List ℕ) (n : ℕ) (v : Survey) (at left
   pub room : at + 48 * (n - i) + 36 * left ≤ map_size
   pub bounded : Bounded v i at left
   pub reads : are_entries (n - i) left (drop at s) ≡ is_map s
-  pub swept : sweep (keeps rule) (takes rule) v (entries_in (n - i) (drop at s)) ≡ sweep (keeps rule) (takes rule) start (excluded_at s)
+  pub swept : sweep (keeps rule) (takes rule) v (entries_in (n - i) (drop at s)) ≡ sweep (keeps rule) (takes rule) first_survey (excluded_at s)
 
 module _ (rule : Rule) (s : List ℕ) where
   pub sweep_other : (length s ≡ map_size → ⊥) → Err Refusal.LentBytesUnreadable ≡ survey_of rule s
@@ -113,8 +113,8 @@ module _ (rule : Rule) (s : List ℕ) where
     unfolding survey_of is_map word
     sweep_many h = rw (eq-eqb (length s) map_size l, lt-leb (u32_at s 0) 64 (omega arith))
 
-    pub sweep-none : {v : Survey} → n ≤ 64 → v ≡ start → Sweeping rule s n v 4 512 0
-    unfolding is_map word excluded_at start
+    pub sweep-none : {v : Survey} → n ≤ 64 → v ≡ first_survey → Sweeping rule s n v 4 512 0
+    unfolding is_map word excluded_at first_survey
     sweep-none {v} h f =
         let z : u32_at s 0 ≡ n - 0 = omega arith in
         let b : Bounded v 0 4 512 = rw f (bounded_start) in

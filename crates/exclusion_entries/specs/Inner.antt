@@ -42,9 +42,9 @@ module _ (f p : MapEntry → Bool) where
   behind (e ∷ l) = cond (f e) (cond (p e) (filter f l) (behind l)) (behind l)
 
   -- those that stand where they will stand
-  unfoldable pub front : List MapEntry → List MapEntry
-  front [] = []
-  front (e ∷ l) = cond (f e) (cond (p e) [] (e ∷ front l)) []
+  unfoldable pub leading : List MapEntry → List MapEntry
+  leading [] = []
+  leading (e ∷ l) = cond (f e) (cond (p e) [] (e ∷ leading l)) []
 
   -- one is not kept
   unfoldable pub loses : List MapEntry → Bool
@@ -79,8 +79,8 @@ sweep f p v [] = v
 sweep f p v (e ∷ l) = sweep f p (turned (f e) (p e) (length e.points) v) l
 
 -- before the first entry
-unfoldable pub start : Survey
-start = record { lost = false; taken = false; stays = 0; points = 0; place = 4; from = 4; index = 0 }
+unfoldable pub first_survey : Survey
+first_survey = record { lost = false; taken = false; stays = 0; points = 0; place = 4; from = 4; index = 0 }
 
 -- no sum of a pass is too wide: what it has found so far, and the n out points of the next entry
 pub record Small (n : ℕ) (v : Survey) : Type 0 where
@@ -105,7 +105,7 @@ may_touch None x = true
 
 -- of bytes that are a table
 unfoldable pub survey_of : Rule → List ℕ → Result Survey Refusal
-survey_of rule s = cond (is_map s) (Ok (sweep (keeps rule) (takes rule) start (excluded_at s))) (Err Refusal.LentBytesUnreadable)
+survey_of rule s = cond (is_map s) (Ok (sweep (keeps rule) (takes rule) first_survey (excluded_at s))) (Err Refusal.LentBytesUnreadable)
 
 -- the hash that lent bytes are
 unfoldable pub hash_of : List ℕ → Result Byte32 Refusal

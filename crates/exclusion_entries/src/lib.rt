@@ -6,7 +6,7 @@ ghost use Rattle.std.specs.Prelude.{◌≡◌, ◌+◌, ◌*◌};
 ghost use Rattle.arithmetic.specs.LittleEndian.{u32_at};
 ghost use Rattle.exclusion_entries.specs.Exclusions.{has_hash, is_recent};
 ghost use Rattle.exclusion_entries.specs.Entries.{entry_of, is_entry};
-ghost use Rattle.exclusion_entries.specs.Inner.{Small, keeps, takes, stayed, turned, start, words_of, may_touch, survey_of, hash_of};
+ghost use Rattle.exclusion_entries.specs.Inner.{Small, keeps, takes, stayed, turned, first_survey, words_of, may_touch, survey_of, hash_of};
 
 use arithmetic::little_endian;
 use error::Refusal;
@@ -146,9 +146,9 @@ pub fn hash_of(s: &[u8]) -> Result<Byte32, Refusal>
 // ---- the pass
 
 // Before the first entry.
-#[tactic(auto, unfolding(crate::specs::Inner::start))]
+#[tactic(auto, unfolding(crate::specs::Inner::first_survey))]
 fn start() -> Survey
-    ensures { result ≡ start }
+    ensures { result ≡ first_survey }
 {
     Survey {
         lost: false,

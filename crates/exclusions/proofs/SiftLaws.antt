@@ -16,11 +16,11 @@ use Rattle.molecule.proofs.ItemsLaws.{bytes_drop}
 use Rattle.exclusion_entries.specs.Exclusions.{MapEntry}
 use Rattle.exclusion_entries.specs.declared.{Rule.Rule, Survey.Survey}
 use Rattle.exclusion_entries.specs.Entries.{entry_bytes, entries_bytes, entry_of, entry_size, entries_in, excluded_at, are_entries, map_size}
-use Rattle.exclusion_entries.specs.Inner.{keeps, takes, stay, front, survey_of}
+use Rattle.exclusion_entries.specs.Inner.{keeps, takes, stay, leading, survey_of}
 use Rattle.exclusion_entries.proofs.EntryLaws.{from-here, entry_again, first-is, first-room, rest_are, entries-size, points_most, entries-long, bytes-join}
 use Rattle.exclusion_entries.proofs.MapLaws.{map-long, map-few, map_are, map_again, Cut, cut}
 use Rattle.exclusion_entries.proofs.SpliceLaws.{splice-none, drop-splice, splice-same, splice-then}
-use Rattle.exclusion_entries.proofs.StayLaws.{stay-front, front-is, stay-size, told_good, told-from, told-index}
+use Rattle.exclusion_entries.proofs.StayLaws.{stay-leading, leading-is, stay-size, told_good, told-from, told-index}
 use Rattle.std.specs.List.{copy_within}
 use Rattle.exclusions.proofs.MoveLaws.{within-splice}
 use Rattle.exclusions.specs.declared.{changes.Sift.Sift}
@@ -184,16 +184,16 @@ module _ (rule : Rule) (s : List ℕ) {v : Survey} {n : ℕ} (b : AllBytes s) (e
       let x = drop 4 s in
       let m = u32_at s 0 in
       let L = entries_in m x in
-      let F = front f p L in
+      let F = leading f p L in
       let k = length F in
       let B = entries_bytes F in
       let l = map-long s g in
       let few = map-few s g in
       let from : v.from ≡ 4 + length B = told-from rule s e in
       let index : v.index ≡ k = told-index rule s e in
-      let lk : k ≤ m = let z = ap length (front-is f p L) in omega (arith, length-take k L, entries-long m x) in
+      let lk : k ≤ m = let z = ap length (leading-is f p L) in omega (arith, length-take k L, entries-long m x) in
       let c : Cut m 512 x k = cut k m 512 x lk (map_are s g) (rw (length-drop 4 s) (omega arith)) in
-      let size : c.size ≡ length B = c.sized ∙ ap (λ (t : List MapEntry). length (entries_bytes t)) (sym (front-is f p L)) in
+      let size : c.size ≡ length B = c.sized ∙ ap (λ (t : List MapEntry). length (entries_bytes t)) (sym (leading-is f p L)) in
       let here : v.from ≡ 4 + c.size = omega arith in
       let beyond : drop c.size x ≡ drop v.from s = drop-drop c.size 4 s ∙ ap (λ (i : ℕ). drop i s) (sym here) in
       let z : n - v.index ≡ m - k = omega arith in
@@ -201,8 +201,8 @@ module _ (rule : Rule) (s : List ℕ) {v : Survey} {n : ℕ} (b : AllBytes s) (e
       let D = drop k L in
       let W = entries_bytes (stay f p false D) in
       let rest : entries_in (n - v.index) (drop v.from s) ≡ D = ap₂ entries_in z (sym beyond) ∙ c.rest in
-      let parts : entries_bytes (stay f p false L) ≡ B ++ W = ap entries_bytes (stay-front f p L) ∙ bytes-join F (stay f p false D) in
-      let whole : entries_bytes L ≡ B ++ entries_bytes D = ap entries_bytes (sym (take-append-drop k L) ∙ ap (λ (t : List MapEntry). t ++ D) (sym (front-is f p L))) ∙ bytes-join F D in
+      let parts : entries_bytes (stay f p false L) ≡ B ++ W = ap entries_bytes (stay-leading f p L) ∙ bytes-join F (stay f p false D) in
+      let whole : entries_bytes L ≡ B ++ entries_bytes D = ap entries_bytes (sym (take-append-drop k L) ∙ ap (λ (t : List MapEntry). t ++ D) (sym (leading-is f p L))) ∙ bytes-join F D in
       let Z = drop (length (entries_bytes L)) x in
       let stands : take (length B) x ≡ B =
       ap (take (length B)) (map_again s g b ∙ ap (λ (t : List ℕ). t ++ Z) whole ∙ append_assoc B (entries_bytes D) Z) ∙ take_at B (entries_bytes D ++ Z) (length B) refl in

@@ -22,8 +22,8 @@ abbrev pub Found : Pass → List ℕ → Type 0
 Found p s = Ok p.found ≡ survey_of p.rule s
 
 -- where the entries that stay end, once they stand together
-abbrev pub end_of : Pass → ℕ
-end_of p = 4 + 48 * p.found.stays + 36 * p.found.points
+abbrev pub pass_end : Pass → ℕ
+pass_end p = 4 + 48 * p.found.stays + 36 * p.found.points
 
 -- ---- one entry
 
@@ -66,8 +66,8 @@ entry_with h inputs = record { hash = h; committed = none; points = points_of_in
 abbrev pub with_entry : Pass → MapEntry → List ℕ → List ℕ
 with_entry p x s =
     let place = p.found.place in
-    splice (splice s place (entry_bytes x ++ take (end_of p - place) (drop place s))) 0 (to_le 4 (p.found.stays + 1))
+    splice (splice s place (entry_bytes x ++ take (pass_end p - place) (drop place s))) 0 (to_le 4 (p.found.stays + 1))
 
 -- it takes its place among the entries that the rule keeps
-abbrev pub replaced : Rule → Byte32 → List ℕ → List MapEntry → List MapEntry
-replaced rule h inputs l = renew (takes rule) (entry_with h inputs) (filter (keeps rule) l)
+abbrev pub entries_after : Rule → Byte32 → List ℕ → List MapEntry → List MapEntry
+entries_after rule h inputs l = renew (takes rule) (entry_with h inputs) (filter (keeps rule) l)

@@ -6,7 +6,7 @@ ghost use Rattle.molecule.specs.Layout.{fix_count};
 ghost use Rattle.molecule.specs.Write.{splice};
 ghost use Rattle.exclusion_entries.specs.Entries.{entries_bytes, map_bytes, entry_size, excluded_at};
 ghost use Rattle.exclusion_entries.specs.Inner.{keeps, takes, stay};
-ghost use Rattle.exclusions.specs.Inner.{gives, sift_one, sift_one_bytes, entry_with, with_entry, replaced, Found, end_of};
+ghost use Rattle.exclusions.specs.Inner.{gives, sift_one, sift_one_bytes, entry_with, with_entry, entries_after, Found, pass_end};
 
 use crate::entry::NewEntry;
 use exclusion_entries::{Rule, Survey};
@@ -97,9 +97,9 @@ impl Pass {
 
     // Puts the entry at its place, with those behind it behind it, and the count.
     fn put_new(self, s: &mut [u8], added: NewEntry<'_>)
-        requires place_bound { self.found.place ≤ end_of self }
+        requires place_bound { self.found.place ≤ pass_end self }
         requires stays_bound { self.found.stays < 64 }
-        requires in_bounds { end_of self + (48 + 36 * fix_count added.inputs.now) ≤ length s.old }
+        requires in_bounds { pass_end self + (48 + 36 * fix_count added.inputs.now) ≤ length s.old }
         ensures { s.new ≡ with_entry self (entry_with added.entry.hash added.entry.inputs.now) s.old }
     {
         let place = self.found.place;
@@ -115,7 +115,7 @@ impl Pass {
         requires found { Found self s.old }
         requires stays_bound { self.found.stays < 64 }
         requires points_bound { self.found.points + fix_count added.inputs.now ≤ 512 }
-        ensures { s.new ≡ splice s.old 0 (map_bytes (replaced self.rule added.entry.hash added.entry.inputs.now (excluded_at s.old))) }
+        ensures { s.new ≡ splice s.old 0 (map_bytes (entries_after self.rule added.entry.hash added.entry.inputs.now (excluded_at s.old))) }
     {
         self.gather(s);
         self.put_new(s, added);

@@ -8,7 +8,7 @@ ghost use Rattle.table_bytes.specs.Lent.{Leaves};
 ghost use Rattle.exclusion_entries.specs.Exclusions.{fitting};
 ghost use Rattle.exclusion_entries.specs.Entries.{excluded_at};
 ghost use Rattle.exclusion_entries.specs.Calls.{map_table, Adds, Removes, Truncates, Migrates};
-ghost use Rattle.exclusions.specs.Inner.{Found, replaced};
+ghost use Rattle.exclusions.specs.Inner.{Found, entries_after};
 
 use changes::Pass;
 use entry::NewEntry;
@@ -23,7 +23,8 @@ mod entry;
 // Adds an entry to the table that the pass leaves, where there is room.
 fn enter(map: &mut [u8], pass: Pass, added: NewEntry<'_>) -> Answer
     requires { Found pass map.old }
-    ensures { Leaves map_table map.old (answered result) map.new (fitting (replaced pass.rule added.entry.hash added.entry.inputs.now (excluded_at map.old))) }
+    ensures { Leaves map_table map.old (answered result) map.new
+        (fitting (entries_after pass.rule added.entry.hash added.entry.inputs.now (excluded_at map.old))) }
 {
     are_bytes(map);
     are_bytes(added.inputs);

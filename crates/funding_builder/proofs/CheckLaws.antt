@@ -17,7 +17,7 @@ use Rattle.transaction.proofs.ListLaws.{option-some}
 use Rattle.lists.proofs.EqualLaws.{empty-is}
 use Rattle.list_writer.specs.ListWriter.{if_positive}
 use Rattle.udt_cells.specs.Change.{capacity_for}
-use Rattle.funding_builder.specs.Base.{change_capacity, supplied}
+use Rattle.funding_builder.specs.Base.{change_output_capacity, supplied}
 
 -- ---- a lent dep
 
@@ -49,11 +49,11 @@ picked-some (suc n) deps h = refl
 
 -- ---- the change's capacity
 
-pub no_change : (n : ℕ) (source udt : List ℕ) → n ≡ 0 → change_capacity n source udt ≡ 0
-unfolding change_capacity
+pub no_change : (n : ℕ) (source udt : List ℕ) → n ≡ 0 → change_output_capacity n source udt ≡ 0
+unfolding change_output_capacity
 no_change n source udt e = rw e
 
-pub some_change : (n : ℕ) (source udt : List ℕ) → (n ≡ 0 → ⊥) → change_capacity n source udt ≡ capacity_for source udt
-unfolding change_capacity
+pub some_change : (n : ℕ) (source udt : List ℕ) → (n ≡ 0 → ⊥) → change_output_capacity n source udt ≡ capacity_for source udt
+unfolding change_output_capacity
 some_change zero source udt h = absurd (h refl)
 some_change (suc n) source udt h = refl

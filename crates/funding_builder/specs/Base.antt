@@ -54,9 +54,9 @@ packed t =
 -- ---- assemble_base_tx
 
 -- the capacity of the change output; 0 where there is no change, and then there is no such output
-unfoldable pub change_capacity : ℕ → List ℕ → List ℕ → ℕ
-change_capacity zero source udt = 0
-change_capacity (suc n) source udt = capacity_for source udt
+unfoldable pub change_output_capacity : ℕ → List ℕ → List ℕ → ℕ
+change_output_capacity zero source udt = 0
+change_output_capacity (suc n) source udt = capacity_for source udt
 
 -- `cell` is the funding cell, `pick` how many of the token cells are taken and what change is left
 unfoldable pub base_tx : Lent → Figures → Pick → Packed
@@ -71,7 +71,7 @@ base_tx l cell pick =
       -- "present inputs then picked, with since 0"
       inputs = input_list (raw_field l.ours 3) l.cells pick.taken;
       -- "funding cell, present outputs after 0, change"
-      outputs = output_list cell.capacity l.lock l.udt (raw_field l.ours 4) later (change_capacity pick.change l.source l.udt) l.source;
+      outputs = output_list cell.capacity l.lock l.udt (raw_field l.ours 4) later (change_output_capacity pick.change l.source l.udt) l.source;
       -- "each output's data, empty if missing"
       outputs_data = data_list (not (is_empty l.udt)) cell.token (raw_field l.ours 5) later pick.change;
       -- "Witness 0 is the placeholder; if tokens were picked behind present inputs, .."

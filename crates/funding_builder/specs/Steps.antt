@@ -9,7 +9,7 @@ use Rattle.list_writer.specs.ListWriter.{if_positive}
 use Rattle.cell_deps.specs.CellDeps.{cell_deps}
 use Rattle.cell_deps.specs.declared.DepLists.{DepLists}
 use Rattle.base_writer.specs.declared.Plan.{Plan}
-use Rattle.funding_builder.specs.Base.{Lent, change_capacity}
+use Rattle.funding_builder.specs.Base.{Lent, change_output_capacity}
 
 -- what the checks at entry have shown
 pub record Readable (l : Lent) : Type 0 where
@@ -38,4 +38,4 @@ pub record Planned (p : Plan) (capacity : Shannons) (token : Tokens) (taken : �
   pub tokens : p.token ≡ token
   pub picked : p.taken ≡ taken
   pub left : p.change ≡ change
-  pub back : shannon_count p.change_capacity ≡ change_capacity (token_count change) source udt
+  pub back : shannon_count p.change_capacity ≡ change_output_capacity (token_count change) source udt

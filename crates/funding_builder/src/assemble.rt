@@ -6,7 +6,7 @@ ghost use Rattle.transaction.specs.Ckb.{Script};
 ghost use Rattle.error.specs.Outcome.{fine, told};
 ghost use Rattle.list_writer.specs.ListWriter.{if_positive};
 ghost use Rattle.transaction_writer.specs.Written.{written};
-ghost use Rattle.funding_builder.specs.Base.{change_capacity};
+ghost use Rattle.funding_builder.specs.Base.{change_output_capacity};
 ghost use Rattle.funding_builder.specs.Lent.{lent_in, base_in};
 ghost use Rattle.funding_builder.specs.Steps.{Readable, Roomy, Planned, AreDeps};
 
@@ -40,7 +40,7 @@ fn if_picked(taken: usize, deps: &[u8]) -> &[u8]
 #[tactic(auto, using(crate::proofs::CheckLaws::no_change, crate::proofs::CheckLaws::some_change), unfolding(units::specs::Fee::change_capacity))]
 fn change_capacity(change: Tokens, source: &[u8], udt: &[u8]) -> Shannons
     requires { (readable Script source.now ≡ true) × (readable (option Script) udt.now ≡ true) }
-    ensures { shannon_count result ≡ change_capacity (token_count change) source.now udt.now }
+    ensures { shannon_count result ≡ change_output_capacity (token_count change) source.now udt.now }
 {
     if change == Tokens::ZERO {
         return Shannons::ZERO;

@@ -5,11 +5,11 @@ use Rattle.error.specs.Outcome.{fine}
 use Rattle.units.specs.Units.{Figures}
 use Rattle.error.proofs.Passed.{check-fine, fine_inj}
 use Rattle.funding_cell.specs.declared.{FundingRequest.FundingRequest}
-use Rattle.funding_cell.specs.FundingCell.{counted, cell_of, cell_of_sums, funding_cell}
+use Rattle.funding_cell.specs.FundingCell.{request_counted, cell_of, cell_of_sums, funding_cell}
 
 -- of the figures that count the cell is that of a funded request
-pub by_counted : (funded typed : Bool) (r : FundingRequest) → funding_cell true typed (counted funded r) ≡ funding_cell funded typed r
-unfolding funding_cell counted
+pub by_counted : (funded typed : Bool) (r : FundingRequest) → funding_cell true typed (request_counted funded r) ≡ funding_cell funded typed r
+unfolding funding_cell request_counted
 by_counted true typed r = refl
 by_counted false typed r = ap₂ (cell_of_sums typed) (add-zero _) (add-zero _)
 

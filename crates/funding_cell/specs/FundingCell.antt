@@ -46,9 +46,9 @@ build_funding_cell oursBytes type request = do
 -- ---- what the functions inside promise one another
 
 -- the request with the figures that count: unfunded, the remote ones are 0
-unfoldable pub counted : Bool → FundingRequest → FundingRequest
-counted true r = r
-counted false r = record {
+unfoldable pub request_counted : Bool → FundingRequest → FundingRequest
+request_counted true r = r
+request_counted false r = record {
   local_amount = r.local_amount;
   local_reserved_ckb_amount = r.local_reserved_ckb_amount;
   remote_amount = 0;

@@ -1,10 +1,10 @@
 // The funding cell that both sides pay into: its capacity and its token amount.
-#![tactic(auto, using(crate::proofs::Ways::ways), unfolding(crate::specs::FundingCell::counted, crate::specs::FundingCell::reserves, crate::specs::FundingCell::cell_of, crate::specs::FundingCell::cell_of_sums, crate::specs::FundingCell::funding_cell, crate::specs::FundingCell::build_funding_cell, error::specs::Outcome::check, error::specs::Outcome::check_with, error::specs::Outcome::given, error::specs::Refusal::number, error::specs::Refusal::values, arithmetic::specs::Amount::sum))]
+#![tactic(auto, using(crate::proofs::Ways::ways), unfolding(crate::specs::FundingCell::request_counted, crate::specs::FundingCell::reserves, crate::specs::FundingCell::cell_of, crate::specs::FundingCell::cell_of_sums, crate::specs::FundingCell::funding_cell, crate::specs::FundingCell::build_funding_cell, error::specs::Outcome::check, error::specs::Outcome::check_with, error::specs::Outcome::given, error::specs::Refusal::number, error::specs::Refusal::values, arithmetic::specs::Amount::sum))]
 
 ghost use Rattle.std.specs.Prelude.{◌≡◌, true, false};
 ghost use Rattle.units.specs.Units.{shannon_count, token_count};
 ghost use Rattle.error.specs.Outcome.{told_by};
-ghost use Rattle.funding_cell.specs.FundingCell.{figures_of, counted, reserves, cell_of, funding_cell, build_funding_cell};
+ghost use Rattle.funding_cell.specs.FundingCell.{figures_of, request_counted, reserves, cell_of, funding_cell, build_funding_cell};
 
 use error::Refusal;
 use transaction::fields;
@@ -28,7 +28,7 @@ pub struct FundingCell {
 
 // The request with the figures that count: those of the remote side are 0 while the present transaction has no outputs.
 fn counted(funded: bool, request: FundingRequest) -> FundingRequest
-    ensures { result ≡ counted funded request }
+    ensures { result ≡ request_counted funded request }
 {
     if funded {
         return request;

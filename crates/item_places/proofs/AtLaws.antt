@@ -7,8 +7,8 @@ use borrow.Author.Tests.{lt-ltb, le-ltb}
 use lib.ListN.{length, drop, length-take, length-drop}
 use Rattle.molecule.specs.Layout.{span, part, part_start, start, word, field_of, field_start, fix_item, fix_start, item_count, item_of, item_start, content, content_start, entry_of, entry_start}
 use Rattle.transaction.specs.Tx.{tx_at, raw_field, raw_start, witnesses_of}
-use Rattle.transaction_lists.specs.Lists.{list_of, list_in, item_in, start_of, place_in}
-use Rattle.transaction_lists.specs.Kinds.{number_of}
+use Rattle.transaction_lists.specs.Lists.{list_of, list_in, item_in, start_in, place_in_bytes}
+use Rattle.transaction_lists.specs.Kinds.{list_number}
 use Rattle.transaction_lists.specs.declared.ListKind.{ListKind}
 use Rattle.transaction_lists.specs.declared.ListKind.TheVariants.{CellDeps, HeaderDeps, Inputs, Outputs, OutputsData, Witnesses}
 use Rattle.transaction_lists.proofs.ListLaws.{item_there, place_there}
@@ -97,31 +97,31 @@ module _ (tx : List ℕ) {list : List ℕ} {p : Place} (h : At tx (field_of tx 2
 
 -- item i of a list
 module _ (tx : List ℕ) (i : ℕ) {r : Place} where
-  at_item : (n a m : ℕ) (f : ℕ → List ℕ) → i < length (list_in tx n) → list_of (tx_at tx) n ≡ span f 0 m → a ≡ start_of tx n i → At tx (f i) a r → At tx (item_in tx n i) (place_in tx n i) r
+  at_item : (n a m : ℕ) (f : ℕ → List ℕ) → i < length (list_in tx n) → list_of (tx_at tx) n ≡ span f 0 m → a ≡ start_in tx n i → At tx (f i) a r → At tx (item_in tx n i) (place_in_bytes tx n i) r
   at_item n a m f h l s at =
-      subst (λ (x : List ℕ). At tx x (place_in tx n i) r) (sym (item_there tx n i h f m l)) (subst (λ (b : ℕ). At tx (f i) b r) (s ∙ sym (place_there tx n i h)) at)
+      subst (λ (x : List ℕ). At tx x (place_in_bytes tx n i) r) (sym (item_there tx n i h f m l)) (subst (λ (b : ℕ). At tx (f i) b r) (s ∙ sym (place_there tx n i h)) at)
 
-  module _ {k : ListKind} {n : ℕ} (en : n ≡ length (list_in tx (number_of k))) (below : i < n) where
-    pub at-cell-dep : k ≡ CellDeps → At tx (fix_item (raw_field tx 1) 37 i) (raw_start tx 1 + fix_start (raw_field tx 1) 37 i) r → At tx (item_in tx (number_of k) i) (place_in tx (number_of k) i) r
-    unfolding list_of start_of
-    at-cell-dep g at = let h : i < length (list_in tx (number_of k)) = rw (← en) below in rw g (at_item 0 _ _ (fix_item (raw_field tx 1) 37) (rw g at h) refl refl at)
+  module _ {k : ListKind} {n : ℕ} (en : n ≡ length (list_in tx (list_number k))) (below : i < n) where
+    pub at-cell-dep : k ≡ CellDeps → At tx (fix_item (raw_field tx 1) 37 i) (raw_start tx 1 + fix_start (raw_field tx 1) 37 i) r → At tx (item_in tx (list_number k) i) (place_in_bytes tx (list_number k) i) r
+    unfolding list_of start_in
+    at-cell-dep g at = let h : i < length (list_in tx (list_number k)) = rw (← en) below in rw g (at_item 0 _ _ (fix_item (raw_field tx 1) 37) (rw g at h) refl refl at)
 
-    pub at-header-dep : k ≡ HeaderDeps → At tx (fix_item (raw_field tx 2) 32 i) (raw_start tx 2 + fix_start (raw_field tx 2) 32 i) r → At tx (item_in tx (number_of k) i) (place_in tx (number_of k) i) r
-    unfolding list_of start_of
-    at-header-dep g at = let h : i < length (list_in tx (number_of k)) = rw (← en) below in rw g (at_item 1 _ _ (fix_item (raw_field tx 2) 32) (rw g at h) refl refl at)
+    pub at-header-dep : k ≡ HeaderDeps → At tx (fix_item (raw_field tx 2) 32 i) (raw_start tx 2 + fix_start (raw_field tx 2) 32 i) r → At tx (item_in tx (list_number k) i) (place_in_bytes tx (list_number k) i) r
+    unfolding list_of start_in
+    at-header-dep g at = let h : i < length (list_in tx (list_number k)) = rw (← en) below in rw g (at_item 1 _ _ (fix_item (raw_field tx 2) 32) (rw g at h) refl refl at)
 
-    pub at-input : k ≡ Inputs → At tx (fix_item (raw_field tx 3) 44 i) (raw_start tx 3 + fix_start (raw_field tx 3) 44 i) r → At tx (item_in tx (number_of k) i) (place_in tx (number_of k) i) r
-    unfolding list_of start_of
-    at-input g at = let h : i < length (list_in tx (number_of k)) = rw (← en) below in rw g (at_item 2 _ _ (fix_item (raw_field tx 3) 44) (rw g at h) refl refl at)
+    pub at-input : k ≡ Inputs → At tx (fix_item (raw_field tx 3) 44 i) (raw_start tx 3 + fix_start (raw_field tx 3) 44 i) r → At tx (item_in tx (list_number k) i) (place_in_bytes tx (list_number k) i) r
+    unfolding list_of start_in
+    at-input g at = let h : i < length (list_in tx (list_number k)) = rw (← en) below in rw g (at_item 2 _ _ (fix_item (raw_field tx 3) 44) (rw g at h) refl refl at)
 
-    pub at-output : k ≡ Outputs → At tx (item_of (raw_field tx 4) i) (raw_start tx 4 + item_start (raw_field tx 4) i) r → At tx (item_in tx (number_of k) i) (place_in tx (number_of k) i) r
-    unfolding list_of start_of
-    at-output g at = let h : i < length (list_in tx (number_of k)) = rw (← en) below in rw g (at_item 3 _ _ (item_of (raw_field tx 4)) (rw g at h) refl refl at)
+    pub at-output : k ≡ Outputs → At tx (item_of (raw_field tx 4) i) (raw_start tx 4 + item_start (raw_field tx 4) i) r → At tx (item_in tx (list_number k) i) (place_in_bytes tx (list_number k) i) r
+    unfolding list_of start_in
+    at-output g at = let h : i < length (list_in tx (list_number k)) = rw (← en) below in rw g (at_item 3 _ _ (item_of (raw_field tx 4)) (rw g at h) refl refl at)
 
-    pub at-output_data : k ≡ OutputsData → At tx (entry_of (raw_field tx 5) i) (raw_start tx 5 + entry_start (raw_field tx 5) i) r → At tx (item_in tx (number_of k) i) (place_in tx (number_of k) i) r
-    unfolding list_of start_of
-    at-output_data g at = let h : i < length (list_in tx (number_of k)) = rw (← en) below in rw g (at_item 4 _ _ (entry_of (raw_field tx 5)) (rw g at h) refl refl at)
+    pub at-output_data : k ≡ OutputsData → At tx (entry_of (raw_field tx 5) i) (raw_start tx 5 + entry_start (raw_field tx 5) i) r → At tx (item_in tx (list_number k) i) (place_in_bytes tx (list_number k) i) r
+    unfolding list_of start_in
+    at-output_data g at = let h : i < length (list_in tx (list_number k)) = rw (← en) below in rw g (at_item 4 _ _ (entry_of (raw_field tx 5)) (rw g at h) refl refl at)
 
-    pub at_witness : k ≡ Witnesses → At tx (entry_of (witnesses_of tx) i) (field_start tx 2 1 + entry_start (witnesses_of tx) i) r → At tx (item_in tx (number_of k) i) (place_in tx (number_of k) i) r
-    unfolding list_of start_of
-    at_witness g at = let h : i < length (list_in tx (number_of k)) = rw (← en) below in rw g (at_item 5 _ _ (entry_of (witnesses_of tx)) (rw g at h) refl refl at)
+    pub at_witness : k ≡ Witnesses → At tx (entry_of (witnesses_of tx) i) (field_start tx 2 1 + entry_start (witnesses_of tx) i) r → At tx (item_in tx (list_number k) i) (place_in_bytes tx (list_number k) i) r
+    unfolding list_of start_in
+    at_witness g at = let h : i < length (list_in tx (list_number k)) = rw (← en) below in rw g (at_item 5 _ _ (entry_of (witnesses_of tx)) (rw g at h) refl refl at)

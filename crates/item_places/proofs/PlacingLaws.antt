@@ -9,7 +9,7 @@ use Rattle.molecule.specs.Layout.{span}
 use Rattle.molecule.specs.Write.{splice, Put}
 use Rattle.molecule.proofs.WriteLaws.{copy_none, copy_more, copy_end, none, then, splice-length}
 use Rattle.lists.proofs.SpanLaws.{span-on, span-end, span-whole}
-use Rattle.transaction_lists.specs.Lists.{list_in, item_in, place_in}
+use Rattle.transaction_lists.specs.Lists.{list_in, item_in, place_in_bytes}
 use Rattle.item_places.specs.declared.Place.{Place}
 use Rattle.item_places.specs.Places.{At, place_words, places_of}
 
@@ -60,11 +60,11 @@ module _ {tx : List ℕ} {list : ℕ} {out₀ : List ℕ} {n i : ℕ} {out : Lis
   pub placing_in : i < n → i < length (list_in tx list)
   placing_in h = omega (arith, g.count)
 
-  pub placing_more : {p : Place} → i < n → At tx (item_in tx list i) (place_in tx list i) p → Placing tx list out₀ n (i + 1) (set (set out (2 * i) p.start) (2 * i + 1) p.len)
+  pub placing_more : {p : Place} → i < n → At tx (item_in tx list i) (place_in_bytes tx list i) p → Placing tx list out₀ n (i + 1) (set (set out (2 * i) p.start) (2 * i + 1) p.len)
   placing_more {p} l at =
       let room = g.room in
       let f : 2 * i + 2 ≤ length out = omega arith in
-      let e : set (set out (2 * i) p.start) (2 * i + 1) p.len ≡ splice out (2 * i) (place_words tx list i) = rw (at.starts, at.long) (two-set out (2 * i) (place_in tx list i) (length (item_in tx list i)) f) in
+      let e : set (set out (2 * i) p.start) (2 * i + 1) p.len ≡ splice out (2 * i) (place_words tx list i) = rw (at.starts, at.long) (two-set out (2 * i) (place_in_bytes tx list i) (length (item_in tx list i)) f) in
       let out' = splice out (2 * i) (place_words tx list i) in
       let k : length out' ≡ length out = splice-length out (2 * i) (place_words tx list i) f in
       let r = rest tx list (i + 1) n in

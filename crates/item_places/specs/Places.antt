@@ -5,7 +5,7 @@ use lib.{Dec.leb, ListN.length}
 use Rattle.molecule.specs.Layout.{span, part, part_start, field_of, field_start, fix_item, fix_start, item_of, item_start, entry_of, entry_start}
 use Rattle.transaction.specs.Tx.{raw_field, raw_start}
 use Rattle.error.specs.Outcome.{Outcome, fine, check, ◌>>=◌, ◌>>◌, putting}
-use Rattle.transaction_lists.specs.Lists.{item_in, place_in}
+use Rattle.transaction_lists.specs.Lists.{item_in, place_in_bytes}
 use Rattle.transaction_lists.specs.Found.{count_found}
 use Rattle.item_places.specs.declared.Place.{Place}
 
@@ -36,7 +36,7 @@ abbrev pub RawAt : List ℕ → ℕ → Place → Type 0
 RawAt tx j p = At tx (raw_field tx j) (raw_start tx j) p
 
 abbrev pub AnItemIn : List ℕ → ℕ → ℕ → Place → Type 0
-AnItemIn tx list i p = At tx (item_in tx list i) (place_in tx list i) p
+AnItemIn tx list i p = At tx (item_in tx list i) (place_in_bytes tx list i) p
 
 -- the place of a part of a part
 abbrev pub onward : Place → Place → Place
@@ -44,7 +44,7 @@ onward outer inner = record { start = outer.start + inner.start; len = inner.len
 
 -- two words for an item: where in the transaction's bytes it starts, and how many bytes it has
 abbrev pub place_words : List ℕ → ℕ → ℕ → List ℕ
-place_words tx list i = place_in tx list i ∷ length (item_in tx list i) ∷ []
+place_words tx list i = place_in_bytes tx list i ∷ length (item_in tx list i) ∷ []
 
 -- those of the first n items
 abbrev pub places_of : List ℕ → ℕ → ℕ → List (List ℕ)

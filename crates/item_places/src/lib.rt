@@ -4,7 +4,7 @@
 ghost use Rattle.std.specs.Prelude.{◌≡◌, ◌+◌, ◌*◌, ◌^◌, ◌≤◌, ◌<◌, min, length};
 ghost use mathlib.Core.List.{flatten};
 ghost use Rattle.molecule.specs.Write.{splice};
-ghost use Rattle.transaction_lists.specs.Kinds.{number_of};
+ghost use Rattle.transaction_lists.specs.Kinds.{list_number};
 ghost use Rattle.transaction_lists.specs.Lists.{list_in};
 ghost use Rattle.error.specs.Outcome.{told};
 ghost use Rattle.item_places.specs.Places.{onward, places_of, places_found, listed};
@@ -111,14 +111,14 @@ struct TxList<'a> {
     tx: &'a [u8],
     kind: ListKind,
     count: u32,
-    ghost counted: { count ≡ length (list_in tx.now (number_of kind)) },
+    ghost counted: { count ≡ length (list_in tx.now (list_number kind)) },
 }
 
 impl TxList<'_> {
     // Item i.
     fn place(self, i: u32) -> Place
         requires { i < self.count }
-        ensures { AnItemIn self.entry.tx.now (number_of self.entry.kind) i result }
+        ensures { AnItemIn self.entry.tx.now (list_number self.entry.kind) i result }
     {
         let tx = self.tx;
         match self.kind {
@@ -134,7 +134,7 @@ impl TxList<'_> {
     // Sets two words for each item, from the first word on.
     fn put_places(self, places: &mut [u64])
         requires { 2 * self.count ≤ length places.old }
-        ensures { places.new ≡ splice places.old 0 (flatten (places_of self.entry.tx.now (number_of self.entry.kind) self.entry.count)) }
+        ensures { places.new ≡ splice places.old 0 (flatten (places_of self.entry.tx.now (list_number self.entry.kind) self.entry.count)) }
     {
         for i in 0..self.count {
             let p = self.place(i);

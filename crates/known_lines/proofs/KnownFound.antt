@@ -6,7 +6,7 @@ use Rattle.transaction.specs.Tx.{raw_start}
 use Rattle.error.specs.Outcome.{number_of, values_of}
 use Rattle.words.specs.Words.{set_words, in_words, writing}
 use Rattle.answer_words.specs.Answers.{count_words}
-use Rattle.transaction_lists.specs.Lists.{list_of, list_in, start_of, place_in}
+use Rattle.transaction_lists.specs.Lists.{list_of, list_in, start_in, place_in_bytes}
 use Rattle.transaction_lists.specs.Found.{version_found, count_found}
 use Rattle.item_places.specs.Places.{places_found}
 use Rattle.known_cases.specs.Rows.{AllRight}
@@ -19,5 +19,5 @@ unfolding computing set_words number_of values_of in_words count_words list_of l
 known_numbers = refl and refl and refl and refl and refl and done
 
 pub known_places : AllRight places
-unfolding computing flatten part_start field_start fix_start item_start content_start entry_start raw_start set_words number_of values_of in_words writing count_words list_of list_in start_of place_in count_found places_found
+unfolding computing flatten part_start field_start fix_start item_start content_start entry_start raw_start set_words number_of values_of in_words writing count_words list_of list_in start_in place_in_bytes count_found places_found
 known_places = refl and refl and refl and refl and refl and refl and done

@@ -12,7 +12,7 @@ use Rattle.molecule.proofs.ItemsLaws.{length-join, unwords_length}
 use Rattle.molecule.proofs.Offsets.{span-length}
 use Rattle.molecule.proofs.WriteLaws.{did, then, as_bytes, none, length-kept, put_yes, end_yes}
 use Rattle.list_writer.specs.ListWriter.{item_or, later, if_any, if_positive}
-use Rattle.list_writer.specs.Around.{around, head_size, list_size, places, head_of, Room}
+use Rattle.list_writer.specs.Around.{around, head_size, list_size, offset_words, head_of, Room}
 use Rattle.list_writer.proofs.SpanLaws.{flatten_append, offsets-append, unwords-append}
 
 -- ---- the place of a last item, if there is one
@@ -39,7 +39,7 @@ two_words x y = ap (λ (l : List ℕ). to_le 4 x ++ l) (append-nil (to_le 4 y))
 
 module _ (first : ℕ) (s : List ℕ) (k last : ℕ) {size w : ℕ} (ew : w ≡ min (4 * last) 4) (es : size ≡ min (length (flatten (later s k))) 133117) where
   head_runs : length (flatten (later s k)) ≡ size
-      → to_le 4 (8 + 4 * k + w + first + size + last) ++ to_le 4 (8 + 4 * k + w) ++ places (8 + 4 * k + w + first) (later s k) ++ if_positive last (to_le 4 (8 + 4 * k + w + first + size))
+      → to_le 4 (8 + 4 * k + w + first + size + last) ++ to_le 4 (8 + 4 * k + w) ++ offset_words (8 + 4 * k + w + first) (later s k) ++ if_positive last (to_le 4 (8 + 4 * k + w + first + size))
       ≡ head_of first s k last
   unfolding head_of
   head_runs e = rw (ew, e)
@@ -47,7 +47,7 @@ module _ (first : ℕ) (s : List ℕ) (k last : ℕ) {size w : ℕ} (ew : w ≡ 
   pub put_head_lem : {out o₁ o₂ o₃ : List ℕ} {at n₁ n₂ n₃ : ℕ} → Room out at (list_size first s k last)
       → o₁ ≡ put_at out at (unwords ((8 + 4 * k + w + first + size + last) ∷ (8 + 4 * k + w) ∷ []))
       → n₁ ≡ put_end out at (unwords ((8 + 4 * k + w + first + size + last) ∷ (8 + 4 * k + w) ∷ []))
-      → Put o₁ n₁ (places (8 + 4 * k + w + first) (later s k)) o₂ n₂
+      → Put o₁ n₁ (offset_words (8 + 4 * k + w + first) (later s k)) o₂ n₂
       → Put o₂ n₂ (if_positive last (to_le 4 (8 + 4 * k + w + first + size))) o₃ n₃
       → Put out at (head_of first s k last) o₃ n₃
   put_head_lem {at = at} h d f q r =
@@ -87,8 +87,8 @@ regroup : (a b c d e f g : List ℕ) → a ++ b ++ c ++ d ++ (e ++ f ++ g) ≡ (
 regroup a b c d e f g = simp append_assoc
 
 places_any : (o : ℕ) (xs : List (List ℕ)) (last : List ℕ)
-    → places o xs ++ if_positive (length last) (to_le 4 (o + length (flatten xs))) ≡ unwords (offsets o (xs ++ if_any last))
-unfolding places
+    → offset_words o xs ++ if_positive (length last) (to_le 4 (o + length (flatten xs))) ≡ unwords (offsets o (xs ++ if_any last))
+unfolding offset_words
 places_any o xs last =
     ap (λ (l : List ℕ). unwords (offsets o xs) ++ l) (sym (any_place (o + length (flatten xs)) last))
     ∙ sym (ap unwords (offsets-append o xs (if_any last)) ∙ unwords-append (offsets o xs) (offsets (o + length (flatten xs)) (if_any last)))
@@ -107,7 +107,7 @@ module _ (first s : List ℕ) (k : ℕ) (last : List ℕ) where
       let o : ℕ = h + length first in
       let en : list_size (length first) s k (length last) ≡ h + length first + length (flatten (later s k ++ if_any last)) =
       omega (arith, ap length rest-bytes, length-append (flatten (later s k)) last) in
-      regroup (to_le 4 (list_size (length first) s k (length last))) (to_le 4 h) (places o (later s k)) (if_positive (length last) (to_le 4 (o + length (flatten (later s k)))))
+      regroup (to_le 4 (list_size (length first) s k (length last))) (to_le 4 h) (offset_words o (later s k)) (if_positive (length last) (to_le 4 (o + length (flatten (later s k)))))
       first (flatten (later s k)) last
       ∙ ap₂ (λ (p q : List ℕ). (to_le 4 (list_size (length first) s k (length last)) ++ (to_le 4 h ++ p)) ++ (first ++ q)) (places_any o (later s k) last) rest-bytes
       ∙ join_runs h _ first (later s k ++ if_any last) rest-count en

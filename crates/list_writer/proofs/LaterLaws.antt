@@ -9,7 +9,7 @@ use Rattle.arithmetic.specs.LittleEndian.{to_le}
 use Rattle.molecule.specs.Write.{put_at, put_end}
 use Rattle.list_writer.specs.ListWriter.{item_or, later}
 use Rattle.molecule.specs.Layout.{span}
-use Rattle.list_writer.specs.Around.{places}
+use Rattle.list_writer.specs.Around.{offset_words}
 use Rattle.list_writer.proofs.SpanLaws.{body}
 use Rattle.list_writer.proofs.LoopLaws.{Sizing, size-more, Writing, write-more, Placing, place-fits, place-more}
 
@@ -18,7 +18,7 @@ module _ (s : List ℕ) (k : ℕ) where
   unfolding later body
   later_body = refl
 
-  pub later_places : (o : ℕ) → places o (later s k) ≡ places o (span (item_or s) 1 k)
+  pub later_places : (o : ℕ) → offset_words o (later s k) ≡ offset_words o (span (item_or s) 1 k)
   unfolding later
   later_places o = refl
 

@@ -11,7 +11,7 @@ use Rattle.arithmetic.proofs.LittleEndianLaws.{length-to_le}
 use Rattle.molecule.specs.Layout.{span}
 use Rattle.molecule.specs.Write.{put_at, put_end, Put}
 use Rattle.molecule.proofs.WriteLaws.{did, then, and_put, length-kept}
-use Rattle.list_writer.specs.Around.{places}
+use Rattle.list_writer.specs.Around.{offset_words}
 use Rattle.list_writer.proofs.SpanLaws.{body, body_more, body_next, body_in, places-more}
 
 -- ---- how many bytes
@@ -54,7 +54,7 @@ module _ {f : ℕ → List ℕ} {b : ℕ} {out o₁ : List ℕ} {at m i n₁ : �
 
 pub record Placing (f : ℕ → List ℕ) (b o : ℕ) (out : List ℕ) (at m i : ℕ) (after : List ℕ) (next place : ℕ) : Type 0 where
   pub within : i ≤ m
-  pub put : Put out at (places o (span f b i)) after next
+  pub put : Put out at (offset_words o (span f b i)) after next
   pub long : length after ≡ length out
   pub begins : place ≡ o + length (body f b i)
   pub fits : o + length (body f b m) < 2 ^ 32
@@ -74,8 +74,8 @@ module _ {f : ℕ → List ℕ} {b o : ℕ} {out o₁ : List ℕ} {at m i n₁ p
   place-more {o₂} {n₂} d k =
       let l = length-to_le 4 place in
       let q = g.put in
-      let p : Put out at (places o (span f b i) ++ to_le 4 place) o₂ n₂ = and_put (to_le 4 place) q d k (omega (arith, q.end)) in
-      let z = p.end ∙ ap (λ (n : ℕ). at + n) (length-append (places o (span f b i)) (to_le 4 place)) in
+      let p : Put out at (offset_words o (span f b i) ++ to_le 4 place) o₂ n₂ = and_put (to_le 4 place) q d k (omega (arith, q.end)) in
+      let z = p.end ∙ ap (λ (n : ℕ). at + n) (length-append (offset_words o (span f b i)) (to_le 4 place)) in
       record {
         within = omega arith;
         put = rw (places-more o f b i, ← g.begins) p;

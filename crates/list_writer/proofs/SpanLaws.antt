@@ -8,7 +8,7 @@ use lib.ListN.{length, length-append}
 use Rattle.arithmetic.specs.LittleEndian.{to_le}
 use Rattle.molecule.specs.Items.{unwords, offsets}
 use Rattle.molecule.specs.Layout.{span}
-use Rattle.list_writer.specs.Around.{places}
+use Rattle.list_writer.specs.Around.{offset_words}
 
 span_snoc : {A : Type 0} (f : ℕ → A) (b n : ℕ) → span f b (suc n) ≡ span f b n ++ (f (n + b) ∷ [])
 unfolding span
@@ -69,12 +69,12 @@ module _ (f : ℕ → List ℕ) (b : ℕ) where
 
 -- ---- where each of them begins
 
-pub places-none : (o : ℕ) (f : ℕ → List ℕ) (b : ℕ) → places o (span f b 0) ≡ []
-unfolding places span offsets unwords
+pub places-none : (o : ℕ) (f : ℕ → List ℕ) (b : ℕ) → offset_words o (span f b 0) ≡ []
+unfolding offset_words span offsets unwords
 places-none o f b = refl
 
-pub places-more : (o : ℕ) (f : ℕ → List ℕ) (b i : ℕ) → places o (span f b (i + 1)) ≡ places o (span f b i) ++ to_le 4 (o + length (body f b i))
-unfolding places body
+pub places-more : (o : ℕ) (f : ℕ → List ℕ) (b i : ℕ) → offset_words o (span f b (i + 1)) ≡ offset_words o (span f b i) ++ to_le 4 (o + length (body f b i))
+unfolding offset_words body
 places-more o f b i =
     ap (λ (l : List (List ℕ)). unwords (offsets o l)) (ap (λ (n : ℕ). span f b n) (add-one i) ∙ span_snoc f b i)
     ∙ ap unwords (offsets-append o (span f b i) (f (i + b) ∷ []))

@@ -18,15 +18,15 @@ abbrev pub list_size : ℕ → List ℕ → ℕ → ℕ → ℕ
 list_size first s k last = head_size k last + first + length (flatten (later s k)) + last
 
 -- where each of the items xs begins, the first at o, as four bytes each
-unfoldable pub places : ℕ → List (List ℕ) → List ℕ
-places o xs = unwords (offsets o xs)
+unfoldable pub offset_words : ℕ → List (List ℕ) → List ℕ
+offset_words o xs = unwords (offsets o xs)
 
 -- its header: the size of the whole, and where each item begins
 unfoldable pub head_of : ℕ → List ℕ → ℕ → ℕ → List ℕ
 head_of first s k last =
     to_le 4 (list_size first s k last)
     ++ to_le 4 (head_size k last)
-    ++ places (head_size k last + first) (later s k)
+    ++ offset_words (head_size k last + first) (later s k)
     ++ if_positive last (to_le 4 (head_size k last + first + length (flatten (later s k))))
 
 -- n bytes fit a transaction, and a buffer of `len` bytes from `at` on

@@ -8,7 +8,7 @@ ghost use Rattle.arithmetic.specs.LittleEndian.{to_le};
 ghost use Rattle.molecule.specs.Items.{unwords};
 ghost use Rattle.molecule.specs.Write.{put_at, put_end, Put};
 ghost use Rattle.list_writer.specs.ListWriter.{joined, item_or, later, if_positive, put_list, put_list_end};
-ghost use Rattle.list_writer.specs.Around.{head_size, places, fits_at, Room};
+ghost use Rattle.list_writer.specs.Around.{head_size, offset_words, fits_at, Room};
 ghost use Rattle.list_writer.specs.Parts.{list_len, head_in, list_bytes, size_of, lengths_of};
 
 use molecule::write;
@@ -131,7 +131,7 @@ impl Later<'_> {
     // Puts where each of them begins, the first at o.
     fn put_places(self, out: &mut [u8], at: usize, o: usize) -> usize
         requires { (at + 4 * self.count ≤ length out.old) × (o + length (flatten (later self.list.now self.count)) < 2 ^ 32) }
-        ensures put { Put out.old at (places o (later self.entry.list.now self.entry.count)) out.new result }
+        ensures put { Put out.old at (offset_words o (later self.entry.list.now self.entry.count)) out.new result }
         ensures value { result ≡ at + 4 * self.entry.count }
     {
         let mut next = at;

@@ -26,7 +26,7 @@ use Rattle.rules.proofs.LawfulLaws as law
 use Rattle.error.specs.declared.Refusal.{Refusal}
 use Rattle.negotiation.specs.Updates.{Updates, calls_of, call_at, transaction_at}
 use Rattle.words.specs.Words.{four_of, surplus_words}
-use Rattle.negotiation.specs.Words.{words, all_words}
+use Rattle.negotiation.specs.Words.{update_words, all_words}
 use Rattle.negotiation.specs.Replay.{Summary, accepted_of, index_after, summary_of, replay_of, after_replay, told_replay}
 use Rattle.negotiation.specs.Law.{answer_in, answers_in, Called, LawfulReplay}
 use Rattle.negotiation.proofs.WordLaws.{all_length}
@@ -36,17 +36,17 @@ use Rattle.negotiation.proofs.Numbers.{Numbered, verdicts_numbered}
 -- ---- the answers are read back from their words
 
 -- an acceptance as it is, a refusal with its number
-accepted-back : (f : Figures) (ws : List ℕ) → answer_in (words (fine f) ++ ws) ≡ fine f
+accepted-back : (f : Figures) (ws : List ℕ) → answer_in (update_words (fine f) ++ ws) ≡ fine f
 unfolding number_of values_of surplus_words
 accepted-back f ws = rw (halves_are f.capacity, halves_are f.token)
 
-refused-back : (n : ℕ) (l ws : List ℕ) → 0 < n → answer_in (words (refused n l) ++ ws) ≡ refused n (four_of l)
+refused-back : (n : ℕ) (l ws : List ℕ) → 0 < n → answer_in (update_words (refused n l) ++ ws) ≡ refused n (four_of l)
 unfolding number_of values_of
 refused-back n l ws h = rw (ne_eqb n 0 (λ e. omega arith))
 
 -- what is read back carries what the answer carries
 alike : (pick : Figures → ℕ) (v : Outcome Figures) (ws : List ℕ) (us vs : List (Outcome Figures)) → Numbered v → carried pick us ≡ carried pick vs
-    → carried pick (answer_in (words v ++ ws) ∷ us) ≡ carried pick (v ∷ vs)
+    → carried pick (answer_in (update_words v ++ ws) ∷ us) ≡ carried pick (v ∷ vs)
 alike pick (fine f) ws us vs h e = rw (accepted-back f ws) (ap (λ (l : List ℕ). pick f ∷ l) e)
 alike pick (refused n l) ws us vs h e = rw (refused-back n l ws (h.positive n l refl)) e
 

@@ -24,7 +24,7 @@ use Rattle.rules.proofs.Accept.{readable-next}
 use Rattle.funding_tx.proofs.Demand3.{hands}
 use Rattle.funding_tx.proofs.VerdictLaws.{judge_read}
 use Rattle.negotiation.specs.Updates.{field_bytes, rate_of, call_at, calls_of, transaction_at}
-use Rattle.negotiation.specs.Words.{words, all_words}
+use Rattle.negotiation.specs.Words.{update_words, all_words}
 use Rattle.negotiation.specs.Replay.{accepted_of, index_after, after_replay, told_replay}
 use Rattle.negotiation.proofs.WordLaws.{all_length}
 
@@ -127,7 +127,7 @@ count-few (fine f) k i h = omega arith
 count-few (refused n l) k i h = omega arith
 
 module _ {lock udt start s out₀ : List ℕ} {known : Bool} {n i at accepted : ℕ} {out : List ℕ} (g : Running lock udt start s out₀ known n i at accepted out) where
-  more : {out' : List ℕ} → i < n → out' ≡ splice out (5 * i) (words (verdict_at lock udt start s at i))
+  more : {out' : List ℕ} → i < n → out' ≡ splice out (5 * i) (update_words (verdict_at lock udt start s at i))
       → Running lock udt start s out₀ known n (i + 1) (handed_back (verdict_at lock udt start s at i) at (i + 1)) (handed_back (verdict_at lock udt start s at i) accepted (accepted + 1)) out'
   unfolding all_words index_after
   more {out'} l e =
@@ -136,9 +136,9 @@ module _ {lock udt start s out₀ : List ℕ} {known : Bool} {n i at accepted : 
       let c : length r ≡ n - (i + 1) = length-verdicts (update_for_peer lock udt) (transaction_at start s (handed_back v at (i + 1))) (span (call_at s) (i + 1) (n - (i + 1))) ∙ span-length (call_at s) (i + 1) (n - (i + 1)) in
       let a : length (all_words r) ≡ 5 * length r = all_length r in
       let h = g.room in
-      let f : 5 * i + length (words v) ≤ length out = omega arith in
-      let k : length out' ≡ length out = ap length e ∙ splice-length out (5 * i) (words v) f in
-      let p : Put out (5 * i) (words v) out' (5 * (i + 1)) = record { bytes = e; end = omega arith; room = f } in
+      let f : 5 * i + length (update_words v) ≤ length out = omega arith in
+      let k : length out' ≡ length out = ap length e ∙ splice-length out (5 * i) (update_words v) f in
+      let p : Put out (5 * i) (update_words v) out' (5 * (i + 1)) = record { bytes = e; end = omega arith; room = f } in
       let q : Put out' (5 * (i + 1)) (all_words r) (splice out' (5 * (i + 1)) (all_words r)) (5 * (i + 1) + length (all_words r)) = record { bytes = refl; end = refl; room = omega arith } in
       record {
         count = g.count;
@@ -152,7 +152,7 @@ module _ {lock udt start s out₀ : List ℕ} {known : Bool} {n i at accepted : 
         total = count-on v r accepted ∙ rw (rest-on lock udt start s at i n l) at g.total;
       }
 
-  pub run_more : (u : Update) {out' : List ℕ} {at' accepted' : ℕ} → i < n → told u ≡ judge lock udt (transaction_at start s at) (call_at s i) → out' ≡ splice out (5 * i) (words (told u))
+  pub run_more : (u : Update) {out' : List ℕ} {at' accepted' : ℕ} → i < n → told u ≡ judge lock udt (transaction_at start s at) (call_at s i) → out' ≡ splice out (5 * i) (update_words (told u))
       → at' ≡ in_force_of u at (i + 1) → accepted' ≡ in_force_of u accepted (accepted + 1) → Running lock udt start s out₀ known n (i + 1) at' accepted' out'
   run_more u l e h ha hc =
       let v = verdict_at lock udt start s at i in

@@ -11,7 +11,7 @@ ghost use Rattle.error.specs.Outcome.{fine};
 ghost use Rattle.rules.specs.Told.{told, in_force_of};
 ghost use Rattle.rules.specs.Run.{verdicts, update_for_peer};
 ghost use Rattle.negotiation.specs.Updates.{Updates, field_bytes, bytes_start, rate_of, call_at, calls_of, transaction_at, transaction_place};
-ghost use Rattle.negotiation.specs.Words.{words};
+ghost use Rattle.negotiation.specs.Words.{update_words};
 ghost use Rattle.negotiation.specs.Replay.{replay_of, after_replay, told_replay};
 
 use arithmetic::little_endian;
@@ -84,7 +84,7 @@ fn copy(answers: &mut [u64], at: usize, words: &[u64])
 // Writes the words of an answer to `at`, where there is room for five.
 fn put_words(answers: &mut [u64], at: usize, update: Update)
     requires { at + 5 ≤ length answers.old }
-    ensures { answers.new ≡ splice answers.old at (words (told update)) }
+    ensures { answers.new ≡ splice answers.old at (update_words (told update)) }
 {
     let mut four = [0u64; 4];
     let number = u64::from(words::tell_update(update, &mut four));

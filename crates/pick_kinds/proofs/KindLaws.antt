@@ -18,7 +18,7 @@ use Rattle.out_points.specs.OutPoints.{eq_point, has, point_of, points}
 use Rattle.out_points.proofs.EqualLaws.{point-same, point_refl, flip, has_last}
 use Rattle.item_index.proofs.OrderLaws.{three}
 use Rattle.pick_kinds.specs.declared.{Kind.Kind}
-use Rattle.pick_kinds.specs.Kinds.{is_among, none_is, kind_of, Kinds}
+use Rattle.pick_kinds.specs.Kinds.{is_held_or_spent, none_is, kind_of, Kinds}
 use Rattle.pick_kinds.specs.Indexed.{FirstAt, First, also, Adds}
 use Rattle.pick_kinds.proofs.PlaceLaws.{first-yes, first-no}
 
@@ -212,9 +212,9 @@ module _ {g : ℕ → OutPoint} {n : ℕ} {s : List ℕ} {c i : ℕ} {m₀ m : L
   mark_end e l = let z : i ≡ fix_count s = (let w = k.within in omega arith) in rw z at k.adds
 
 pub kinds_both : (g : ℕ → OutPoint) (n : ℕ) (cells spent : List OutPoint) {m₁ m₂ m₃ : List Kind} → Kinds none_is g n m₁ → Adds g n cells m₁ m₂ → Adds g n spent m₂ m₃
-    → Kinds (is_among cells spent) g n m₃
-unfolding also none_is is_among
-kinds_both g n cells spent k a b = kinds_as {f = also (also none_is cells) spent} {h = is_among cells spent} (λ p. refl) (b.on (also none_is cells) (a.on none_is k))
+    → Kinds (is_held_or_spent cells spent) g n m₃
+unfolding also none_is is_held_or_spent
+kinds_both g n cells spent k a b = kinds_as {f = also (also none_is cells) spent} {h = is_held_or_spent cells spent} (λ p. refl) (b.on (also none_is cells) (a.on none_is k))
 
 -- no kinds
 pub kinds_none : (f : OutPoint → Bool) (g : ℕ → OutPoint) (m : List Kind) → Kinds f g 0 m

@@ -6,8 +6,8 @@ use Rattle.out_points.specs.OutPoints.{has}
 use Rattle.pick_kinds.specs.declared.{Kind.Kind}
 
 -- p is among the cells that are held, or spent: `is_busy` (crate hold_records) of the list of the records' cells
-unfoldable pub is_among : List OutPoint → List OutPoint → OutPoint → Bool
-is_among cells spent p = cond (has p cells) true (has p spent)
+unfoldable pub is_held_or_spent : List OutPoint → List OutPoint → OutPoint → Bool
+is_held_or_spent cells spent p = cond (has p cells) true (has p spent)
 
 unfoldable pub none_is : OutPoint → Bool
 none_is p = false

@@ -23,7 +23,7 @@ use Rattle.hold_records.specs.Inner.{put_if}
 use Rattle.hold_records.proofs.LoopLaws.{stands}
 use Rattle.hold_records.proofs.WriteLaws.{room_yes, put_yes}
 use Rattle.pick_kinds.specs.declared.{Kind.Kind}
-use Rattle.pick_kinds.specs.Kinds.{is_among, kind_of, Kinds}
+use Rattle.pick_kinds.specs.Kinds.{is_held_or_spent, kind_of, Kinds}
 use Rattle.unavailable_picks.specs.Inner.{is_first, select}
 use Rattle.unavailable_picks.proofs.FirstLaws.{is_other, firsts-select, others-select}
 use Rattle.picks.specs.Inner.{is_free_kind, is_free, is_left, free_of, left_of, Tallied}
@@ -86,10 +86,10 @@ module _ (picked : List ℕ) (kinds : List Kind) {owner : Owner} {k g : Held} {c
   left_is = let q = t.counted in omega (arith, both_are picked kinds)
 
 abbrev not_among : List OutPoint → List OutPoint → OutPoint → Bool
-not_among cells spent p = not (is_among cells spent p)
+not_among cells spent p = not (is_held_or_spent cells spent p)
 
 -- by kinds, and by the lists of cells
-module _ (cells spent : List OutPoint) (picked : List ℕ) (kinds : List Kind) (k : Kinds (is_among cells spent) (point_of picked) (min (fix_count picked) (length kinds)) kinds) (l : fix_count picked ≤ length kinds) where
+module _ (cells spent : List OutPoint) (picked : List ℕ) (kinds : List Kind) (k : Kinds (is_held_or_spent cells spent) (point_of picked) (min (fix_count picked) (length kinds)) kinds) (l : fix_count picked ≤ length kinds) where
   abbrev F : OutPoint → Bool
   F = not_among cells spent
 
@@ -97,7 +97,7 @@ module _ (cells spent : List OutPoint) (picked : List ℕ) (kinds : List Kind) (
   unfolding is_free is_free_kind is_first kind_of
   free_is j b =
       ap is_free_kind (k.each j (omega arith))
-      ∙ by (has (point_of picked j) (span (point_of picked) 0 j)) (is_among cells spent (point_of picked j))
+      ∙ by (has (point_of picked j) (span (point_of picked) 0 j)) (is_held_or_spent cells spent (point_of picked j))
     where
       by : (b c : Bool) → is_free_kind (cond b Kind.Again (cond c Kind.Busy Kind.Free)) ≡ cond (not c) (not b) false
       by true true = refl
@@ -229,10 +229,10 @@ take_many k picked spent owner out₁ out₂ {n} en m = rw (many k picked spent 
 
 -- what is taken by a list of cells is taken by the records that they are of
 pub take_known : (k : Held) (cells picked spent : List ℕ) (kinds : List Kind) (owner : Owner) (out₁ out₂ : List ℕ) {z : ℕ} {x : Outcome (List Hold) × List ℕ × List ℕ}
-    → (9220 ≤ z → points cells ≡ cells_of (records_of k)) → 9220 ≤ z → Kinds (is_among (points cells) (points spent)) (point_of picked) (min (fix_count picked) (length kinds)) kinds
+    → (9220 ≤ z → points cells ≡ cells_of (records_of k)) → 9220 ≤ z → Kinds (is_held_or_spent (points cells) (points spent)) (point_of picked) (min (fix_count picked) (length kinds)) kinds
     → fix_count picked ≤ length kinds → x ≡ after_take (take_these (records_of k) (free_of picked kinds) (left_of picked kinds) owner) out₁ out₂
     → x ≡ after_take (take_free (records_of k) picked spent owner) out₁ out₂
-unfolding take_free is_busy is_among
+unfolding take_free is_busy is_held_or_spent
 take_known k cells picked spent kinds owner out₁ out₂ {z} {x} e l known room f =
     let c : points cells ≡ cells_of (records_of k) = e l in
     f

@@ -36,5 +36,5 @@ pub record Tallied (owner : Owner) (l : List OutPoint) (h g : Held) (count : ℕ
   pub added : min h.count 256 + count ≤ 256 → records_of g ≡ records_of h ++ map (held_by owner) l
 
 -- `take` of picks that are split by their kinds, from the records left
-abbrev pub split : List Hold → List ℕ → List Kind → Owner → List ℕ → List ℕ → Outcome (List Hold) × List ℕ × List ℕ
-split left picked kinds owner out₁ out₂ = after_take (take_these left (free_of picked kinds) (left_of picked kinds) owner) out₁ out₂
+abbrev pub take_split : List Hold → List ℕ → List Kind → Owner → List ℕ → List ℕ → Outcome (List Hold) × List ℕ × List ℕ
+take_split left picked kinds owner out₁ out₂ = after_take (take_these left (free_of picked kinds) (left_of picked kinds) owner) out₁ out₂

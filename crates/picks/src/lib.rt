@@ -9,7 +9,7 @@ ghost use Rattle.out_points.specs.Tables.{with_list};
 ghost use Rattle.hold_records.specs.declared.{Held.Held};
 ghost use Rattle.hold_records.specs.Holds.{records_of, told, cells_of, take_free, after_take};
 ghost use Rattle.hold_records.specs.Inner.{put_if};
-ghost use Rattle.picks.specs.Inner.{is_free, free_of, left_of, Tallied, split};
+ghost use Rattle.picks.specs.Inner.{is_free, free_of, left_of, Tallied, take_split};
 
 use error::Refusal;
 use hold_records::{Held, Hold, MOST_RECORDS, Owner};
@@ -120,7 +120,8 @@ impl<'a> Sorted<'a> {
         taken: &mut [u8],
         refused: &mut [u8],
     ) -> Result<Held, Refusal>
-        ensures after { (told result, taken.new, refused.new) ≡ split (records_of live) self.entry.picked.now self.entry.kinds.now owner taken.old refused.old }
+        ensures after { (told result, taken.new, refused.new)
+            ≡ take_split (records_of live) self.entry.picked.now self.entry.kinds.now owner taken.old refused.old }
         ensures count_bound { IfOk result (λ g. g.count ≤ 256) }
     {
         let t = self.tally(live, owner);

@@ -11,7 +11,7 @@ use Rattle.transaction.specs.Ckb.{Transaction}
 use Rattle.transaction.specs.Tx.{Tx, tx_at, raw_field, witnesses_of}
 use Rattle.reader.specs.Places.{table_at, table_start, fixvec_at, fixvec_start, raw_at, witnesses_at}
 use Rattle.reader.proofs.TransactionLaws.{reads_cell-deps, reads_header-deps, reads_inputs, reads_outputs, reads_outputs_data, reads_witnesses}
-use Rattle.transaction_lists.specs.Lists.{list_of, list_in, item_in, start_of, place_in}
+use Rattle.transaction_lists.specs.Lists.{list_of, list_in, item_in, start_in, place_in_bytes}
 
 span-at : {A : Type 0} (f : ℕ → A) (none : A) (j i k : ℕ) → i < k → get_or (span f j k) i none ≡ f (j + i)
 unfolding span
@@ -42,8 +42,8 @@ none-beyond tx list h = by (readable Transaction tx)
 pub item-none : (tx : List ℕ) (list i : ℕ) → length (list_in tx list) ≤ i → item_in tx list i ≡ []
 item-none tx list i h = get_or-eq_default (list_in tx list) [] h
 
-pub place_none : (tx : List ℕ) (list i : ℕ) → length (list_in tx list) ≤ i → place_in tx list i ≡ part_start tx 0 0
-unfolding place_in part_start
+pub place_none : (tx : List ℕ) (list i : ℕ) → length (list_in tx list) ≤ i → place_in_bytes tx list i ≡ part_start tx 0 0
+unfolding place_in_bytes part_start
 place_none tx list i h = rw (le-ltb i (length (list_in tx list)) h) (omega arith)
 
 -- ---- how many items there are
@@ -97,8 +97,8 @@ module _ (tx : List ℕ) (list i : ℕ) (h : i < length (list_in tx list)) where
       let w : i < m = omega (arith, ap length l, span-length f 0 m) in
       rw l (span-at f [] 0 i m w ∙ ap f (zero-add i))
 
-  pub place_there : place_in tx list i ≡ start_of tx list i
-  unfolding place_in
+  pub place_there : place_in_bytes tx list i ≡ start_in tx list i
+  unfolding place_in_bytes
   place_there = rw (lt-ltb i (length (list_in tx list)) h)
 
 module _ (tx : List ℕ) (i : ℕ) where
@@ -106,46 +106,46 @@ module _ (tx : List ℕ) (i : ℕ) where
   unfolding list_of
   item-cell-dep h = item_there tx 0 i h (fix_item (raw_field tx 1) 37) _ refl ∙ rw ((reads_cell-deps tx (reads_it tx 0 i h)).list)
 
-  pub place-cell-dep : i < length (list_in tx 0) → place_in tx 0 i ≡ fixvec_start tx (raw_at tx 1) 37 + fix_start (fixvec_at tx (raw_at tx 1) 37) 37 i
-  unfolding start_of
+  pub place-cell-dep : i < length (list_in tx 0) → place_in_bytes tx 0 i ≡ fixvec_start tx (raw_at tx 1) 37 + fix_start (fixvec_at tx (raw_at tx 1) 37) 37 i
+  unfolding start_in
   place-cell-dep h = let r = reads_cell-deps tx (reads_it tx 0 i h) in place_there tx 0 i h ∙ rw (r.list, r.begins)
 
   pub item-header-dep : i < length (list_in tx 1) → item_in tx 1 i ≡ fix_item (fixvec_at tx (raw_at tx 2) 32) 32 i
   unfolding list_of
   item-header-dep h = item_there tx 1 i h (fix_item (raw_field tx 2) 32) _ refl ∙ rw ((reads_header-deps tx (reads_it tx 1 i h)).list)
 
-  pub place-header-dep : i < length (list_in tx 1) → place_in tx 1 i ≡ fixvec_start tx (raw_at tx 2) 32 + fix_start (fixvec_at tx (raw_at tx 2) 32) 32 i
-  unfolding start_of
+  pub place-header-dep : i < length (list_in tx 1) → place_in_bytes tx 1 i ≡ fixvec_start tx (raw_at tx 2) 32 + fix_start (fixvec_at tx (raw_at tx 2) 32) 32 i
+  unfolding start_in
   place-header-dep h = let r = reads_header-deps tx (reads_it tx 1 i h) in place_there tx 1 i h ∙ rw (r.list, r.begins)
 
   pub item-input : i < length (list_in tx 2) → item_in tx 2 i ≡ fix_item (fixvec_at tx (raw_at tx 3) 44) 44 i
   unfolding list_of
   item-input h = item_there tx 2 i h (fix_item (raw_field tx 3) 44) _ refl ∙ rw ((reads_inputs tx (reads_it tx 2 i h)).list)
 
-  pub place-input : i < length (list_in tx 2) → place_in tx 2 i ≡ fixvec_start tx (raw_at tx 3) 44 + fix_start (fixvec_at tx (raw_at tx 3) 44) 44 i
-  unfolding start_of
+  pub place-input : i < length (list_in tx 2) → place_in_bytes tx 2 i ≡ fixvec_start tx (raw_at tx 3) 44 + fix_start (fixvec_at tx (raw_at tx 3) 44) 44 i
+  unfolding start_in
   place-input h = let r = reads_inputs tx (reads_it tx 2 i h) in place_there tx 2 i h ∙ rw (r.list, r.begins)
 
   pub item-output : i < length (list_in tx 3) → item_in tx 3 i ≡ item_of (table_at tx (raw_at tx 4)) i
   unfolding list_of
   item-output h = item_there tx 3 i h (item_of (raw_field tx 4)) _ refl ∙ rw ((reads_outputs tx (reads_it tx 3 i h)).list)
 
-  pub place-output : i < length (list_in tx 3) → place_in tx 3 i ≡ table_start tx (raw_at tx 4) + item_start (table_at tx (raw_at tx 4)) i
-  unfolding start_of
+  pub place-output : i < length (list_in tx 3) → place_in_bytes tx 3 i ≡ table_start tx (raw_at tx 4) + item_start (table_at tx (raw_at tx 4)) i
+  unfolding start_in
   place-output h = let r = reads_outputs tx (reads_it tx 3 i h) in place_there tx 3 i h ∙ rw (r.list, r.begins)
 
   pub item-output_data : i < length (list_in tx 4) → item_in tx 4 i ≡ entry_of (table_at tx (raw_at tx 5)) i
   unfolding list_of
   item-output_data h = item_there tx 4 i h (entry_of (raw_field tx 5)) _ refl ∙ rw ((reads_outputs_data tx (reads_it tx 4 i h)).list)
 
-  pub place-output_data : i < length (list_in tx 4) → place_in tx 4 i ≡ table_start tx (raw_at tx 5) + entry_start (table_at tx (raw_at tx 5)) i
-  unfolding start_of
+  pub place-output_data : i < length (list_in tx 4) → place_in_bytes tx 4 i ≡ table_start tx (raw_at tx 5) + entry_start (table_at tx (raw_at tx 5)) i
+  unfolding start_in
   place-output_data h = let r = reads_outputs_data tx (reads_it tx 4 i h) in place_there tx 4 i h ∙ rw (r.list, r.begins)
 
   pub item_witness : i < length (list_in tx 5) → item_in tx 5 i ≡ entry_of (table_at tx (witnesses_at tx)) i
   unfolding list_of
   item_witness h = item_there tx 5 i h (entry_of (witnesses_of tx)) _ refl ∙ rw ((reads_witnesses tx (reads_it tx 5 i h)).list)
 
-  pub place_witness : i < length (list_in tx 5) → place_in tx 5 i ≡ table_start tx (witnesses_at tx) + entry_start (table_at tx (witnesses_at tx)) i
-  unfolding start_of
+  pub place_witness : i < length (list_in tx 5) → place_in_bytes tx 5 i ≡ table_start tx (witnesses_at tx) + entry_start (table_at tx (witnesses_at tx)) i
+  unfolding start_in
   place_witness h = let r = reads_witnesses tx (reads_it tx 5 i h) in place_there tx 5 i h ∙ rw (r.list, r.begins)

@@ -18,8 +18,8 @@ abbrev pub item_in : List ℕ → ℕ → ℕ → List ℕ
 item_in s list i = get_or (list_in s list) i []
 
 -- where in s it starts; where there is none, at the start
-unfoldable pub start_of : List ℕ → ℕ → ℕ → ℕ
-start_of s list i =
+unfoldable pub start_in : List ℕ → ℕ → ℕ → ℕ
+start_in s list i =
     get_or
     ((raw_start s 1 + fix_start (raw_field s 1) 37 i)
     ∷ (raw_start s 2 + fix_start (raw_field s 2) 32 i)
@@ -30,5 +30,5 @@ start_of s list i =
     ∷ [])
     list 0
 
-unfoldable pub place_in : List ℕ → ℕ → ℕ → ℕ
-place_in s list i = cond (ltb i (length (list_in s list))) (start_of s list i) 0
+unfoldable pub place_in_bytes : List ℕ → ℕ → ℕ → ℕ
+place_in_bytes s list i = cond (ltb i (length (list_in s list))) (start_in s list i) 0

@@ -7,8 +7,8 @@ ghost use Rattle.molecule.specs.Layout.{inside};
 ghost use Rattle.molecule.specs.Molecule.{readable};
 ghost use Rattle.transaction.specs.Ckb.{Transaction};
 ghost use Rattle.error.specs.Outcome.{told};
-ghost use Rattle.transaction_lists.specs.Kinds.{number_of, Decodes};
-ghost use Rattle.transaction_lists.specs.Lists.{list_in, item_in, place_in};
+ghost use Rattle.transaction_lists.specs.Kinds.{list_number, Decodes};
+ghost use Rattle.transaction_lists.specs.Lists.{list_in, item_in, place_in_bytes};
 ghost use Rattle.transaction_lists.specs.Found.{version_found, count_found};
 
 use error::Refusal;
@@ -57,7 +57,7 @@ pub fn version(tx: &[u8]) -> Result<u32, Refusal>
 // How many items a list of a transaction has.
 fn count(tx: &[u8], list: ListKind) -> u32
     requires { readable Transaction tx.now ≡ true }
-    ensures { result ≡ length (list_in tx.now (number_of list)) }
+    ensures { result ≡ length (list_in tx.now (list_number list)) }
 {
     match list {
         ListKind::CellDeps => reading::cell_dep_count(tx),
@@ -83,7 +83,7 @@ pub fn item_count(tx: &[u8], list: u32) -> Result<u32, Refusal>
 // The item at a place, and no bytes past the last, as its stretch of the lent bytes.
 pub fn item(tx: &[u8], list: u32, i: usize) -> &[u8]
     ensures result_value { result.now ≡ item_in tx.now list i }
-    ensures ref_ptr_value { result.ref_ptr ≡ inside tx.entry.ref_ptr (place_in tx.now list i) }
+    ensures ref_ptr_value { result.ref_ptr ≡ inside tx.entry.ref_ptr (place_in_bytes tx.now list i) }
 {
     if !transaction::is_transaction(tx) {
         return molecule::part(tx, 0, 0);

@@ -13,7 +13,7 @@ use Rattle.lists.proofs.SpanLaws.{span-on, span-end, span-whole}
 use Rattle.out_points.specs.declared.{OutPoint.OutPoint}
 use Rattle.out_points.specs.OutPoints.{eq_point, slot_of, has, point_of, points}
 use Rattle.out_points.proofs.EqualLaws.{point-same, slot_below}
-use Rattle.pick_kinds.specs.Kinds.{is_among}
+use Rattle.pick_kinds.specs.Kinds.{is_held_or_spent}
 use Rattle.unavailable_picks.specs.Inner.{marked, Marks}
 
 -- ---- set
@@ -83,8 +83,8 @@ is-marked p (q ∷ l) m b h = by (eq_point p q) refl h (is-marked p l (set m (sl
     by false e g f = f g
 
 -- neither list has an out point whose mark is not set
-free : (cells spent : List OutPoint) (m : List Bool) (p : OutPoint) → slot_of p < length m → get_or (marked spent (marked cells m)) (slot_of p) false ≡ false → is_among cells spent p ≡ false
-unfolding is_among
+free : (cells spent : List OutPoint) (m : List Bool) (p : OutPoint) → slot_of p < length m → get_or (marked spent (marked cells m)) (slot_of p) false ≡ false → is_held_or_spent cells spent p ≡ false
+unfolding is_held_or_spent
 free cells spent m p b e = by (has p cells) (has p spent) refl refl
   where
     c : slot_of p < length (marked cells m)
@@ -107,5 +107,5 @@ module _ {cells spent : List OutPoint} {m : List Bool} (k : Marks cells spent m)
   pub mark_stands : {i : ℕ} → i < 4093 → i < length m
   mark_stands l = let e = k.enough in omega arith
 
-  pub busy_unmarked : (p : OutPoint) {i : ℕ} → i ≡ slot_of p → get_or m i false ≡ false → false ≡ is_among cells spent p
+  pub busy_unmarked : (p : OutPoint) {i : ℕ} → i ≡ slot_of p → get_or m i false ≡ false → false ≡ is_held_or_spent cells spent p
   busy_unmarked p e h = sym (k.unmarked p (rw e at h))

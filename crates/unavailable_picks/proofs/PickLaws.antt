@@ -18,7 +18,7 @@ use Rattle.out_points.specs.OutPoints.{has, point_of, points, point_bytes, point
 use Rattle.hold_records.specs.declared.{Held.Held}
 use Rattle.hold_records.specs.Holds.{records_of, cells_of, is_busy, firsts}
 use Rattle.pick_kinds.specs.declared.{Kind.Kind}
-use Rattle.pick_kinds.specs.Kinds.{is_among, kind_of, Kinds}
+use Rattle.pick_kinds.specs.Kinds.{is_held_or_spent, kind_of, Kinds}
 use Rattle.pick_kinds.proofs.KindLaws.{kind_put}
 use Rattle.unavailable_picks.specs.Inner.{is_first, select, named}
 use Rattle.out_points.specs.Tables.{has_room}
@@ -27,12 +27,12 @@ use Rattle.hold_records.proofs.WriteLaws.{Listing, list_start, list_more, list_e
 use Rattle.unavailable_picks.proofs.FirstLaws.{firsts-select}
 
 module _ (cells spent : List OutPoint) (p : OutPoint) {a : Bool} (e : a ≡ has p cells) where
-  pub busy_held : a ≡ true → true ≡ is_among cells spent p
-  unfolding is_among
+  pub busy_held : a ≡ true → true ≡ is_held_or_spent cells spent p
+  unfolding is_held_or_spent
   busy_held t = rw (← e, t)
 
-  pub busy_spent : {b : Bool} → a ≡ false → b ≡ has p spent → b ≡ is_among cells spent p
-  unfolding is_among
+  pub busy_spent : {b : Bool} → a ≡ false → b ≡ has p spent → b ≡ is_held_or_spent cells spent p
+  unfolding is_held_or_spent
   busy_spent t h = rw (← e, t) h
 
 module _ (f : OutPoint → Bool) (g : ℕ → OutPoint) (i : ℕ) {p : OutPoint} (ep : p ≡ g i) where
@@ -184,11 +184,11 @@ module _ {f : ℕ → Bool} {g : ℕ → OutPoint} {all : List OutPoint} {n i : 
 
 module _ (cells picked spent : List ℕ) where
   abbrev F : ℕ → Bool
-  F = is_first (is_among (points cells) (points spent)) (point_of picked)
+  F = is_first (is_held_or_spent (points cells) (points spent)) (point_of picked)
 
   named-is : named cells picked spent ≡ select F (point_of picked) 0 (fix_count picked)
   unfolding named
-  named-is = firsts-select (is_among (points cells) (points spent)) (point_of picked) (fix_count picked)
+  named-is = firsts-select (is_held_or_spent (points cells) (points spent)) (point_of picked) (fix_count picked)
 
   pub busy_start : {n : ℕ} → n ≡ fix_count picked → Counting F (point_of picked) n 0 0 (length (named cells picked spent))
   busy_start e = rw named-is (count-start F (point_of picked) e)
@@ -209,8 +209,8 @@ module _ (l : List OutPoint) (out : List ℕ) {n : ℕ} (en : n ≡ length l) wh
 
 module _ (h : Held) (cells picked spent out : List ℕ) {z : ℕ} (e : 9220 ≤ z → points cells ≡ cells_of (records_of h)) (l : 9220 ≤ z) where
   named-held : named cells picked spent ≡ firsts (is_busy (records_of h) (points spent)) [] (points picked)
-  unfolding named is_among is_busy
-  named-held = ap (λ (y : List OutPoint). firsts (is_among y (points spent)) [] (points picked)) (e l)
+  unfolding named is_held_or_spent is_busy
+  named-held = ap (λ (y : List OutPoint). firsts (is_held_or_spent y (points spent)) [] (points picked)) (e l)
 
   pub held-room : {b : Bool} → b ≡ has_room (named cells picked spent) out → b ≡ has_room (firsts (is_busy (records_of h) (points spent)) [] (points picked)) out
   held-room f = f ∙ ap (λ (y : List OutPoint). has_room y out) named-held

@@ -5,13 +5,13 @@ use Rattle.case_file.specs.contracts.items.Kind.{the_type}
 use Rattle.case_file.specs.CaseFile.{kind_at}
 use Rattle.case_file.specs.declared.items.Kind.{Kind}
 use Rattle.case_file.specs.declared.items.Kind.TheVariants.{Ours, Peer, Lock, Udt, Source, Rate, Output, Data, NotLive}
-use Rattle.case_file.specs.Walk.{number_of}
+use Rattle.case_file.specs.Walk.{kind_number}
 use Rattle.case_file.proofs.ItemLaws.{kind_is}
 use Rattle.case_file.proofs.items.CaseFile.is_kind.Goals as goal
 
 pub returns : goal.returns
 returns c =
-    let n : tag_of the_type c.args.kind + 1 ≡ number_of c.args.kind = elim c.args.kind as (λ k. tag_of the_type k + 1 ≡ number_of k) [
+    let n : tag_of the_type c.args.kind + 1 ≡ kind_number c.args.kind = elim c.args.kind as (λ k. tag_of the_type k + 1 ≡ kind_number k) [
       | Ours ↦ refl
       | Peer ↦ refl
       | Lock ↦ refl
