@@ -2,7 +2,7 @@
 ghost use Rattle.std.specs.Prelude.{◌≡◌, ◌+◌, ◌^◌, ◌<◌};
 ghost use Rattle.units.specs.Units.{shannon_count};
 ghost use Rattle.rules.specs.Cells.{record_cell};
-ghost use Rattle.rules.specs.Surplus.{total, capacity_of};
+ghost use Rattle.rules.specs.Surplus.{total, cell_capacity};
 ghost use Rattle.rules.specs.Judge.{covered};
 ghost use Rattle.rules.specs.Lines.{verdict};
 ghost use Rattle.error.specs.Outcome.{told_by};
@@ -16,7 +16,7 @@ use units::{Figure, Shannons};
 
 // The capacity of a record's cell.
 pub fn record_capacity(resolved: &[u8]) -> Shannons
-    ensures result_value { shannon_count result ≡ capacity_of (record_cell resolved.now) }
+    ensures result_value { shannon_count result ≡ cell_capacity (record_cell resolved.now) }
     ensures result_bound { shannon_count result < 2 ^ 64 }
 {
     let o = fields::record_output(resolved);
@@ -26,7 +26,7 @@ pub fn record_capacity(resolved: &[u8]) -> Shannons
 impl Added<'_> {
     // The capacity of these outputs; their data counts nothing. A sum of fewer than 2^32 capacities is far from the greatest amount.
     fn capacity(self) -> Shannons
-        ensures { shannon_count result ≡ total capacity_of (added_cells self.entry) }
+        ensures { shannon_count result ≡ total cell_capacity (added_cells self.entry) }
     {
         let n = molecule::item_count(self.outputs) as usize;
         let mut sum = Shannons::ZERO;
@@ -79,7 +79,7 @@ pub fn surplus(
     size: u64,
 ) -> Result<Shannons, Refusal>
     ensures { told_by shannon_count result
-        ≡ verdict (covered opening (shannon_count gained) (shannon_count grown + total capacity_of (added_cells added.entry)) rate size) }
+        ≡ verdict (covered opening (shannon_count gained) (shannon_count grown + total cell_capacity (added_cells added.entry)) rate size) }
 {
     let put = added.capacity();
     cover(opening, gained, grown, put, rate, size)

@@ -10,7 +10,7 @@ use lib.ListN.{length, replicate}
 use Rattle.arithmetic.specs.LittleEndian.{to_le, num_at}
 use Rattle.molecule.specs.Items.{join, unwords, offsets}
 use Rattle.molecule.specs.Layout.{span, word, item_count}
-use Rattle.list_writer.specs.ListWriter.{bytes_item, item_or, later, if_any, put_list, put_list_end}
+use Rattle.list_writer.specs.ListWriter.{bytes_item, item_or, items_after_first, if_any, put_list, put_list_end}
 use Rattle.list_writer.specs.Around.{around, list_size}
 use Rattle.list_writer.proofs.HeadLaws.{around-length}
 use Rattle.base_lists.specs.BaseLists.{placeholder, witness_list}
@@ -44,7 +44,7 @@ unfolding if_any placeholder bytes_item join unwords offsets flatten to_le
 mark_any = refl
 
 two_marks : (n : ℕ) → join (placeholder ∷ replicate n (bytes_item []) ++ (placeholder ∷ [])) ≡ around placeholder [] n placeholder
-unfolding around later
+unfolding around items_after_first
 two_marks n = ap₂ (λ (xs ys : List (List ℕ)). join (placeholder ∷ xs ++ ys)) (sym (empty-items 1 n)) (sym mark_any)
 
 between_none : (n : ℕ) → between n 0 ≡ None
@@ -56,7 +56,7 @@ unfolding between
 between_some n q = grind (arith, nat_tests)
 
 one_mark : (m q : ℕ) → None ≡ between m q → join (witness_list m q) ≡ around placeholder [] 0 []
-unfolding witness_list around later if_any span
+unfolding witness_list around items_after_first if_any span
 one_mark zero q h = refl
 one_mark (suc n) zero h = refl
 one_mark (suc n) (suc q) h = cc (between_some n q)

@@ -4,7 +4,7 @@ use Rattle.std.specs.Prelude.{ℕ, zero, suc, Bool, cond, List, [], ◌∷◌, �
 use Rattle.arithmetic.specs.LittleEndian.{to_le}
 use Rattle.molecule.specs.Items.{join}
 use Rattle.cell_output.specs.CellOutput.{cell_output}
-use Rattle.list_writer.specs.ListWriter.{bytes_item, later, if_any, if_positive}
+use Rattle.list_writer.specs.ListWriter.{bytes_item, items_after_first, if_any, if_positive}
 
 -- ---- items
 
@@ -21,12 +21,12 @@ placeholder = bytes_item (join (bytes_item (replicate 65 0) ∷ [] ∷ [] ∷ []
 -- the funding cell, k present outputs after the first, and the change, if it has a capacity
 unfoldable pub output_list : ℕ → List ℕ → List ℕ → List ℕ → ℕ → ℕ → List ℕ → List (List ℕ)
 output_list capacity lock udt present k change source =
-    cell_output capacity lock udt ∷ later present k ++ if_any (if_positive change (cell_output change source udt))
+    cell_output capacity lock udt ∷ items_after_first present k ++ if_any (if_positive change (cell_output change source udt))
 
 -- the data of each: the funding cell's tokens, if it is typed; "each output's data, empty if missing"; the change, if any
 unfoldable pub data_list : Bool → ℕ → List ℕ → ℕ → ℕ → List (List ℕ)
 data_list typed tokens present k change =
-    cond typed (amount_item tokens) (bytes_item []) ∷ later present k ++ if_any (if_positive change (amount_item change))
+    cond typed (amount_item tokens) (bytes_item []) ∷ items_after_first present k ++ if_any (if_positive change (amount_item change))
 
 -- "Witness 0 is the placeholder; if tokens were picked behind present inputs, empty witnesses follow up to the first picked input, which has the
 -- placeholder too"

@@ -39,7 +39,7 @@ use Rattle.funding_cell.proofs.FundingCellLaws.{capacity-low}
 use Rattle.cell_output.specs.CellOutput.{cell_output}
 use Rattle.udt_cells.proofs.OutputReads.{output-readable, output-lock, output-type, output-capacity}
 use Rattle.udt_cells.specs.Pick.{Pick, pick_typed}
-use Rattle.list_writer.specs.ListWriter.{fix_list, bytes_item, later, if_any, if_positive}
+use Rattle.list_writer.specs.ListWriter.{fix_list, bytes_item, items_after_first, if_any, if_positive}
 use Rattle.list_writer.proofs.HeadLaws.{later-length}
 use Rattle.list_writer.proofs.AgainLaws.{if_readable}
 use Rattle.base_inputs.specs.BaseInputs.{picked, input_list}
@@ -128,15 +128,15 @@ module _ (l : Lent) (request : FundingRequest) (bytes : List ℕ) (b : AllBytes 
   base_short : length (packed base) ≤ 133116
   base_short = rw m.is short
 
-  outputs_are : base.outputs ≡ cell_output m.cell.capacity l.lock l.udt ∷ later (raw_field l.ours 4) after ++ if_any (if_positive back (cell_output back l.source l.udt))
+  outputs_are : base.outputs ≡ cell_output m.cell.capacity l.lock l.udt ∷ items_after_first (raw_field l.ours 4) after ++ if_any (if_positive back (cell_output back l.source l.udt))
   unfolding base_tx output_list
   outputs_are = refl
 
-  data_are : base.outputs_data ≡ cond (not (is_empty l.udt)) (amount_item m.cell.token) (bytes_item []) ∷ later (raw_field l.ours 5) after ++ if_any (if_positive m.pick.change (amount_item m.pick.change))
+  data_are : base.outputs_data ≡ cond (not (is_empty l.udt)) (amount_item m.cell.token) (bytes_item []) ∷ items_after_first (raw_field l.ours 5) after ++ if_any (if_positive m.pick.change (amount_item m.pick.change))
   unfolding base_tx data_list
   data_are = refl
 
-  outputs_all : All (λ (x : List ℕ). length x < 2 ^ 32) (cell_output m.cell.capacity l.lock l.udt ∷ later (raw_field l.ours 4) after ++ if_any (if_positive back (cell_output back l.source l.udt)))
+  outputs_all : All (λ (x : List ℕ). length x < 2 ^ 32) (cell_output m.cell.capacity l.lock l.udt ∷ items_after_first (raw_field l.ours 4) after ++ if_any (if_positive back (cell_output back l.source l.udt)))
   unfolding packed
   outputs_all =
       let n = tx_length base.version (fix_list base.cell_deps) (fix_list base.header_deps) (fix_list base.inputs) (join base.outputs) (join base.outputs_data) (join base.witnesses) in
@@ -148,10 +148,10 @@ module _ (l : Lent) (request : FundingRequest) (bytes : List ℕ) (b : AllBytes 
   outputs-readable =
       ap (every (readable CellOutput)) outputs_are
       ∙ ap₂ ◌&&◌ (output-readable m.cell.capacity l.lock l.udt outputs_all.0 m.lock m.udt)
-      (every_append (readable CellOutput) (later (raw_field l.ours 4) after) (if_any (if_positive back (cell_output back l.source l.udt)))
+      (every_append (readable CellOutput) (items_after_first (raw_field l.ours 4) after) (if_any (if_positive back (cell_output back l.source l.udt)))
       (later-outputs (raw_field l.ours 4) after refl ours.outputs)
       (last_every (readable CellOutput) back (cell_output back l.source l.udt) (λ few. output-readable back l.source l.udt few m.source m.udt)
-      (all_right (λ (x : List ℕ). length x < 2 ^ 32) (later (raw_field l.ours 4) after) _ outputs_all.1)))
+      (all_right (λ (x : List ℕ). length x < 2 ^ 32) (items_after_first (raw_field l.ours 4) after) _ outputs_all.1)))
 
   first_data : (typed : Bool) → readable Bytes (cond typed (amount_item m.cell.token) (bytes_item [])) ≡ true
   first_data true = amount-readable m.cell.token
@@ -171,7 +171,7 @@ module _ (l : Lent) (request : FundingRequest) (bytes : List ℕ) (b : AllBytes 
   data_readable =
       ap (every (readable Bytes)) data_are
       ∙ ap₂ ◌&&◌ (first_data (not (is_empty l.udt)))
-      (every_append (readable Bytes) (later (raw_field l.ours 5) after) (if_any (if_positive m.pick.change (amount_item m.pick.change)))
+      (every_append (readable Bytes) (items_after_first (raw_field l.ours 5) after) (if_any (if_positive m.pick.change (amount_item m.pick.change)))
       (later_data (raw_field l.ours 5) after ours.outputs_data) (last_data m.pick.change m.pick.change))
 
   formed : Formed base
@@ -245,13 +245,13 @@ module _ (l : Lent) (request : FundingRequest) (bytes : List ℕ) (b : AllBytes 
   abbrev item : List ℕ
   item = cond (not (is_empty l.udt)) (amount_item m.cell.token) (bytes_item [])
 
-  all_outputs : (tx_at bytes).outputs ≡ output ∷ later (raw_field l.ours 4) after ++ changes
+  all_outputs : (tx_at bytes).outputs ≡ output ∷ items_after_first (raw_field l.ours 4) after ++ changes
   all_outputs = reads.outputs ∙ outputs_are
 
-  all_data : (tx_at bytes).outputs_data ≡ content item ∷ map content (later (raw_field l.ours 5) after ++ changed)
+  all_data : (tx_at bytes).outputs_data ≡ content item ∷ map content (items_after_first (raw_field l.ours 5) after ++ changed)
   all_data = reads.outputs_data ∙ ap (map content) data_are
 
-  cells_are : cells (tx_at bytes) ≡ record { output = output; cell_data = content item } ∷ pair (later (raw_field l.ours 4) after ++ changes) (map content (later (raw_field l.ours 5) after ++ changed))
+  cells_are : cells (tx_at bytes) ≡ record { output = output; cell_data = content item } ∷ pair (items_after_first (raw_field l.ours 4) after ++ changes) (map content (items_after_first (raw_field l.ours 5) after ++ changed))
   cells_are = ap₂ pair all_outputs all_data
 
   funds : Funds l request bytes
@@ -261,7 +261,7 @@ module _ (l : Lent) (request : FundingRequest) (bytes : List ℕ) (b : AllBytes 
         cell = m.cell;
         is_cell = m.figured.is_cell;
         first = record { output = output; cell_data = content item };
-        later = pair (later (raw_field l.ours 4) after ++ changes) (map content (later (raw_field l.ours 5) after ++ changed));
+        later = pair (items_after_first (raw_field l.ours 4) after ++ changes) (map content (items_after_first (raw_field l.ours 5) after ++ changed));
         is_first = cells_are;
         lock = output-lock m.cell.capacity l.lock l.udt s;
         type_script = output-type m.cell.capacity l.lock l.udt s;
@@ -304,33 +304,33 @@ module _ (l : Lent) (request : FundingRequest) (bytes : List ℕ) (b : AllBytes 
   outputs-count : length before.outputs ≤ length (tx_at bytes).outputs
   outputs-count =
       let p = prefix_length keeps.outputs in
-      let n : length (tx_at bytes).outputs ≡ suc (length (later (raw_field l.ours 4) after ++ changes)) = ap length all_outputs in
+      let n : length (tx_at bytes).outputs ≡ suc (length (items_after_first (raw_field l.ours 4) after ++ changes)) = ap length all_outputs in
       omega (arith, length-drop 1 before.outputs, length-drop 1 (tx_at bytes).outputs)
 
   abbrev entries : List ℕ
   entries = raw_field l.ours 5
 
-  later-count : length (map content (later entries after ++ changed)) ≡ after + length changed
+  later-count : length (map content (items_after_first entries after ++ changed)) ≡ after + length changed
   later-count =
-      ap length (map-append (later entries after) changed) ∙ length-append (map content (later entries after)) (map content changed)
-      ∙ ap₂ ◌+◌ (map-length (later entries after) ∙ later-length entries after) (map-length changed)
+      ap length (map-append (items_after_first entries after) changed) ∙ length-append (map content (items_after_first entries after)) (map content changed)
+      ∙ ap₂ ◌+◌ (map-length (items_after_first entries after) ∙ later-length entries after) (map-length changed)
 
   data_count : length before.outputs_data ≤ length before.outputs → length before.outputs_data ≤ length (tx_at bytes).outputs_data
   data_count h =
-      let n : length (tx_at bytes).outputs_data ≡ suc (length (map content (later entries after ++ changed))) = ap length all_data in
+      let n : length (tx_at bytes).outputs_data ≡ suc (length (map content (items_after_first entries after ++ changed))) = ap length all_data in
       omega (arith, later-count)
 
   data_kept : length before.outputs_data ≤ length before.outputs → Prefix (drop 1 before.outputs_data) (drop 1 (tx_at bytes).outputs_data)
-  data_kept h = rw (tail, rest) (prefix_trans here (prefix_append (map content (later entries after)) (map content changed)))
+  data_kept h = rw (tail, rest) (prefix_trans here (prefix_append (map content (items_after_first entries after)) (map content changed)))
     where
       tail : drop 1 before.outputs_data ≡ span (entry_of entries) 1 (item_count entries - 1)
       tail = span-drop (entry_of entries) 1 0 (item_count entries)
 
-      rest : drop 1 (tx_at bytes).outputs_data ≡ map content (later entries after) ++ map content changed
-      rest = ap (drop 1) all_data ∙ map-append (later entries after) changed
+      rest : drop 1 (tx_at bytes).outputs_data ≡ map content (items_after_first entries after) ++ map content changed
+      rest = ap (drop 1) all_data ∙ map-append (items_after_first entries after) changed
 
-      here : Prefix (span (entry_of entries) 1 (item_count entries - 1)) (map content (later entries after))
-      here = unfold later in
+      here : Prefix (span (entry_of entries) 1 (item_count entries - 1)) (map content (items_after_first entries after))
+      here = unfold items_after_first in
           (let n : length before.outputs_data ≡ item_count entries = span-length (entry_of entries) 0 (item_count entries) in
           entries_begin entries 1 (item_count entries - 1) after (omega arith) (omega arith))
 
@@ -347,12 +347,12 @@ module _ (l : Lent) (request : FundingRequest) (bytes : List ℕ) (b : AllBytes 
 
   tidy : Tidy l request bytes
   tidy =
-      let n : length (tx_at bytes).outputs ≡ suc (length (later (raw_field l.ours 4) after ++ changes)) = ap length all_outputs in
-      let k : length (tx_at bytes).outputs_data ≡ suc (length (map content (later entries after ++ changed))) = ap length all_data in
-      let o : length (later (raw_field l.ours 4) after) ≡ after = later-length (raw_field l.ours 4) after in
+      let n : length (tx_at bytes).outputs ≡ suc (length (items_after_first (raw_field l.ours 4) after ++ changes)) = ap length all_outputs in
+      let k : length (tx_at bytes).outputs_data ≡ suc (length (map content (items_after_first entries after ++ changed))) = ap length all_data in
+      let o : length (items_after_first (raw_field l.ours 4) after) ≡ after = later-length (raw_field l.ours 4) after in
       record {
         cell_deps = subst (λ (xs : List (List ℕ)). Distinct xs) (sym all_deps_lem) (all_distinct [] (all_deps (raw_field l.ours 1) (if_positive m.pick.taken l.udt_deps) (if_positive m.pick.taken l.lock_dep) l.extra_deps) tt);
-        outputs_data = omega (arith, later-count, length-append (later (raw_field l.ours 4) after) changes, change-count l.source l.udt m.pick.change);
+        outputs_data = omega (arith, later-count, length-append (items_after_first (raw_field l.ours 4) after) changes, change-count l.source l.udt m.pick.change);
       }
 
   -- ---- the picked cells and the change
@@ -364,7 +364,7 @@ module _ (l : Lent) (request : FundingRequest) (bytes : List ℕ) (b : AllBytes 
     inputs = all_inputs ∙ ap (λ (xs : List (List ℕ)). before.inputs ++ xs) (spends l.cells 0 m.pick.taken (item_count l.cells) few);
     amounts = typed-amounts l.udt request.local_amount (items_of l.cells) m.pick m.figured.is_pick;
     change = subst (λ (cs : List Cell). Changes l m.pick.change cs) (sym last)
-        (change-cells l m.pick.change (all_right (λ (x : List ℕ). length x < 2 ^ 32) (later (raw_field l.ours 4) after) changes outputs_all.1));
+        (change-cells l m.pick.change (all_right (λ (x : List ℕ). length x < 2 ^ 32) (items_after_first (raw_field l.ours 4) after) changes outputs_all.1));
   }
     where
       few : m.pick.taken ≤ item_count l.cells
@@ -375,7 +375,7 @@ module _ (l : Lent) (request : FundingRequest) (bytes : List ℕ) (b : AllBytes 
       last : drop (suc after) (cells (tx_at bytes)) ≡ pair changes (map content changed)
       last =
           ap (drop (suc after)) cells_are
-          ∙ behind after (later (raw_field l.ours 4) after) (later entries after) changes changed (later-length (raw_field l.ours 4) after) (later-length entries after)
+          ∙ behind after (items_after_first (raw_field l.ours 4) after) (items_after_first entries after) changes changed (later-length (raw_field l.ours 4) after) (later-length entries after)
 
 -- the result is readable
 pub is-readable : Readable

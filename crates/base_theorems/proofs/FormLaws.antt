@@ -31,7 +31,7 @@ use Rattle.error.specs.Outcome.{fine}
 use Rattle.lists.specs.Lists.{is_empty}
 use Rattle.error.proofs.Passed.{never, fine_inj, bound-fine}
 use Rattle.udt_cells.specs.Pick.{Pick, plus_cell, enough_or, pick_from, pick_typed}
-use Rattle.list_writer.specs.ListWriter.{bytes_item, item_or, later, if_any, if_positive}
+use Rattle.list_writer.specs.ListWriter.{bytes_item, item_or, items_after_first, if_any, if_positive}
 use Rattle.list_writer.proofs.AgainLaws.{items-long}
 use Rattle.cell_deps.proofs.LongLaws.{no_items_lem}
 use Rattle.base_inputs.specs.BaseInputs.{picked_input, picked}
@@ -128,8 +128,8 @@ unfolding span item_or
 or_within s i zero h = refl
 or_within s i (suc k) h = ap₂ ◌∷◌ (rw (lt-ltb i (item_count s) (omega arith))) (or_within s (suc i) k (omega arith))
 
-pub later-is : (s : List ℕ) (k : ℕ) → k ≡ length (items_of s) - 1 → later s k ≡ drop 1 (items_of s)
-unfolding later
+pub later-is : (s : List ℕ) (k : ℕ) → k ≡ length (items_of s) - 1 → items_after_first s k ≡ drop 1 (items_of s)
+unfolding items_after_first
 later-is s k e =
     let n : length (items_of s) ≡ item_count s = span-length (item_of s) 0 (item_count s) in
     let m : k ≡ item_count s - 1 = omega arith in
@@ -143,14 +143,14 @@ or_readable s h i = by (ltb i (item_count s)) refl
     by true e = h i (ltb-true i (item_count s) e)
     by false e = item-readable [] (omega arith)
 
-pub later-outputs : (s : List ℕ) (k : ℕ) → k ≡ length (items_of s) - 1 → ((i : ℕ) → i < item_count s → readable CellOutput (item_of s i) ≡ true) → every (readable CellOutput) (later s k) ≡ true
-unfolding later
+pub later-outputs : (s : List ℕ) (k : ℕ) → k ≡ length (items_of s) - 1 → ((i : ℕ) → i < item_count s → readable CellOutput (item_of s i) ≡ true) → every (readable CellOutput) (items_after_first s k) ≡ true
+unfolding items_after_first
 later-outputs s k e h =
     let n : length (items_of s) ≡ item_count s = span-length (item_of s) 0 (item_count s) in
     ap (every (readable CellOutput)) (or_within s 1 k (omega arith)) ∙ every_span (readable CellOutput) (item_of s) 1 k (λ j a b. h j (omega arith))
 
-pub later_data : (s : List ℕ) (k : ℕ) → ((i : ℕ) → i < item_count s → readable Bytes (item_of s i) ≡ true) → every (readable Bytes) (later s k) ≡ true
-unfolding later
+pub later_data : (s : List ℕ) (k : ℕ) → ((i : ℕ) → i < item_count s → readable Bytes (item_of s i) ≡ true) → every (readable Bytes) (items_after_first s k) ≡ true
+unfolding items_after_first
 later_data s k h = every_span (readable Bytes) (item_or s) 1 k (λ j a b. or_readable s h j)
 
 pub all_right : (P : List ℕ → Type 0) (xs ys : List (List ℕ)) → All P (xs ++ ys) → All P ys

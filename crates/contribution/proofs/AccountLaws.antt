@@ -11,7 +11,7 @@ use Rattle.error.specs.Outcome.{Outcome, fine, check, ◌>>=◌, ◌>>◌}
 use Rattle.lists.specs.Lists.{is_empty}
 use Rattle.transaction.specs.Tx.{Tx, tx_at, raw_field}
 use Rattle.rules.specs.Cells.{Cell, cells}
-use Rattle.rules.specs.Surplus.{total, first, added, capacity_of}
+use Rattle.rules.specs.Surplus.{total, first, added, cell_capacity}
 use Rattle.rules.specs.Lines.{Ruled, verdict, answer, known, first_failing}
 use Rattle.rules.specs.Judge.{growth, unfunded, token_delta, funding_output_delta, covered, token_account, accounts, contribution}
 use Rattle.rules.proofs.LinesLaws.{verdict-bind, line-then, answer_is}
@@ -34,20 +34,20 @@ both c t = record { capacity = c; token = t }
 
 module _ (type : List ℕ) (ours peer : Tx) where
   pub delta_steps : verdict (funding_output_delta type ours peer)
-      ≡ (check 5 (not (is_empty peer.outputs)) >> (check 5 (not (is_empty peer.outputs_data)) >> (check 5 (leb (first capacity_of (cells ours)) (first capacity_of (cells peer)))
-      >> (cond (is_empty type) (fine 0) (verdict (token_delta ours peer)) >>= (λ (t : ℕ). fine (both (growth capacity_of ours peer) t))))))
+      ≡ (check 5 (not (is_empty peer.outputs)) >> (check 5 (not (is_empty peer.outputs_data)) >> (check 5 (leb (first cell_capacity (cells ours)) (first cell_capacity (cells peer)))
+      >> (cond (is_empty type) (fine 0) (verdict (token_delta ours peer)) >>= (λ (t : ℕ). fine (both (growth cell_capacity ours peer) t))))))
   unfolding funding_output_delta check answer verdict first_failing
   delta_steps =
       line-then _ _ _ _ _ ∙ ap (λ (o : Outcome Figures). check 5 (not (is_empty peer.outputs)) >> o)
       (line-then _ _ _ _ _ ∙ ap (λ (o : Outcome Figures). check 5 (not (is_empty peer.outputs_data)) >> o)
-      (line-then _ _ _ _ _ ∙ ap (λ (o : Outcome Figures). check 5 (leb (first capacity_of (cells ours)) (first capacity_of (cells peer))) >> o)
+      (line-then _ _ _ _ _ ∙ ap (λ (o : Outcome Figures). check 5 (leb (first cell_capacity (cells ours)) (first cell_capacity (cells peer))) >> o)
       (verdict-bind (cond (is_empty type) (answer 0) (token_delta ours peer)) _ ∙ by (is_empty type))))
     where
       grown : ℕ → Outcome Figures
-      grown t = verdict (answer (both (growth capacity_of ours peer) t))
+      grown t = verdict (answer (both (growth cell_capacity ours peer) t))
 
       by : (b : Bool) → (verdict (cond b (answer 0) (token_delta ours peer)) >>= grown)
-          ≡ (cond b (fine 0) (verdict (token_delta ours peer)) >>= (λ (t : ℕ). fine (both (growth capacity_of ours peer) t)))
+          ≡ (cond b (fine 0) (verdict (token_delta ours peer)) >>= (λ (t : ℕ). fine (both (growth cell_capacity ours peer) t)))
       by true = refl
       by false = refl
 
@@ -58,12 +58,12 @@ module _ (type : List ℕ) (ours peer : Tx) where
 
 pub account_steps : (type : List ℕ) (opening : Bool) (gained : ℕ) (paid : Ruled ℕ) (outs : List Cell) (rate size : ℕ) (grown : Figures)
     → verdict (accounts type opening gained paid outs rate size grown)
-    ≡ (verdict (covered opening gained (grown.capacity + total capacity_of outs) rate size)
+    ≡ (verdict (covered opening gained (grown.capacity + total cell_capacity outs) rate size)
     >>= (λ (c : ℕ). verdict (token_account type grown.token paid outs) >>= (λ (t : ℕ). fine (both c t))))
 unfolding accounts
 account_steps type opening gained paid outs rate size grown =
-    verdict-bind (covered opening gained (grown.capacity + total capacity_of outs) rate size) _
-    ∙ ap (λ (f : ℕ → Outcome Figures). verdict (covered opening gained (grown.capacity + total capacity_of outs) rate size) >>= f)
+    verdict-bind (covered opening gained (grown.capacity + total cell_capacity outs) rate size) _
+    ∙ ap (λ (f : ℕ → Outcome Figures). verdict (covered opening gained (grown.capacity + total cell_capacity outs) rate size) >>= f)
     (λ i c. (verdict-bind (token_account type grown.token paid outs) (λ (t : ℕ). answer (both c t)) ∙ ended c) i)
   where
     ended : (c : ℕ) → (verdict (token_account type grown.token paid outs) >>= (λ (t : ℕ). verdict (answer (both c t))))
@@ -76,7 +76,7 @@ module _ (type : List ℕ) (paid : Ruled ℕ) where
       → verdict (accounts type opening gained paid outs rate size grown) ≡ verdict (accounts type opening gained (known (verdict paid)) outs rate size grown)
   accounts-known opening gained outs rate size grown =
       account_steps type opening gained paid outs rate size grown
-      ∙ ap (λ (o : Outcome ℕ). verdict (covered opening gained (grown.capacity + total capacity_of outs) rate size) >>= (λ (c : ℕ). o >>= (λ (t : ℕ). fine (both c t)))) (account-known type grown.token paid outs)
+      ∙ ap (λ (o : Outcome ℕ). verdict (covered opening gained (grown.capacity + total cell_capacity outs) rate size) >>= (λ (c : ℕ). o >>= (λ (t : ℕ). fine (both c t)))) (account-known type grown.token paid outs)
       ∙ sym (account_steps type opening gained (known (verdict paid)) outs rate size grown)
 
   pub contribution-known : (ours peer : Tx) (gained rate size : ℕ)

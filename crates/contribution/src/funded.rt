@@ -4,7 +4,7 @@ ghost use Rattle.units.specs.Units.{shannon_count};
 ghost use Rattle.transaction.specs.Tx.{tx_at, raw_field};
 ghost use Rattle.rules.specs.Cells.{cells};
 ghost use Rattle.lists.specs.Lists.{is_empty};
-ghost use Rattle.rules.specs.Surplus.{first, capacity_of};
+ghost use Rattle.rules.specs.Surplus.{first, cell_capacity};
 ghost use Rattle.rules.specs.Judge.{unfunded};
 ghost use Rattle.contribution.specs.Answers.{amount, first_amount};
 
@@ -34,7 +34,7 @@ impl<'a> Funded<'a> {
 
     // The capacity of output 0; absent counts 0.
     pub(crate) fn first_capacity(self) -> Shannons
-        ensures { shannon_count result ≡ first capacity_of (cells (tx_at self.entry.tx.now)) }
+        ensures { shannon_count result ≡ first cell_capacity (cells (tx_at self.entry.tx.now)) }
     {
         if molecule::item_count(self.outputs) == 0 {
             return Shannons::ZERO;

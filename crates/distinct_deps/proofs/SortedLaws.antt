@@ -21,13 +21,13 @@ use Rattle.molecule.proofs.TestLaws.{both_ways}
 use Rattle.lists.specs.Lists.{eq_bytes, contains}
 use Rattle.lists.proofs.LoopLaws.{at_place}
 use Rattle.lists.proofs.EqualLaws.{eq_refl}
-use Rattle.item_index.specs.Order.{is_before, order_of}
+use Rattle.item_index.specs.Order.{sorts_before, order_of}
 use Rattle.item_index.proofs.FindLaws.{eq_sym, ranked}
 use Rattle.item_index.proofs.OrderLaws.{three, before_not, before_differs, after_less, order_less, order-more, order_same}
 
 -- the first n rise
 pub record Ordered (f : ℕ → List ℕ) (n : ℕ) : Type 0 where
-  pub rising : (i j : ℕ) → i < j → j < n → is_before (f i) (f j) ≡ true
+  pub rising : (i j : ℕ) → i < j → j < n → sorts_before (f i) (f j) ≡ true
 
 -- ---- looking by halves
 
@@ -41,8 +41,8 @@ none-there x f j (suc k) h = rw (h j (omega arith) (omega arith)) (none-there x 
 pub record Absent (f : ℕ → List ℕ) (n : ℕ) (x : List ℕ) (at : ℕ) : Type 0 where
   pub none : contains x (span f 0 n) ≡ false
   pub within : at ≤ n
-  pub below : (i : ℕ) → i < at → is_before (f i) x ≡ true
-  pub above : (i : ℕ) → at ≤ i → i < n → is_before x (f i) ≡ true
+  pub below : (i : ℕ) → i < at → sorts_before (f i) x ≡ true
+  pub above : (i : ℕ) → at ≤ i → i < n → sorts_before x (f i) ≡ true
 
 -- what the library's search says of the first n of s, which are in the order of their deps
 module _ (dep : ℕ → List ℕ) (s : List ℕ) (n : ℕ) (h : n ≤ length s) (o : Ordered (λ j. dep (get_or s j 0)) n) (x : List ℕ) where
@@ -57,7 +57,7 @@ module _ (dep : ℕ → List ℕ) (s : List ℕ) (n : ℕ) (h : n ≤ length s) 
       let k : j < n = omega (arith, long) in
       rw (taken i d (omega arith), taken j d k) (ranked (dep (get_or s i 0)) (dep (get_or s j 0)) x (three i j
       (λ w. after_less (dep (get_or s i 0)) (dep (get_or s j 0)) (o.rising i j w k))
-      (λ w. ap (λ (v : ℕ). is_before (dep (get_or s v 0)) (dep (get_or s i 0))) (sym w) ∙ before_not (dep (get_or s i 0)))
+      (λ w. ap (λ (v : ℕ). sorts_before (dep (get_or s v 0)) (dep (get_or s i 0))) (sym w) ∙ before_not (dep (get_or s i 0)))
       (λ w. absurd (omega arith))))
 
   pub search_there : (i : ℕ) → i < length (take n s) → HoldsAt (λ p. order_of (dep p) x ≡ Ordering.Equal) (take n s) i → contains x (span (λ j. dep (get_or s j 0)) 0 n) ≡ true
@@ -82,10 +82,10 @@ module _ (dep : ℕ → List ℕ) (s : List ℕ) (n : ℕ) (h : n ≤ length s) 
       point : IsPartitionPoint (λ p. order_of (dep p) x ≡ Ordering.Less) (λ p. order_of (dep p) x ≡ Ordering.Greater) (take n s) at
       point = k deps_rise
 
-      low : (i : ℕ) → i < at → is_before (dep (get_or s i 0)) x ≡ true
+      low : (i : ℕ) → i < at → sorts_before (dep (get_or s i 0)) x ≡ true
       low i w = order_less (dep (get_or s i 0)) x (sym (rw (taken i 0 (omega (arith, long))) at (point.0 i 0 (omega arith) w)))
 
-      high : (i : ℕ) → at ≤ i → i < n → is_before x (dep (get_or s i 0)) ≡ true
+      high : (i : ℕ) → at ≤ i → i < n → sorts_before x (dep (get_or s i 0)) ≡ true
       high i w m = order-more (dep (get_or s i 0)) x (sym (rw (taken i 0 m) at (point.1 i 0 w (omega (arith, long)))))
 
 -- ---- one put in
@@ -160,15 +160,15 @@ or_last true = refl
 or_last false = refl
 
 module _ (f g : ℕ → List ℕ) (n at : ℕ) (x : List ℕ) (h : at ≤ n) (b : (i : ℕ) → i < at → g i ≡ f i) (m : g at ≡ x) (u : (i : ℕ) → at < i → i < n + 1 → g i ≡ f (i - 1)) where
-  pub put_ordered : Ordered f n → ((i : ℕ) → i < at → is_before (f i) x ≡ true) → ((i : ℕ) → at ≤ i → i < n → is_before x (f i) ≡ true) → Ordered g (n + 1)
+  pub put_ordered : Ordered f n → ((i : ℕ) → i < at → sorts_before (f i) x ≡ true) → ((i : ℕ) → at ≤ i → i < n → sorts_before x (f i) ≡ true) → Ordered g (n + 1)
   put_ordered o p q = record {
     rising = λ i j l k. three j at
-        (λ w. ap₂ is_before (b i (omega arith)) (b j w) ∙ o.rising i j l (omega arith))
-        (λ w. ap₂ is_before (b i (omega arith)) (ap g w ∙ m) ∙ p i (omega arith))
+        (λ w. ap₂ sorts_before (b i (omega arith)) (b j w) ∙ o.rising i j l (omega arith))
+        (λ w. ap₂ sorts_before (b i (omega arith)) (ap g w ∙ m) ∙ p i (omega arith))
         (λ w. three i at
-        (λ v. ap₂ is_before (b i v) (u j w k) ∙ o.rising i (j - 1) (omega arith) (omega arith))
-        (λ v. ap₂ is_before (ap g v ∙ m) (u j w k) ∙ q (j - 1) (omega arith) (omega arith))
-        (λ v. ap₂ is_before (u i v (omega arith)) (u j w k) ∙ o.rising (i - 1) (j - 1) (omega arith) (omega arith)));
+        (λ v. ap₂ sorts_before (b i v) (u j w k) ∙ o.rising i (j - 1) (omega arith) (omega arith))
+        (λ v. ap₂ sorts_before (ap g v ∙ m) (u j w k) ∙ q (j - 1) (omega arith) (omega arith))
+        (λ v. ap₂ sorts_before (u i v (omega arith)) (u j w k) ∙ o.rising (i - 1) (j - 1) (omega arith) (omega arith)));
   }
 
   module _ (y : List ℕ) where

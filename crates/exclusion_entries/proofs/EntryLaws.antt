@@ -21,7 +21,7 @@ use Rattle.molecule.proofs.ItemsLaws.{bytes_drop}
 use Rattle.molecule.proofs.LayoutLaws.{fix_count-word, fix_count-below}
 use Rattle.out_points.proofs.AgainLaws.{word_again, bytes_again, list_before, word_back, num_fits, points-fit, count_fits, behind}
 use Rattle.exclusion_entries.specs.Exclusions.{MapEntry, excluded}
-use Rattle.exclusion_entries.specs.Entries.{state_kind, block_of, state_bytes, entry_bytes, entries_bytes, FitEntry, state_of, entry_of, entry_size, entries_in, is_entry, are_entries}
+use Rattle.exclusion_entries.specs.Entries.{state_kind, block_of, state_bytes, entry_bytes, entries_bytes, FitEntry, state_of, map_entry_of, entry_size, entries_in, is_entry, are_entries}
 
 -- ---- one entry
 
@@ -37,8 +37,8 @@ count-is x h =
     let w : word (drop 44 x) 0 ≡ u32_at x 44 = num_some 4 (drop 44 x) 0 (omega (arith, length-drop 44 x)) ∙ sym (num_some 4 x 44 (omega arith)) in
     fix_count-word (drop 44 x) (omega (arith, length-drop 44 x)) ∙ w
 
-pub points-count : (x : List ℕ) → entry_size x ≤ length x → length (entry_of x).points ≡ u32_at x 44
-unfolding entry_of
+pub points-count : (x : List ℕ) → entry_size x ≤ length x → length (map_entry_of x).points ≡ u32_at x 44
+unfolding map_entry_of
 points-count x h = length-points (drop 44 x) ∙ count-is x h
 
 pub length-entry : (e : MapEntry) → length (entry_bytes e) ≡ 48 + 36 * length e.points
@@ -67,15 +67,15 @@ list_again x b h =
     ∙ sym (take-add 4 (36 * fix_count x) x)
 
 -- the bytes of the out points
-pub points_again : (x : List ℕ) → AllBytes x → entry_size x ≤ length x → points_bytes (entry_of x).points ≡ take (36 * u32_at x 44) (drop 48 x)
-unfolding entry_of
+pub points_again : (x : List ℕ) → AllBytes x → entry_size x ≤ length x → points_bytes (map_entry_of x).points ≡ take (36 * u32_at x 44) (drop 48 x)
+unfolding map_entry_of
 points_again x b h =
     let y = drop 44 x in
     let c = count-is x (omega arith) in
     bytes_again y 0 (fix_count y) (bytes_drop 44 x b) (omega arith) (omega (arith, length-drop 44 x)) ∙ ap₂ (λ (n : ℕ) (z : List ℕ). take (36 * n) z) c (drop-drop 4 44 x)
 
-pub entry_again : (x : List ℕ) → AllBytes x → is_entry x ≡ true → entry_size x ≤ length x → entry_bytes (entry_of x) ≡ take (entry_size x) x
-unfolding entry_bytes entry_of
+pub entry_again : (x : List ℕ) → AllBytes x → is_entry x ≡ true → entry_size x ≤ length x → entry_bytes (map_entry_of x) ≡ take (entry_size x) x
+unfolding entry_bytes map_entry_of
 entry_again x b k h =
     let c = count-is x (omega arith) in
     let l : point_list (points (drop 44 x)) ≡ take (4 + 36 * u32_at x 44) (drop 44 x) =
@@ -87,8 +87,8 @@ entry_again x b k h =
     take-add 36 8 x ∙ ap (λ (y : List ℕ). y ++ take 8 (drop 36 x)) (take-add 32 4 x) ∙ append_assoc (take 32 x) (take 4 (drop 32 x)) (take 8 (drop 36 x)) in
     rw (hash_again x b (omega arith), st, l) (ap (λ (y : List ℕ). y ++ take (4 + 36 * u32_at x 44) (drop 44 x)) (sym head) ∙ sym (take-add 44 (4 + 36 * u32_at x 44) x) ∙ ap (λ (n : ℕ). take n x) (sym z))
 
-pub entry-fits : (x : List ℕ) → AllBytes x → FitEntry (entry_of x)
-unfolding entry_of byte32_at state_of block_of
+pub entry-fits : (x : List ℕ) → AllBytes x → FitEntry (map_entry_of x)
+unfolding map_entry_of byte32_at state_of block_of
 entry-fits x b = record {
   a_fits = num_fits 8 x 0 b;
   b_fits = num_fits 8 x 8 b;
@@ -139,8 +139,8 @@ entry-is e z = by e.committed (kind_back e z) (block_back e z)
     by (some n) k b = rw k
 
 -- and where its numbers fit, all of it
-pub entry-back : (e : MapEntry) (z : List ℕ) → FitEntry e → entry_of (entry_bytes e ++ z) ≡ e
-unfolding entry_of entry_bytes state_bytes state_of state_kind block_of hash_bytes byte32_at
+pub entry-back : (e : MapEntry) (z : List ℕ) → FitEntry e → map_entry_of (entry_bytes e ++ z) ≡ e
+unfolding map_entry_of entry_bytes state_bytes state_of state_kind block_of hash_bytes byte32_at
 entry-back e z f =
     let A = to_le 8 e.hash.a in
     let B = to_le 8 e.hash.b in
@@ -180,10 +180,10 @@ unfolding entries_in entries_bytes
 entries-back [] z f = refl
 entries-back (e ∷ l) z f =
     let s = entry_bytes e ++ (entries_bytes l ++ z) in
-    let h : entry_of s ≡ e = entry-back e (entries_bytes l ++ z) f.0 in
+    let h : map_entry_of s ≡ e = entry-back e (entries_bytes l ++ z) f.0 in
     let c : entry_size s ≡ length (entry_bytes e) = ap (λ (n : ℕ). 48 + 36 * n) (count-back e (entries_bytes l ++ z) f.0.count_fits) ∙ sym (length-entry e) in
     let d : drop (entry_size s) s ≡ entries_bytes l ++ z = ap (λ (n : ℕ). drop n s) c ∙ behind (entry_bytes e) (entries_bytes l ++ z) (length (entry_bytes e)) refl in
-    ap (λ (x : List ℕ). entry_of x ∷ entries_in (length l) (drop (entry_size x) x)) (append_assoc (entry_bytes e) (entries_bytes l) z)
+    ap (λ (x : List ℕ). map_entry_of x ∷ entries_in (length l) (drop (entry_size x) x)) (append_assoc (entry_bytes e) (entries_bytes l) z)
     ∙ ap₂ (λ (a : MapEntry) (r : List MapEntry). a ∷ r) h (ap (entries_in (length l)) d ∙ entries-back l z f.1)
 
 -- with at most m out points in all they have the form
@@ -227,10 +227,10 @@ entries_again zero m x b k h = refl
 entries_again (suc n) m x b k h =
     let c = first-room n m x k in
     let y = drop (entry_size x) x in
-    let w : entry_bytes (entry_of x) ≡ take (entry_size x) x = entry_again x b (first-is n m x k) (omega arith) in
-    let l : length (entry_bytes (entry_of x)) ≡ entry_size x = length-entry (entry_of x) ∙ ap (λ (i : ℕ). 48 + 36 * i) (points-count x (omega arith)) in
+    let w : entry_bytes (map_entry_of x) ≡ take (entry_size x) x = entry_again x b (first-is n m x k) (omega arith) in
+    let l : length (entry_bytes (map_entry_of x)) ≡ entry_size x = length-entry (map_entry_of x) ∙ ap (λ (i : ℕ). 48 + 36 * i) (points-count x (omega arith)) in
     let r = entries_again n (m - u32_at x 44) y (bytes_drop (entry_size x) x b) (rest_are n m x k) (rw (length-drop (entry_size x) x) (omega arith)) in
-    let E = entry_bytes (entry_of x) in
+    let E = entry_bytes (map_entry_of x) in
     let R = entries_bytes (entries_in n y) in
     let i : entry_size x + length R ≡ length (E ++ R) = omega (arith, length-append E R) in
     let d : drop (length R) y ≡ drop (length (E ++ R)) x = drop-drop (length R) (entry_size x) x ∙ ap (λ (j : ℕ). drop j x) i in

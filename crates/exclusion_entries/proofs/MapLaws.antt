@@ -16,7 +16,7 @@ use Rattle.molecule.proofs.WriteLaws.{put_yes, splice_zero}
 use Rattle.molecule.proofs.ItemsLaws.{bytes_drop}
 use Rattle.out_points.proofs.AgainLaws.{word_again, word_back, behind}
 use Rattle.exclusion_entries.specs.Exclusions.{MapEntry, excluded}
-use Rattle.exclusion_entries.specs.Entries.{entry_bytes, entries_bytes, map_bytes, FitEntry, entry_of, entry_size, entries_in, excluded_at, are_entries, map_size, is_map}
+use Rattle.exclusion_entries.specs.Entries.{entry_bytes, entries_bytes, map_bytes, FitEntry, map_entry_of, entry_size, entries_in, excluded_at, are_entries, map_size, is_map}
 use Rattle.exclusion_entries.proofs.EntryLaws.{length-entry, points-count, entries-long, entries_fit, entries-back, entries_are, first-room, rest_are, entries_again, entries-size, points_most}
 use Rattle.exclusion_entries.proofs.SpliceLaws.{splice-same}
 
@@ -91,12 +91,12 @@ cut (suc k) (suc n) m x h a r =
     let w : Cut n (m - u32_at x 44) y k = cut k n (m - u32_at x 44) y (omega arith) (rest_are n m x a) (rw (length-drop (entry_size x) x) (omega arith)) in
     let d : drop w.size y ≡ drop (entry_size x + w.size) x = drop-drop w.size (entry_size x) x in
     let z : suc n - suc k ≡ n - k = omega arith in
-    let l : length (entry_bytes (entry_of x)) ≡ entry_size x = length-entry (entry_of x) ∙ ap (λ (i : ℕ). 48 + 36 * i) (points-count x (omega arith)) in
+    let l : length (entry_bytes (map_entry_of x)) ≡ entry_size x = length-entry (map_entry_of x) ∙ ap (λ (i : ℕ). 48 + 36 * i) (points-count x (omega arith)) in
     let i = w.within in
     record {
       left = w.left;
       size = entry_size x + w.size;
-      sized = omega (arith, w.sized, length-append (entry_bytes (entry_of x)) (entries_bytes (take k (entries_in n y))));
+      sized = omega (arith, w.sized, length-append (entry_bytes (map_entry_of x)) (entries_bytes (take k (entries_in n y))));
       within = omega arith;
       reads = rw (z, ← d) w.reads;
       rest = rw (z, ← d) w.rest;

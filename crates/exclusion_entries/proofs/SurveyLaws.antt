@@ -16,26 +16,26 @@ use Rattle.out_points.specs.declared.{Byte32.Byte32}
 use Rattle.out_points.specs.OutPoints.{eq_hash, byte32_at}
 use Rattle.exclusion_entries.specs.Exclusions.{has_hash}
 use Rattle.exclusion_entries.specs.declared.{Rule.Rule, Words.Words, Survey.Survey}
-use Rattle.exclusion_entries.specs.Entries.{entry_of, entry_size, entries_in, excluded_at, is_entry, are_entries, map_size, is_map}
+use Rattle.exclusion_entries.specs.Entries.{map_entry_of, entry_size, entries_in, excluded_at, is_entry, are_entries, map_size, is_map}
 use Rattle.exclusion_entries.specs.Inner.{Small, keeps, takes, lost_one, took_one, stayed, turned, sweep, first_survey, words_of, may_touch, survey_of}
 use Rattle.exclusion_entries.proofs.EntryLaws.{points-count}
 
 -- ---- an entry that the rule does not touch
 
 -- another first word is another hash
-other_hash : (x : List ℕ) (h : Byte32) → eqb (u64_at x 0) h.a ≡ false → has_hash h (entry_of x) ≡ false
-unfolding has_hash eq_hash entry_of byte32_at
+other_hash : (x : List ℕ) (h : Byte32) → eqb (u64_at x 0) h.a ≡ false → has_hash h (map_entry_of x) ≡ false
+unfolding has_hash eq_hash map_entry_of byte32_at
 other_hash x h e = rw e
 
 other_hashes : (x : List ℕ) (o h : Byte32) → cond (eqb (u64_at x 0) o.a) true (eqb (u64_at x 0) h.a) ≡ false
-    → (has_hash o (entry_of x) ≡ false) × (has_hash h (entry_of x) ≡ false)
+    → (has_hash o (map_entry_of x) ≡ false) × (has_hash h (map_entry_of x) ≡ false)
 other_hashes x o h e = by (eqb (u64_at x 0) o.a) refl e
   where
-    by : (t : Bool) → eqb (u64_at x 0) o.a ≡ t → cond t true (eqb (u64_at x 0) h.a) ≡ false → (has_hash o (entry_of x) ≡ false) × (has_hash h (entry_of x) ≡ false)
+    by : (t : Bool) → eqb (u64_at x 0) o.a ≡ t → cond t true (eqb (u64_at x 0) h.a) ≡ false → (has_hash o (map_entry_of x) ≡ false) × (has_hash h (map_entry_of x) ≡ false)
     by true p q = absurd (true≢false q)
     by false p q = (other_hash x o p, other_hash x h q)
 
-untouched : (rule : Rule) (x : List ℕ) → may_touch (words_of rule) x ≡ false → (keeps rule (entry_of x) ≡ true) × (takes rule (entry_of x) ≡ false)
+untouched : (rule : Rule) (x : List ℕ) → may_touch (words_of rule) x ≡ false → (keeps rule (map_entry_of x) ≡ true) × (takes rule (map_entry_of x) ≡ false)
 unfolding may_touch words_of keeps takes
 untouched Rule.All x e = (refl, refl)
 untouched (Rule.Enter h) x e = (refl, (other_hashes x h h e).0)
@@ -44,7 +44,7 @@ untouched (Rule.Migrate o h) x e = let (p, q) = other_hashes x o h e in (ap not 
 untouched (Rule.Truncate tip) x e = absurd (true≢false e)
 
 -- such an entry stays
-passes : (rule : Rule) (n : ℕ) (v : Survey) (x : List ℕ) → may_touch (words_of rule) x ≡ false → stayed n v ≡ turned (keeps rule (entry_of x)) (takes rule (entry_of x)) n v
+passes : (rule : Rule) (n : ℕ) (v : Survey) (x : List ℕ) → may_touch (words_of rule) x ≡ false → stayed n v ≡ turned (keeps rule (map_entry_of x)) (takes rule (map_entry_of x)) n v
 unfolding turned
 passes rule n v x h = let (k, t) = untouched rule x h in rw (k, t) (by v.taken)
   where
@@ -169,15 +169,15 @@ module _ {rule : Rule} {s : List ℕ} {n : ℕ} {v : Survey} {at left i : ℕ} (
         sweep_bad g = rw (← reads_on, ← eb, g)
 
         module _ (g : b ≡ true) {u : Survey} where
-          turned-one : u ≡ turned (keeps rule (entry_of x)) (takes rule (entry_of x)) c v → Sweeping rule s n u (at + (48 + 36 * c)) (left - c) (i + 1)
+          turned-one : u ≡ turned (keeps rule (map_entry_of x)) (takes rule (map_entry_of x)) c v → Sweeping rule s n u (at + (48 + 36 * c)) (left - c) (i + 1)
           unfolding are_entries entries_in sweep
           turned-one on =
               let r = w.room in
               let yes : is_entry x ≡ true = sym eb ∙ g in
-              let p = keeps rule (entry_of x) in
-              let q = takes rule (entry_of x) in
-              let m : length (entry_of x).points ≡ c = points-count x (let l = whole in omega arith) ∙ sym ec in
-              let turn : turned p q (length (entry_of x).points) v ≡ u = rw m (sym on) in
+              let p = keeps rule (map_entry_of x) in
+              let q = takes rule (map_entry_of x) in
+              let m : length (map_entry_of x).points ≡ c = points-count x (let l = whole in omega arith) ∙ sym ec in
+              let turn : turned p q (length (map_entry_of x).points) v ≡ u = rw m (sym on) in
               let y = drop (at + (48 + 36 * c)) s in
               let a : are_entries (suc (n - (i + 1))) left x ≡ are_entries (n - (i + 1)) (left - c) y = rw (yes, ← ec, le-leb c left k) (ap (are_entries (n - (i + 1)) (left - c)) (past c)) in
               let d : drop (entry_size x) x ≡ y = rw (← ec) (past c) in
@@ -194,7 +194,7 @@ module _ {rule : Rule} {s : List ℕ} {n : ℕ} {v : Survey} {at left i : ℕ} (
                     ∙ w.swept;
               }
 
-          pub sweep_touched : {z : ℕ} → z ≡ 48 + 36 * c → u ≡ turned (keeps rule (entry_of x)) (takes rule (entry_of x)) (u32_at x 44) v → Sweeping rule s n u (at + z) (left - c) (i + 1)
+          pub sweep_touched : {z : ℕ} → z ≡ 48 + 36 * c → u ≡ turned (keeps rule (map_entry_of x)) (takes rule (map_entry_of x)) (u32_at x 44) v → Sweeping rule s n u (at + z) (left - c) (i + 1)
           sweep_touched ez on = rw ez (turned-one (rw (← ec) at on))
 
           pub sweep_passed : {o : Option Words} {m : Bool} {z : ℕ} → o ≡ words_of rule → m ≡ may_touch o x → z ≡ 48 + 36 * c → m ≡ false → u ≡ stayed c v → Sweeping rule s n u (at + z) (left - c) (i + 1)

@@ -47,8 +47,8 @@ pub record FitEntry (e : MapEntry) : Type 0 where
 unfoldable pub state_of : ℕ → ℕ → Option BlockNumber
 state_of kind block = cond (eqb kind 0) none (some (record { 0 = block }))
 
-unfoldable pub entry_of : List ℕ → MapEntry
-entry_of x = record { hash = byte32_at x 0; committed = state_of (u32_at x 32) (u64_at x 36); points = points (drop 44 x) }
+unfoldable pub map_entry_of : List ℕ → MapEntry
+map_entry_of x = record { hash = byte32_at x 0; committed = state_of (u32_at x 32) (u64_at x 36); points = points (drop 44 x) }
 
 -- how many bytes it has
 abbrev pub entry_size : List ℕ → ℕ
@@ -56,7 +56,7 @@ entry_size x = 48 + 36 * u32_at x 44
 
 unfoldable pub entries_in : ℕ → List ℕ → List MapEntry
 entries_in zero x = []
-entries_in (suc n) x = entry_of x ∷ entries_in n (drop (entry_size x) x)
+entries_in (suc n) x = map_entry_of x ∷ entries_in n (drop (entry_size x) x)
 
 -- the entries of a lent table
 unfoldable pub excluded_at : List ℕ → List MapEntry

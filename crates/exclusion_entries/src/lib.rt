@@ -5,7 +5,7 @@
 ghost use Rattle.std.specs.Prelude.{◌≡◌, ◌+◌, ◌*◌};
 ghost use Rattle.arithmetic.specs.LittleEndian.{u32_at};
 ghost use Rattle.exclusion_entries.specs.Exclusions.{has_hash, is_recent};
-ghost use Rattle.exclusion_entries.specs.Entries.{entry_of, is_entry};
+ghost use Rattle.exclusion_entries.specs.Entries.{map_entry_of, is_entry};
 ghost use Rattle.exclusion_entries.specs.Inner.{Small, keeps, takes, stayed, turned, first_survey, words_of, may_touch, survey_of, hash_of};
 
 use arithmetic::little_endian;
@@ -90,17 +90,17 @@ fn is_entry(x: &[u8]) -> bool
 }
 
 // Whether it is the transaction `hash`. What follows the first word is read only where that is the same.
-#[tactic(auto, unfolding(crate::specs::Exclusions::has_hash, crate::specs::Entries::entry_of, out_points::specs::OutPoints::eq_hash, out_points::specs::OutPoints::byte32_at))]
+#[tactic(auto, unfolding(crate::specs::Exclusions::has_hash, crate::specs::Entries::map_entry_of, out_points::specs::OutPoints::eq_hash, out_points::specs::OutPoints::byte32_at))]
 pub fn has_hash(x: &[u8], hash: Byte32) -> bool
-    ensures { result ≡ has_hash hash (entry_of x.now) }
+    ensures { result ≡ has_hash hash (map_entry_of x.now) }
 {
     little_endian::u64_at(x, 0) == hash.a && out_points::byte32_at(x, 0) == hash
 }
 
 // Whether it is pending, or was committed after what `truncate` drops at this tip.
-#[tactic(auto, unfolding(crate::specs::Exclusions::is_recent, crate::specs::Entries::entry_of, crate::specs::Entries::state_of))]
+#[tactic(auto, unfolding(crate::specs::Exclusions::is_recent, crate::specs::Entries::map_entry_of, crate::specs::Entries::state_of))]
 fn is_recent(x: &[u8], tip: BlockNumber) -> bool
-    ensures { result ≡ is_recent tip (entry_of x.now).committed }
+    ensures { result ≡ is_recent tip (map_entry_of x.now).committed }
 {
     let kind = little_endian::u32_at(x, 32);
     let block = BlockNumber(little_endian::u64_at(x, 36));
@@ -110,7 +110,7 @@ fn is_recent(x: &[u8], tip: BlockNumber) -> bool
 // Whether the call keeps it.
 #[tactic(auto, unfolding(crate::specs::Inner::keeps))]
 pub fn keeps(rule: Rule, x: &[u8]) -> bool
-    ensures { result ≡ keeps rule (entry_of x.now) }
+    ensures { result ≡ keeps rule (map_entry_of x.now) }
 {
     match rule {
         Rule::All | Rule::Enter(_) => true,
@@ -122,7 +122,7 @@ pub fn keeps(rule: Rule, x: &[u8]) -> bool
 // Whether a new entry may take its place.
 #[tactic(auto, unfolding(crate::specs::Inner::takes))]
 pub fn takes(rule: Rule, x: &[u8]) -> bool
-    ensures { result ≡ takes rule (entry_of x.now) }
+    ensures { result ≡ takes rule (map_entry_of x.now) }
 {
     match rule {
         Rule::Enter(h) | Rule::Migrate(_, h) => has_hash(x, h),
@@ -215,7 +215,7 @@ fn may_touch(words: Option<Words>, x: &[u8]) -> bool
 #[tactic(auto, unfolding(crate::specs::Inner::turned, crate::specs::Inner::lost_one, crate::specs::Inner::took_one))]
 fn touched(v: Survey, rule: Rule, x: &[u8]) -> Survey
     requires { Small (u32_at x.now 44) v }
-    ensures { result ≡ turned (keeps rule (entry_of x.now)) (takes rule (entry_of x.now)) (u32_at x.now 44) v }
+    ensures { result ≡ turned (keeps rule (map_entry_of x.now)) (takes rule (map_entry_of x.now)) (u32_at x.now 44) v }
 {
     if !keeps(rule, x) {
         return Survey { lost: true, ..v };

@@ -15,7 +15,7 @@ use Rattle.out_points.specs.OutPoints.{point_bytes, points_bytes}
 use Rattle.out_points.proofs.ListLaws.{length-bytes}
 use Rattle.molecule.proofs.ItemsLaws.{bytes_drop}
 use Rattle.exclusion_entries.specs.Exclusions.{excluded}
-use Rattle.exclusion_entries.specs.Entries.{entry_of, entry_size, entries_in, excluded_at, are_entries, map_size, is_map}
+use Rattle.exclusion_entries.specs.Entries.{map_entry_of, entry_size, entries_in, excluded_at, are_entries, map_size, is_map}
 use Rattle.exclusion_entries.proofs.EntryLaws.{from-here, points_again, first-room, rest_are}
 use Rattle.exclusion_entries.proofs.MapLaws.{map-long, map-few, map_are}
 use Rattle.exclusion_entries.proofs.SpliceLaws.{splice-none, splice-then}
@@ -73,7 +73,7 @@ module _ {s : List ℕ} {n : ℕ} {out₀ out : List ℕ} {to at i : ℕ} (w : L
     pub list_at : at + z ≤ map_size
     list_at = let r = w.room in let k = count_most in omega arith
 
-    run_is : {run : List ℕ} → run ≡ part x 48 z → run ≡ points_bytes (entry_of x).points
+    run_is : {run : List ℕ} → run ≡ part x 48 z → run ≡ points_bytes (map_entry_of x).points
     unfolding part
     run_is er =
         let d : z - 48 ≡ 36 * c = omega arith in
@@ -84,7 +84,7 @@ module _ {s : List ℕ} {n : ℕ} {out₀ out : List ℕ} {to at i : ℕ} (w : L
     list_more {run} {o} {t} er eo et =
         let r = w.room in
         let k = count_most in
-        let P = (entry_of x).points in
+        let P = (map_entry_of x).points in
         let y = drop (entry_size x) x in
         let R = excluded (entries_in (n - (i + 1)) y) in
         let is : run ≡ points_bytes P = run_is er in

@@ -22,7 +22,7 @@ use Rattle.out_points.proofs.EqualLaws.{hash-same}
 use Rattle.molecule.proofs.ItemsLaws.{bytes_drop}
 use Rattle.out_points.proofs.AgainLaws.{word_again}
 use Rattle.exclusion_entries.specs.Exclusions.{MapEntry, has_hash, committed_at}
-use Rattle.exclusion_entries.specs.Entries.{state_kind, block_of, state_bytes, entry_bytes, entries_bytes, map_bytes, FitEntry, entry_of, entry_size, entries_in, excluded_at, are_entries, map_size, is_map}
+use Rattle.exclusion_entries.specs.Entries.{state_kind, block_of, state_bytes, entry_bytes, entries_bytes, map_bytes, FitEntry, map_entry_of, entry_size, entries_in, excluded_at, are_entries, map_size, is_map}
 use Rattle.exclusion_entries.proofs.EntryLaws.{from-here, entry_again, points-count, length-entry, first-is, first-room, rest_are, entries-long, entries-size, points_most}
 use Rattle.exclusion_entries.proofs.MapLaws.{map-long, map-few, map_are, map-count, map-points, map-fits, splice-back}
 use Rattle.exclusion_entries.proofs.SpliceLaws.{splice-none, drop-splice, splice-same, splice-then}
@@ -30,7 +30,7 @@ use Rattle.exclusion_marks.specs.Inner.{commit_one_bytes}
 
 -- ---- one entry
 
-module _ (s : List ℕ) (at : ℕ) (hash : Byte32) (block : BlockNumber) {x : List ℕ} {b : Bool} {n z : ℕ} (ex : x ≡ part s at (length s)) (eb : b ≡ has_hash hash (entry_of x)) (en : n ≡ u32_at x 44) (ez : z ≡ 48 + 36 * n) where
+module _ (s : List ℕ) (at : ℕ) (hash : Byte32) (block : BlockNumber) {x : List ℕ} {b : Bool} {n z : ℕ} (ex : x ≡ part s at (length s)) (eb : b ≡ has_hash hash (map_entry_of x)) (en : n ≡ u32_at x 44) (ez : z ≡ 48 + 36 * n) where
   here : x ≡ drop at s
   here = from-here s at ex
 
@@ -163,13 +163,13 @@ module _ {hash : Byte32} {block : BlockNumber} {s₀ : List ℕ} {n : ℕ} {s : 
     abbrev rest : List ℕ
     rest = entries_bytes (map (committed_at hash block) (entries_in (n - (i + 1)) (drop (entry_size x) x)))
 
-    size_is : length (entry_bytes (entry_of x)) ≡ entry_size x
-    size_is = length-entry (entry_of x) ∙ ap (λ (k : ℕ). 48 + 36 * k) (points-count x (let l = long_x in omega arith))
+    size_is : length (entry_bytes (map_entry_of x)) ≡ entry_size x
+    size_is = length-entry (map_entry_of x) ∙ ap (λ (k : ℕ). 48 + 36 * k) (points-count x (let l = long_x in omega arith))
 
-    stands : take (length (entry_bytes (entry_of x))) (drop at s) ≡ entry_bytes (entry_of x)
+    stands : take (length (entry_bytes (map_entry_of x))) (drop at s) ≡ entry_bytes (map_entry_of x)
     stands = ap₂ take size_is w.unread ∙ sym (entry_again x (bytes_drop at s₀ w.bytes) (first-is (n - (i + 1)) w.left x are) long_x)
 
-    rest-room : at + length (entry_bytes (entry_of x)) + length rest ≤ length s
+    rest-room : at + length (entry_bytes (map_entry_of x)) + length rest ≤ length s
     rest-room =
         let y = drop (entry_size x) x in
         let R = entries_in (n - (i + 1)) y in
@@ -199,12 +199,12 @@ module _ {hash : Byte32} {block : BlockNumber} {s₀ : List ℕ} {n : ℕ} {s : 
 
     pub marking_more : {j : ℕ} {o : List ℕ} → j ≡ at + entry_size (drop at s) → o ≡ commit_one_bytes hash block at s → Marking hash block s₀ n o j (i + 1)
     unfolding commit_one_bytes entries_in entries_bytes committed_at has_hash
-    marking_more {j} {o} ej eo = by (eq_hash (entry_of x).hash hash) refl (ej ∙ rw w.unread) (eo ∙ rw w.unread) (rw next at w.made)
+    marking_more {j} {o} ej eo = by (eq_hash (map_entry_of x).hash hash) refl (ej ∙ rw w.unread) (eo ∙ rw w.unread) (rw next at w.made)
       where
-        by : (t : Bool) → eq_hash (entry_of x).hash hash ≡ t → j ≡ at + entry_size x → o ≡ cond t (splice s (at + 32) (state_bytes (some block))) s
-            → splice s at (entry_bytes (cond t (record { hash = hash; committed = some block; points = (entry_of x).points }) (entry_of x)) ++ rest) ≡ splice s₀ 4 (entries_bytes (map (committed_at hash block) (excluded_at s₀)))
+        by : (t : Bool) → eq_hash (map_entry_of x).hash hash ≡ t → j ≡ at + entry_size x → o ≡ cond t (splice s (at + 32) (state_bytes (some block))) s
+            → splice s at (entry_bytes (cond t (record { hash = hash; committed = some block; points = (map_entry_of x).points }) (map_entry_of x)) ++ rest) ≡ splice s₀ 4 (entries_bytes (map (committed_at hash block) (excluded_at s₀)))
             → Marking hash block s₀ n o j (i + 1)
-        by false k z f m = rw f (on s z refl refl (ap (λ (a : ℕ). splice s (at + a) rest) (sym size_is) ∙ marked_other s at hash block (entry_of x) rest stands rest-room ∙ m))
+        by false k z f m = rw f (on s z refl refl (ap (λ (a : ℕ). splice s (at + a) rest) (sym size_is) ∙ marked_other s at hash block (map_entry_of x) rest stands rest-room ∙ m))
         by true k z f m =
             let T = state_bytes (some block) in
             let lT = length_state (some block) in
@@ -212,7 +212,7 @@ module _ {hash : Byte32} {block : BlockNumber} {s₀ : List ℕ} {n : ℕ} {s : 
             let l = size_is in
             rw f
             (on (splice s (at + 32) T) z (splice-length s (at + 32) T (omega arith)) (drop-splice s (at + 32) T (at + entry_size x) (omega arith) (omega arith))
-            (ap (λ (a : ℕ). splice (splice s (at + 32) T) (at + a) rest) (sym size_is) ∙ marked-same s at hash block (entry_of x) rest stands rest-room k ∙ m))
+            (ap (λ (a : ℕ). splice (splice s (at + 32) T) (at + a) rest) (sym size_is) ∙ marked-same s at hash block (map_entry_of x) rest stands rest-room k ∙ m))
 
   pub marking_end : n ≤ i → s ≡ splice s₀ 4 (entries_bytes (map (committed_at hash block) (excluded_at s₀)))
   unfolding entries_in entries_bytes

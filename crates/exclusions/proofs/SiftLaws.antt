@@ -15,7 +15,7 @@ use Rattle.molecule.proofs.WriteLaws.{splice-length}
 use Rattle.molecule.proofs.ItemsLaws.{bytes_drop}
 use Rattle.exclusion_entries.specs.Exclusions.{MapEntry}
 use Rattle.exclusion_entries.specs.declared.{Rule.Rule, Survey.Survey}
-use Rattle.exclusion_entries.specs.Entries.{entry_bytes, entries_bytes, entry_of, entry_size, entries_in, excluded_at, are_entries, map_size}
+use Rattle.exclusion_entries.specs.Entries.{entry_bytes, entries_bytes, map_entry_of, entry_size, entries_in, excluded_at, are_entries, map_size}
 use Rattle.exclusion_entries.specs.Inner.{keeps, takes, stay, leading, survey_of}
 use Rattle.exclusion_entries.proofs.EntryLaws.{from-here, entry_again, first-is, first-room, rest_are, entries-size, points_most, entries-long, bytes-join}
 use Rattle.exclusion_entries.proofs.MapLaws.{map-long, map-few, map_are, map_again, Cut, cut}
@@ -28,7 +28,7 @@ use Rattle.exclusions.specs.Inner.{sifted, sifted_bytes, gives, sift_one, sift_o
 
 -- ---- one entry
 
-module _ (rule : Rule) (c : Sift) (s : List ℕ) {x : List ℕ} {k g : Bool} {n z : ℕ} (ex : x ≡ part s c.at (length s)) (ek : k ≡ keeps rule (entry_of x)) (eg : g ≡ gives rule c.taken x) (en : n ≡ u32_at x 44) (ez : z ≡ 48 + 36 * n) where
+module _ (rule : Rule) (c : Sift) (s : List ℕ) {x : List ℕ} {k g : Bool} {n z : ℕ} (ex : x ≡ part s c.at (length s)) (ek : k ≡ keeps rule (map_entry_of x)) (eg : g ≡ gives rule c.taken x) (en : n ≡ u32_at x 44) (ez : z ≡ 48 + 36 * n) where
   at-is : x ≡ drop c.at s
   at-is = from-here s c.at ex
 
@@ -144,12 +144,12 @@ module _ {rule : Rule} {s₀ : List ℕ} {n : ℕ} {s : List ℕ} {c : Sift} {i 
 
     pub sift_more : {d : Sift} {o : List ℕ} → d ≡ sift_one rule c s → o ≡ sift_one_bytes rule c s → Sifting rule s₀ n o d (i + 1)
     unfolding sift_one sift_one_bytes sifted sifted_bytes gives entries_in stay entries_bytes
-    sift_more {d} {o} ed eo = by (keeps rule (entry_of x)) (cond c.taken false (takes rule (entry_of x))) (ed ∙ rw w.unread) (eo ∙ rw w.unread) (rw next at w.made)
+    sift_more {d} {o} ed eo = by (keeps rule (map_entry_of x)) (cond c.taken false (takes rule (map_entry_of x))) (ed ∙ rw w.unread) (eo ∙ rw w.unread) (rw next at w.made)
       where
         by : (a b : Bool)
             → d ≡ cond a (cond b (record { at = c.at + entry_size x; to = c.to; taken = true }) (record { at = c.at + entry_size x; to = c.to + entry_size x; taken = c.taken })) (record { at = c.at + entry_size x; to = c.to; taken = c.taken })
             → o ≡ cond a (cond b s (splice s c.to (take (entry_size x) x))) s
-            → splice s c.to (entries_bytes (cond a (cond b (stay (keeps rule) (takes rule) true (rest d o)) (entry_of x ∷ stay (keeps rule) (takes rule) c.taken (rest d o))) (stay (keeps rule) (takes rule) c.taken (rest d o)))) ≡ splice s₀ 4 (entries_bytes (stay (keeps rule) (takes rule) false (excluded_at s₀)))
+            → splice s c.to (entries_bytes (cond a (cond b (stay (keeps rule) (takes rule) true (rest d o)) (map_entry_of x ∷ stay (keeps rule) (takes rule) c.taken (rest d o))) (stay (keeps rule) (takes rule) c.taken (rest d o)))) ≡ splice s₀ 4 (entries_bytes (stay (keeps rule) (takes rule) false (excluded_at s₀)))
             → Sifting rule s₀ n o d (i + 1)
         by false b e f m = rw (e, f) (on (record { at = c.at + entry_size x; to = c.to; taken = c.taken }) s refl (let q = w.order in omega arith) w.long refl m)
         by true true e f m = rw (e, f) (on (record { at = c.at + entry_size x; to = c.to; taken = true }) s refl (let q = w.order in omega arith) w.long refl m)
@@ -158,7 +158,7 @@ module _ {rule : Rule} {s₀ : List ℕ} {n : ℕ} {s : List ℕ} {c : Sift} {i 
             let W = entries_bytes (stay (keeps rule) (takes rule) c.taken (rest d o)) in
             let E = take (entry_size x) x in
             let room = stays_within c.taken in
-            let same : entry_bytes (entry_of x) ≡ E = entry_again x (bytes_drop c.at s₀ w.bytes) (first-is (n - (i + 1)) w.left x are) long_x in
+            let same : entry_bytes (map_entry_of x) ≡ E = entry_again x (bytes_drop c.at s₀ w.bytes) (first-is (n - (i + 1)) w.left x are) long_x in
             let l : length E ≡ entry_size x = length-take-le (entry_size x) x long_x in
             let z : c.to + length E ≡ c.to + entry_size x = ap (λ (k : ℕ). c.to + k) l in
             let u : drop (c.at + entry_size x) (splice s c.to E) ≡ drop (c.at + entry_size x) s = drop-splice s c.to E (c.at + entry_size x) (omega (arith, w.long)) (omega arith) in

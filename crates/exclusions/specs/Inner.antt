@@ -11,7 +11,7 @@ use Rattle.out_points.specs.OutPoints.{out_point_at, hash_bytes}
 use Rattle.out_points.specs.Tables.{renew}
 use Rattle.exclusion_entries.specs.declared.{Rule.Rule}
 use Rattle.exclusion_entries.specs.Exclusions.{MapEntry}
-use Rattle.exclusion_entries.specs.Entries.{state_bytes, entry_bytes, entry_of, entry_size}
+use Rattle.exclusion_entries.specs.Entries.{state_bytes, entry_bytes, map_entry_of, entry_size}
 use Rattle.exclusion_entries.specs.Inner.{keeps, takes, survey_of}
 use Rattle.exclusions.specs.declared.{changes.Pass.Pass, changes.Sift.Sift}
 
@@ -39,13 +39,13 @@ sifted_bytes kept gives size c s = cond kept (cond gives s (splice s c.to (take 
 
 -- whether the entry at the start of x is the first that gives its place
 unfoldable pub gives : Rule → Bool → List ℕ → Bool
-gives rule taken x = cond taken false (takes rule (entry_of x))
+gives rule taken x = cond taken false (takes rule (map_entry_of x))
 
 unfoldable pub sift_one : Rule → Sift → List ℕ → Sift
-sift_one rule c s = let x = drop c.at s in sifted (keeps rule (entry_of x)) (gives rule c.taken x) (entry_size x) c
+sift_one rule c s = let x = drop c.at s in sifted (keeps rule (map_entry_of x)) (gives rule c.taken x) (entry_size x) c
 
 unfoldable pub sift_one_bytes : Rule → Sift → List ℕ → List ℕ
-sift_one_bytes rule c s = let x = drop c.at s in sifted_bytes (keeps rule (entry_of x)) (gives rule c.taken x) (entry_size x) c s
+sift_one_bytes rule c s = let x = drop c.at s in sifted_bytes (keeps rule (map_entry_of x)) (gives rule c.taken x) (entry_size x) c s
 
 -- ---- a new entry: what stands before its out points, and these
 

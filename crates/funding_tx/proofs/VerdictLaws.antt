@@ -13,7 +13,7 @@ use Rattle.lists.proofs.EqualLaws.{whole}
 use Rattle.transaction.specs.Ckb.{Script, Transaction}
 use Rattle.transaction.specs.Tx.{Tx, tx_at, are_scripts}
 use Rattle.rules.specs.Cells.{Cell, LentRecords, lent_at}
-use Rattle.rules.specs.Surplus.{total, capacity_of}
+use Rattle.rules.specs.Surplus.{total, cell_capacity}
 use Rattle.rules.specs.Lines.{Name, line, line_with, followed, known, verdict, first_failing}
 use Rattle.rules.specs.Lines as lines
 use Rattle.rules.specs.Judge.{Call, of_records, tally, scripts, limits, comparison, spent, contribution, opening, closing, ruling, ruling_against, judge, judge_against}
@@ -60,9 +60,9 @@ module _ (type source : List ℕ) (ours peer : Tx) (rate size : ℕ) (lent : Len
   unfolding closing brings ◌>>=◌ after_records
   closing_steps = verdict-bind (spent source ours peer lent) _ ∙ by (verdict (spent source ours peer lent))
     where
-      by : (v : Outcome (List Cell)) → (v >>= (λ (cs : List Cell). verdict (contribution type ours peer (total capacity_of cs) (tally of_records type 0 cs) rate size)))
+      by : (v : Outcome (List Cell)) → (v >>= (λ (cs : List Cell). verdict (contribution type ours peer (total cell_capacity cs) (tally of_records type 0 cs) rate size)))
           ≡ ((v >>= (λ (cs : List Cell). fine (brought type cs))) >>= after_records)
-      by (fine cs) = contribution-known type (tally of_records type 0 cs) ours peer (total capacity_of cs) rate size
+      by (fine cs) = contribution-known type (tally of_records type 0 cs) ours peer (total cell_capacity cs) rate size
       by (refused n l) = refl
 
 module _ (lock type o : List ℕ) (c : Call) where

@@ -9,17 +9,17 @@ use lib.Dec.{ltb}
 use Rattle.lists.specs.Lists.{eq_bytes}
 use Rattle.lists.proofs.EqualLaws.{eq_true}
 use Rattle.std.specs.declared.cmp.Ordering.{Ordering}
-use Rattle.item_index.specs.Order.{is_before, order_of}
+use Rattle.item_index.specs.Order.{sorts_before, order_of}
 use Rattle.item_index.specs.Index.{comes}
 use Rattle.item_index.proofs.OrderLaws.{before_not, before_trans, before_other, after_less, order_less, order-more, order_same}
 
 module _ (f : ℕ → List ℕ) where
   -- p does not come before q: q's item comes before p's, or they are the same and p is not the smaller place
-  pub not_first : {A : Type 0} (p q : ℕ) → comes f p q ≡ false → (is_before (f q) (f p) ≡ true → A) → (f p ≡ f q → q ≤ p → A) → A
+  pub not_first : {A : Type 0} (p q : ℕ) → comes f p q ≡ false → (sorts_before (f q) (f p) ≡ true → A) → (f p ≡ f q → q ≤ p → A) → A
   unfolding comes
-  not_first {A} p q h less same = by (is_before (f p) (f q)) refl (is_before (f q) (f p)) refl
+  not_first {A} p q h less same = by (sorts_before (f p) (f q)) refl (sorts_before (f q) (f p)) refl
     where
-      by : (b : Bool) → is_before (f p) (f q) ≡ b → (c : Bool) → is_before (f q) (f p) ≡ c → A
+      by : (b : Bool) → sorts_before (f p) (f q) ≡ b → (c : Bool) → sorts_before (f q) (f p) ≡ c → A
       by true e c w = absurd (false≢true (sym (rw e at h)))
       by false e true w = less w
       by false e false w = same (equal (eq_bytes (f p) (f q)) refl) (ltb-false p q (rw (e, w) at h))
@@ -28,7 +28,7 @@ module _ (f : ℕ → List ℕ) where
           equal true t = eq_true (f p) (f q) t
           equal false t = absurd (false≢true (sym e ∙ before_other (f p) (f q) w t))
 
-  pub late_item : (p q : ℕ) → is_before (f q) (f p) ≡ true → comes f p q ≡ false
+  pub late_item : (p q : ℕ) → sorts_before (f q) (f p) ≡ true → comes f p q ≡ false
   unfolding comes
   late_item p q h = rw (after_less (f q) (f p) h, h)
 
@@ -41,9 +41,9 @@ module _ (f : ℕ → List ℕ) where
 
   pub comes_less : (p q : ℕ) → comes f p q ≡ true → comes f q p ≡ false
   unfolding comes
-  comes_less p q h = by (is_before (f p) (f q)) refl (is_before (f q) (f p)) refl
+  comes_less p q h = by (sorts_before (f p) (f q)) refl (sorts_before (f q) (f p)) refl
     where
-      by : (b : Bool) → is_before (f p) (f q) ≡ b → (c : Bool) → is_before (f q) (f p) ≡ c → comes f q p ≡ false
+      by : (b : Bool) → sorts_before (f p) (f q) ≡ b → (c : Bool) → sorts_before (f q) (f p) ≡ c → comes f q p ≡ false
       by true e c w = late_item q p e
       by false e true w = absurd (false≢true (rw (e, w) at h))
       by false e false w = let l = ltb-true p q (rw (e, w) at h) in rw (w, e, le-ltb q p (omega arith))
@@ -54,14 +54,14 @@ module _ (f : ℕ → List ℕ) where
       not_first y x p
       (λ a. not_first z y q
       (λ b. late_item z x (before_trans (f x) (f y) (f z) a b))
-      (λ b l. late_item z x (ap (is_before (f x)) b ∙ a)))
+      (λ b l. late_item z x (ap (sorts_before (f x)) b ∙ a)))
       (λ a m. not_first z y q
-      (λ b. late_item z x (ap (λ (w : List ℕ). is_before w (f z)) (sym a) ∙ b))
+      (λ b. late_item z x (ap (λ (w : List ℕ). sorts_before w (f z)) (sym a) ∙ b))
       (λ b l. late_place z x (b ∙ a) (omega arith)))
 
   -- no item comes before an earlier one
-  pub item_late : (p q : ℕ) → comes f p q ≡ false → is_before (f p) (f q) ≡ false
-  item_late p q h = not_first p q h (after_less (f q) (f p)) (λ e l. ap (λ (w : List ℕ). is_before w (f q)) e ∙ before_not (f q))
+  pub item_late : (p q : ℕ) → comes f p q ≡ false → sorts_before (f p) (f q) ≡ false
+  item_late p q h = not_first p q h (after_less (f q) (f p)) (λ e l. ap (λ (w : List ℕ). sorts_before w (f q)) e ∙ before_not (f q))
 
   -- ---- the ways out
 

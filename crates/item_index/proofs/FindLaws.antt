@@ -25,14 +25,14 @@ use Rattle.molecule.proofs.Offsets.{span-length}
 use Rattle.lists.specs.Lists.{eq_bytes, contains}
 use Rattle.lists.proofs.LoopLaws.{at_place}
 use Rattle.lists.proofs.EqualLaws.{not_so, eq_refl, eq_true}
-use Rattle.item_index.specs.Order.{is_before, order_of}
+use Rattle.item_index.specs.Order.{sorts_before, order_of}
 use Rattle.item_index.specs.Index.{Stands, Index, place_in}
 use Rattle.item_index.proofs.OrderLaws.{three, before_not, after_is, after_trans, before-later, before_earlier, before_differs, before_other, order_less, order-more, order_same}
 use Rattle.item_index.proofs.ComesLaws.{item_late, not_first}
 use Rattle.item_index.proofs.MergeLaws.{rises_same, rises_on}
 
 -- from an item on, none that follows comes before it
-pub items-on : {f : ℕ → List ℕ} {s : List ℕ} {n : ℕ} → Index f n s → (i j : ℕ) → i ≤ j → j < n → is_before (f (get_or s j 0)) (f (get_or s i 0)) ≡ false
+pub items-on : {f : ℕ → List ℕ} {s : List ℕ} {n : ℕ} → Index f n s → (i j : ℕ) → i ≤ j → j < n → sorts_before (f (get_or s j 0)) (f (get_or s i 0)) ≡ false
 items-on {f} {s} o i j p q = item_late f (get_or s j 0) (get_or s i 0) (rises_on o.order i j (omega arith) p q)
 
 -- an index of the first n is one of these alone
@@ -94,14 +94,14 @@ by_place {f} {s} {n} x o h i q = one (o.onto i q)
     one w = ap (λ (v : ℕ). eq_bytes x (f v)) (sym w.is) ∙ h w.at w.below
 
 -- what comes before x, or after it, is not x
-low_differs : (x y : List ℕ) → is_before y x ≡ true → eq_bytes x y ≡ false
+low_differs : (x y : List ℕ) → sorts_before y x ≡ true → eq_bytes x y ≡ false
 low_differs x y t = eq_sym x y (before_differs y x t)
 
 -- ---- what the library's searches say of an index of a whole list
 
-pub lt_is : (x y : List ℕ) → is_lt (order_of x y) ≡ is_before x y
+pub lt_is : (x y : List ℕ) → is_lt (order_of x y) ≡ sorts_before x y
 unfolding order_of
-lt_is x y = by (is_before x y) (is_before y x)
+lt_is x y = by (sorts_before x y) (sorts_before y x)
   where
     by : (b c : Bool) → is_lt (cond b Ordering.Less (cond c Ordering.Greater Ordering.Equal)) ≡ b
     by true c = refl
@@ -109,25 +109,25 @@ lt_is x y = by (is_before x y) (is_before y x)
     by false false = refl
 
 -- of y, and z that does not come before it
-pub ranked : (y z x : List ℕ) → is_before z y ≡ false → ordering_index (order_of y x) ≤ ordering_index (order_of z x)
+pub ranked : (y z x : List ℕ) → sorts_before z y ≡ false → ordering_index (order_of y x) ≤ ordering_index (order_of z x)
 unfolding order_of
-ranked y z x h = by (is_before y x) refl (is_before x y) refl
+ranked y z x h = by (sorts_before y x) refl (sorts_before x y) refl
   where
-    more : is_before z x ≡ false → (c : Bool) → 1 ≤ ordering_index (cond false Ordering.Less (cond c Ordering.Greater Ordering.Equal))
+    more : sorts_before z x ≡ false → (c : Bool) → 1 ≤ ordering_index (cond false Ordering.Less (cond c Ordering.Greater Ordering.Equal))
     more e true = omega arith
     more e false = omega arith
 
-    by : (b : Bool) → is_before y x ≡ b → (c : Bool) → is_before x y ≡ c → ordering_index (cond b Ordering.Less (cond c Ordering.Greater Ordering.Equal)) ≤ ordering_index (order_of z x)
+    by : (b : Bool) → sorts_before y x ≡ b → (c : Bool) → sorts_before x y ≡ c → ordering_index (cond b Ordering.Less (cond c Ordering.Greater Ordering.Equal)) ≤ ordering_index (order_of z x)
     by true e c w = omega arith
     by false e true w = rw (← after_is z x (before_earlier x y z w h)) (omega arith)
-    by false e false w = let t : is_before z x ≡ false = after_trans x y z e h in rw t (more t (is_before x z))
+    by false e false w = let t : sorts_before z x ≡ false = after_trans x y z e h in rw t (more t (sorts_before x z))
 
 module _ (f : ℕ → List ℕ) (s x : List ℕ) (o : Index f (length s) s) where
   pub parted : IsPartitionedBy (λ p. is_lt (order_of (f p) x)) s
   parted i j d h l t =
       let ei : get_or s i d ≡ get_or s i 0 = get_or_default_zero s i d (omega arith) in
       let ej : get_or s j d ≡ get_or s j 0 = get_or_default_zero s j d l in
-      let u : is_before (f (get_or s j 0)) x ≡ true = rw (ej, lt_is) at t in
+      let u : sorts_before (f (get_or s j 0)) x ≡ true = rw (ej, lt_is) at t in
       rw (ei, lt_is) (before-later (f (get_or s i 0)) (f (get_or s j 0)) x (items-on o i j h l) u)
 
   -- none of them is x
@@ -141,8 +141,8 @@ module _ (f : ℕ → List ℕ) (s x : List ℕ) (o : Index f (length s) s) wher
 -- those before low come before x, and x before those from high on
 pub record Halving (f : ℕ → List ℕ) (s x : List ℕ) (low high : ℕ) : Type 0 where
   pub inside : high ≤ length s
-  pub below : Index f (length s) s → (a : ℕ) → a < low → is_before (f (get_or s a 0)) x ≡ true
-  pub above : Index f (length s) s → (a : ℕ) → high ≤ a → a < length s → is_before x (f (get_or s a 0)) ≡ true
+  pub below : Index f (length s) s → (a : ℕ) → a < low → sorts_before (f (get_or s a 0)) x ≡ true
+  pub above : Index f (length s) s → (a : ℕ) → high ≤ a → a < length s → sorts_before x (f (get_or s a 0)) ≡ true
 
 pub halves_start : (f : ℕ → List ℕ) (s x : List ℕ) → Halving f s x 0 (length s)
 halves_start f s x = record { inside = omega arith; below = λ o a l. absurd (omega arith); above = λ o a l m. absurd (omega arith) }
@@ -226,10 +226,10 @@ module _ (f : ℕ → List ℕ) (s x : List ℕ) (o : Index f (length s) s) {at 
   point : IsPartitionPoint (λ p. is_lt (order_of (f p) x) ≡ true) (λ p. is_lt (order_of (f p) x) ≡ false) s at
   point = IsPartitionPoint-from_clause (λ p. is_lt (order_of (f p) x)) s at clause (parted f s x o) calls
 
-  below : (i : ℕ) → i < at → is_before (f (get_or s i 0)) x ≡ true
+  below : (i : ℕ) → i < at → sorts_before (f (get_or s i 0)) x ≡ true
   below i h = sym (lt_is (f (get_or s i 0)) x) ∙ point.0 i 0 (omega arith) h
 
-  rest : (i : ℕ) → at ≤ i → i < length s → is_before (f (get_or s i 0)) x ≡ false
+  rest : (i : ℕ) → at ≤ i → i < length s → sorts_before (f (get_or s i 0)) x ≡ false
   rest i h l = sym (lt_is (f (get_or s i 0)) x) ∙ point.1 i 0 h l
 
   pub place_none : at ≡ length s → None ≡ position (eq_bytes x) (span f 0 (length s))
@@ -241,7 +241,7 @@ module _ (f : ℕ → List ℕ) (s x : List ℕ) (o : Index f (length s) s) {at 
     pub place_other : r ≡ false → None ≡ position (eq_bytes x) (span f 0 (length s))
     place_other t = position_none x f (length s) (sym (nowhere_there x f 0 (length s) (λ i p q. by_place x o each i (omega arith))))
       where
-        first : is_before x (f (get_or s at 0)) ≡ true
+        first : sorts_before x (f (get_or s at 0)) ≡ true
         first = before_other x (f (get_or s at 0)) (rest at (omega arith) h) (ap (eq_bytes x) (sym ey) ∙ sym er ∙ t)
 
         later : (a : ℕ) → at ≤ a → a < length s → eq_bytes x (f (get_or s a 0)) ≡ false
@@ -272,7 +272,7 @@ module _ (f : ℕ → List ℕ) (s x : List ℕ) (o : Index f (length s) s) {at 
             (λ m. false≢true (sym (low_differs x (f (get_or s w.at 0)) (below w.at m)) ∙ ap (λ (v : ℕ). eq_bytes x (f v)) w.is ∙ e))
             (λ m. let q = ap (λ (v : ℕ). get_or s v 0) (sym m) ∙ w.is in omega arith)
             (λ m. not_first f (get_or s w.at 0) (get_or s at 0) (rises_on o.order at w.at (omega arith) (omega arith) w.below)
-            (λ z. false≢true (sym (before_not x) ∙ ap₂ is_before (eq_true x (f (get_or s at 0)) equal) (eq_true x (f a) e ∙ ap f (sym w.is)) ∙ z))
+            (λ z. false≢true (sym (before_not x) ∙ ap₂ sorts_before (eq_true x (f (get_or s at 0)) equal) (eq_true x (f a) e ∙ ap f (sym w.is)) ∙ z))
             (λ z q. let i1 = w.is in omega arith))
 
         before : (a : ℕ) → 0 ≤ a → a < get_or s at 0 → eq_bytes x (f a) ≡ false

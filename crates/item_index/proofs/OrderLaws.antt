@@ -13,7 +13,7 @@ use Rattle.std.specs.Ordering.{nat_cmp}
 use Rattle.lists.specs.Lists.{eq_bytes}
 use Rattle.lists.proofs.EqualLaws.{not_so, eq_refl, eq_true}
 use Rattle.std.specs.declared.cmp.Ordering.{Ordering}
-use Rattle.item_index.specs.Order.{is_before, order_of}
+use Rattle.item_index.specs.Order.{sorts_before, order_of}
 
 -- ---- cases
 
@@ -31,16 +31,16 @@ three {A} a b f g h = by (ltb a b) refl (ltb b a) refl
 -- ---- one byte decides, or those behind it
 
 module _ (a b : ℕ) (xs ys : List ℕ) where
-  pub before_less : a < b → is_before (a ∷ xs) (b ∷ ys) ≡ true
-  unfolding is_before
+  pub before_less : a < b → sorts_before (a ∷ xs) (b ∷ ys) ≡ true
+  unfolding sorts_before
   before_less h = rw (lt-ltb a b h)
 
-  pub before_more : b < a → is_before (a ∷ xs) (b ∷ ys) ≡ false
-  unfolding is_before
+  pub before_more : b < a → sorts_before (a ∷ xs) (b ∷ ys) ≡ false
+  unfolding sorts_before
   before_more h = let l : b ≤ a = omega arith in rw (le-ltb a b l, lt-ltb b a h)
 
-  pub before_same : a ≡ b → is_before (a ∷ xs) (b ∷ ys) ≡ is_before xs ys
-  unfolding is_before
+  pub before_same : a ≡ b → sorts_before (a ∷ xs) (b ∷ ys) ≡ sorts_before xs ys
+  unfolding sorts_before
   before_same h =
       let l : b ≤ a = omega arith in
       let m : a ≤ b = omega arith in
@@ -48,8 +48,8 @@ module _ (a b : ℕ) (xs ys : List ℕ) where
 
 -- ---- a strict order
 
-pub before_trans : (x y z : List ℕ) → is_before x y ≡ true → is_before y z ≡ true → is_before x z ≡ true
-unfolding is_before
+pub before_trans : (x y z : List ℕ) → sorts_before x y ≡ true → sorts_before y z ≡ true → sorts_before x z ≡ true
+unfolding sorts_before
 before_trans [] [] z p q = absurd (false≢true p)
 before_trans [] (b ∷ ys) [] p q = absurd (false≢true q)
 before_trans [] (b ∷ ys) (c ∷ zs) p q = refl
@@ -68,8 +68,8 @@ before_trans (a ∷ xs) (b ∷ ys) (c ∷ zs) p q =
     (λ h. absurd (false≢true (sym (before_more a b xs ys h) ∙ p)))
 
 -- what comes before is another string
-pub before_differs : (x y : List ℕ) → is_before x y ≡ true → eq_bytes x y ≡ false
-unfolding is_before eq_bytes
+pub before_differs : (x y : List ℕ) → sorts_before x y ≡ true → eq_bytes x y ≡ false
+unfolding sorts_before eq_bytes
 before_differs [] [] p = absurd (false≢true p)
 before_differs [] (b ∷ ys) p = refl
 before_differs (a ∷ xs) [] p = refl
@@ -79,8 +79,8 @@ before_differs (a ∷ xs) (b ∷ ys) p = three a b
     (λ h. absurd (false≢true (sym (before_more a b xs ys h) ∙ p)))
 
 -- of two strings that differ one comes before the other
-pub before_other : (x y : List ℕ) → is_before y x ≡ false → eq_bytes x y ≡ false → is_before x y ≡ true
-unfolding is_before eq_bytes
+pub before_other : (x y : List ℕ) → sorts_before y x ≡ false → eq_bytes x y ≡ false → sorts_before x y ≡ true
+unfolding sorts_before eq_bytes
 before_other [] [] p q = absurd (false≢true (sym q))
 before_other [] (b ∷ ys) p q = refl
 before_other (a ∷ xs) [] p q = absurd (false≢true (sym p))
@@ -91,43 +91,43 @@ before_other (a ∷ xs) (b ∷ ys) p q = three a b
 
 -- ---- no string comes before an earlier one: this goes on
 
-pub before_not : (x : List ℕ) → is_before x x ≡ false
-before_not x = not_so (is_before x x) (λ t. false≢true (sym (before_differs x x t) ∙ eq_refl x))
+pub before_not : (x : List ℕ) → sorts_before x x ≡ false
+before_not x = not_so (sorts_before x x) (λ t. false≢true (sym (before_differs x x t) ∙ eq_refl x))
 
-pub after_less : (x y : List ℕ) → is_before x y ≡ true → is_before y x ≡ false
-after_less x y t = not_so (is_before y x) (λ u. false≢true (sym (before_not x) ∙ before_trans x y x t u))
+pub after_less : (x y : List ℕ) → sorts_before x y ≡ true → sorts_before y x ≡ false
+after_less x y t = not_so (sorts_before y x) (λ u. false≢true (sym (before_not x) ∙ before_trans x y x t u))
 
 -- x, y, z in order: z does not come before x
-pub after_trans : (x y z : List ℕ) → is_before y x ≡ false → is_before z y ≡ false → is_before z x ≡ false
-after_trans x y z p q = not_so (is_before z x) (λ t. by t (eq_bytes x y) refl)
+pub after_trans : (x y z : List ℕ) → sorts_before y x ≡ false → sorts_before z y ≡ false → sorts_before z x ≡ false
+after_trans x y z p q = not_so (sorts_before z x) (λ t. by t (eq_bytes x y) refl)
   where
-    by : is_before z x ≡ true → (c : Bool) → eq_bytes x y ≡ c → ⊥
-    by t true e = false≢true (sym q ∙ ap (is_before z) (sym (eq_true x y e)) ∙ t)
+    by : sorts_before z x ≡ true → (c : Bool) → eq_bytes x y ≡ c → ⊥
+    by t true e = false≢true (sym q ∙ ap (sorts_before z) (sym (eq_true x y e)) ∙ t)
     by t false e = false≢true (sym q ∙ before_trans z x y t (before_other x y p e))
 
 -- x, then y, which comes before z
-pub before-later : (x y z : List ℕ) → is_before y x ≡ false → is_before y z ≡ true → is_before x z ≡ true
+pub before-later : (x y z : List ℕ) → sorts_before y x ≡ false → sorts_before y z ≡ true → sorts_before x z ≡ true
 before-later x y z p q = by (eq_bytes x y) refl
   where
-    by : (c : Bool) → eq_bytes x y ≡ c → is_before x z ≡ true
-    by true e = ap (λ (l : List ℕ). is_before l z) (eq_true x y e) ∙ q
+    by : (c : Bool) → eq_bytes x y ≡ c → sorts_before x z ≡ true
+    by true e = ap (λ (l : List ℕ). sorts_before l z) (eq_true x y e) ∙ q
     by false e = before_trans x y z (before_other x y p e) q
 
 -- x, which comes before y, then z
-pub before_earlier : (x y z : List ℕ) → is_before x y ≡ true → is_before z y ≡ false → is_before x z ≡ true
+pub before_earlier : (x y z : List ℕ) → sorts_before x y ≡ true → sorts_before z y ≡ false → sorts_before x z ≡ true
 before_earlier x y z p q = by (eq_bytes y z) refl
   where
-    by : (c : Bool) → eq_bytes y z ≡ c → is_before x z ≡ true
-    by true e = ap (is_before x) (sym (eq_true y z e)) ∙ p
+    by : (c : Bool) → eq_bytes y z ≡ c → sorts_before x z ≡ true
+    by true e = ap (sorts_before x) (sym (eq_true y z e)) ∙ p
     by false e = before_trans x y z p (before_other y z q e)
 
 -- ---- which of two comes first
 
-pub before-is : (x y : List ℕ) → is_before x y ≡ true → Ordering.Less ≡ order_of x y
+pub before-is : (x y : List ℕ) → sorts_before x y ≡ true → Ordering.Less ≡ order_of x y
 unfolding order_of
 before-is x y e = sym (rw e)
 
-pub after_is : (x y : List ℕ) → is_before y x ≡ true → Ordering.Greater ≡ order_of x y
+pub after_is : (x y : List ℕ) → sorts_before y x ≡ true → Ordering.Greater ≡ order_of x y
 unfolding order_of
 after_is x y e = sym (rw (after_less y x e, e))
 
@@ -136,15 +136,15 @@ unfolding order_of
 same-is x y e = sym (rw (e, before_not y))
 
 abbrev Told : Ordering → List ℕ → List ℕ → Type 0
-Told Ordering.Less x y = is_before x y ≡ true
+Told Ordering.Less x y = sorts_before x y ≡ true
 Told Ordering.Equal x y = x ≡ y
-Told Ordering.Greater x y = is_before y x ≡ true
+Told Ordering.Greater x y = sorts_before y x ≡ true
 
 told : (x y : List ℕ) → Told (order_of x y) x y
 unfolding order_of
-told x y = by (is_before x y) refl (is_before y x) refl
+told x y = by (sorts_before x y) refl (sorts_before y x) refl
   where
-    by : (b : Bool) → is_before x y ≡ b → (c : Bool) → is_before y x ≡ c → Told (cond b Ordering.Less (cond c Ordering.Greater Ordering.Equal)) x y
+    by : (b : Bool) → sorts_before x y ≡ b → (c : Bool) → sorts_before y x ≡ c → Told (cond b Ordering.Less (cond c Ordering.Greater Ordering.Equal)) x y
     by true e c w = e
     by false e true w = w
     by false e false w = equal (eq_bytes x y) refl
@@ -153,10 +153,10 @@ told x y = by (is_before x y) refl (is_before y x) refl
         equal true t = eq_true x y t
         equal false t = absurd (false≢true (sym e ∙ before_other x y w t))
 
-pub order_less : (x y : List ℕ) → Ordering.Less ≡ order_of x y → is_before x y ≡ true
+pub order_less : (x y : List ℕ) → Ordering.Less ≡ order_of x y → sorts_before x y ≡ true
 order_less x y e = rw (← e) at (told x y)
 
-pub order-more : (x y : List ℕ) → Ordering.Greater ≡ order_of x y → is_before y x ≡ true
+pub order-more : (x y : List ℕ) → Ordering.Greater ≡ order_of x y → sorts_before y x ≡ true
 order-more x y e = rw (← e) at (told x y)
 
 pub order_same : (x y : List ℕ) → Ordering.Equal ≡ order_of x y → x ≡ y
@@ -189,7 +189,7 @@ alike_less j h k =
     record { first = omega arith; second = omega arith; same = λ n p. k.same n (omega arith) }
 
 -- the bytes that follow
-behind : (a b : List ℕ) (i : ℕ) → Alike a b i → is_before a b ≡ is_before (drop i a) (drop i b)
+behind : (a b : List ℕ) (i : ℕ) → Alike a b i → sorts_before a b ≡ sorts_before (drop i a) (drop i b)
 behind a b zero k = refl
 behind a b (suc i) k =
     let l = k.first in
@@ -209,13 +209,13 @@ all_alike (x ∷ a) (y ∷ b) i k h l =
 -- ---- where they differ
 
 module _ {a b : List ℕ} {i : ℕ} (k : Alike a b i) (h : i < length a) (l : i < length b) where
-  pub less : get_or a i 0 < get_or b i 0 → is_before a b ≡ true
+  pub less : get_or a i 0 < get_or b i 0 → sorts_before a b ≡ true
   less d = behind a b i k ∙ rw (drop-cons a i 0 h, drop-cons b i 0 l) (before_less _ _ _ _ d)
 
 -- ---- the library's comparison of lists of numbers is this one
 
 pub order_lists : (x y : List ℕ) → slice_cmp nat_cmp x y ≡ order_of x y
-unfolding order_of is_before
+unfolding order_of sorts_before
 order_lists [] [] = refl
 order_lists [] (b ∷ ys) = refl
 order_lists (a ∷ xs) [] = refl

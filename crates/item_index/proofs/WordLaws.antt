@@ -11,7 +11,7 @@ use Rattle.std.specs.Ordering.{nat_cmp}
 use lib.ListN.{length, get_or}
 use Rattle.arithmetic.specs.LittleEndian.{AllBytes}
 use Rattle.std.specs.declared.cmp.Ordering.{Ordering}
-use Rattle.item_index.specs.Order.{is_before, order_of, horner}
+use Rattle.item_index.specs.Order.{sorts_before, order_of, horner}
 use Rattle.item_index.proofs.OrderLaws.{three, Alike, alike_back, alike_next, alike_less, all_alike, less, before-is, after_is, same-is}
 
 -- ---- the number
@@ -38,7 +38,7 @@ module _ (s t : List ℕ) (bs : AllBytes s) (bt : AllBytes t) where
   stays_less (suc k) p q i h = let m = bs i in stays_less k (256 * p + get_or s i 0) (256 * q + get_or t i 0) (i + 1) (omega arith)
 
 module _ (a b : List ℕ) (ba : AllBytes a) (bb : AllBytes b) where
-  pub word_less : (k p i : ℕ) → Alike a b i → i + k ≤ length a → i + k ≤ length b → horner p k a i < horner p k b i → is_before a b ≡ true
+  pub word_less : (k p i : ℕ) → Alike a b i → i + k ≤ length a → i + k ≤ length b → horner p k a i < horner p k b i → sorts_before a b ≡ true
   unfolding horner
   word_less zero p i w h l m = absurd (omega arith)
   word_less (suc k) p i w h l m = three (get_or a i 0) (get_or b i 0)

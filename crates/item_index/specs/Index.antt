@@ -2,7 +2,7 @@
 use Rattle.std.specs.Prelude.{◌≡◌, ℕ, suc, ◌≤◌, ◌<◌, Bool, true, false, cond, List, [], ◌∷◌, length, get_or, drop, ltb}
 use Rattle.molecule.specs.Layout.{fix_item}
 use Rattle.lists.specs.Lists.{eq_bytes}
-use Rattle.item_index.specs.Order.{is_before}
+use Rattle.item_index.specs.Order.{sorts_before}
 
 -- the bytes of item i from `skip` on
 unfoldable pub key_of : List ℕ → ℕ → ℕ → ℕ → List ℕ
@@ -10,7 +10,7 @@ key_of b k skip i = drop skip (fix_item b k i)
 
 -- the item at p comes before the one at q; of two that are the same the one at the smaller place comes first
 unfoldable pub comes : (ℕ → List ℕ) → ℕ → ℕ → Bool
-comes f p q = cond (is_before (f p) (f q)) true (cond (is_before (f q) (f p)) false (ltb p q))
+comes f p q = cond (sorts_before (f p) (f q)) true (cond (sorts_before (f q) (f p)) false (ltb p q))
 
 -- the first place of x in a list, and the length where it is not there
 unfoldable pub place_in : List ℕ → List (List ℕ) → ℕ

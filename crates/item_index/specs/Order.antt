@@ -3,15 +3,15 @@ use Rattle.std.specs.Prelude.{Bool, true, false, cond, List, [], ◌∷◌, ℕ,
 use Rattle.std.specs.declared.cmp.Ordering.{Ordering}
 
 -- byte by byte, the first that differs decides; a string comes before those that go on from it
-unfoldable pub is_before : List ℕ → List ℕ → Bool
-is_before [] [] = false
-is_before [] (b ∷ ys) = true
-is_before (a ∷ xs) [] = false
-is_before (a ∷ xs) (b ∷ ys) = cond (ltb a b) true (cond (ltb b a) false (is_before xs ys))
+unfoldable pub sorts_before : List ℕ → List ℕ → Bool
+sorts_before [] [] = false
+sorts_before [] (b ∷ ys) = true
+sorts_before (a ∷ xs) [] = false
+sorts_before (a ∷ xs) (b ∷ ys) = cond (ltb a b) true (cond (ltb b a) false (sorts_before xs ys))
 
 -- which of two comes first
 unfoldable pub order_of : List ℕ → List ℕ → Ordering
-order_of x y = cond (is_before x y) Ordering.Less (cond (is_before y x) Ordering.Greater Ordering.Equal)
+order_of x y = cond (sorts_before x y) Ordering.Less (cond (sorts_before y x) Ordering.Greater Ordering.Equal)
 
 -- ---- what the functions inside promise one another
 

@@ -6,7 +6,7 @@ use Rattle.transaction.specs.Tx.{args_of}
 use Rattle.funding_cell.specs.FundingCell.{cell_of, cell_of_sums, funding_cell}
 use Rattle.cell_output.specs.CellOutput.{cell_output}
 use Rattle.udt_cells.specs.Pick.{plus_cell, enough_or, pick_from, pick_typed}
-use Rattle.list_writer.specs.ListWriter.{bytes_item, fix_list, item_or, later, if_any, if_positive}
+use Rattle.list_writer.specs.ListWriter.{bytes_item, fix_list, item_or, items_after_first, if_any, if_positive}
 use Rattle.transaction_writer.specs.Written.{raw_bytes, tx_bytes, fits, in_room}
 use Rattle.base_inputs.specs.BaseInputs.{picked_input, picked, input_list}
 use Rattle.base_lists.specs.BaseLists.{placeholder, output_list, data_list, witness_list}
@@ -16,5 +16,5 @@ use Rattle.funding_builder.specs.Base.{packed, base_tx, lists, supplied, with_pi
 use Rattle.known_cases.proofs.Computing.{computing_updates}
 
 unfoldable pub computing : Unit {0}
-unfolding computing_updates flatten change_capacity args_of cell_of cell_of_sums funding_cell cell_output plus_cell enough_or pick_from pick_typed bytes_item fix_list item_or later if_any if_positive raw_bytes tx_bytes fits picked_input picked input_list placeholder output_list data_list witness_list dep_pushed push_all cell_deps in_room answer_by base.change_output_capacity packed base_tx lists supplied with_pick with_cell with_request build_base
+unfolding computing_updates flatten change_capacity args_of cell_of cell_of_sums funding_cell cell_output plus_cell enough_or pick_from pick_typed bytes_item fix_list item_or items_after_first if_any if_positive raw_bytes tx_bytes fits picked_input picked input_list placeholder output_list data_list witness_list dep_pushed push_all cell_deps in_room answer_by base.change_output_capacity packed base_tx lists supplied with_pick with_cell with_request build_base
 computing = tt

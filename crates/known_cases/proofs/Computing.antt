@@ -18,5 +18,5 @@ use Rattle.rules.specs.Lines as lines
 use Rattle.units.specs.Fee.{required_fee}
 
 unfoldable pub computing_updates : Unit {0}
-unfolding encode join unwords offsets flatten to_le le num_at only pick there both each words cuts items split size chunks pieces one_byte decode readable bind part word start span field_of item_count item_of fix_count fix_item content entry_of eq_bytes agree contains contains_all raw_field witnesses_of read_tx capacity_of lock_of type_of first_of data_of read_ours record_at lent_at check check_with given ◌>>=◌ ◌>>◌ is_empty total first figure.capacity_of has_amount amount_of is_of surplus scripts limits at_first has_lock no_data_untyped comparison live live_cells spent token_delta funding_output_delta covered counted tally settled token_account accounts contribution opening closing ruling_against ruling judge_against judge first_failing verdict followed answer known line_with line_holds failing lines.◌>>=◌ lines.◌>>◌ required_fee
+unfolding encode join unwords offsets flatten to_le le num_at only pick there both each words cuts items split size chunks pieces one_byte decode readable bind part word start span field_of item_count item_of fix_count fix_item content entry_of eq_bytes agree contains contains_all raw_field witnesses_of read_tx capacity_of lock_of type_of first_of data_of read_ours record_at lent_at check check_with given ◌>>=◌ ◌>>◌ is_empty total first figure.cell_capacity has_amount amount_of is_of surplus scripts limits at_first has_lock no_data_untyped comparison live live_cells spent token_delta funding_output_delta covered counted tally settled token_account accounts contribution opening closing ruling_against ruling judge_against judge first_failing verdict followed answer known line_with line_holds failing lines.◌>>=◌ lines.◌>>◌ required_fee
 computing_updates = tt

@@ -13,7 +13,7 @@ use Rattle.units.specs.Units.{Figures}
 use Rattle.lists.specs.Lists.{is_empty}
 use Rattle.transaction.specs.Tx.{Tx, tx_at}
 use Rattle.rules.specs.Cells.{Cell, LentRecords, lent_at}
-use Rattle.rules.specs.Surplus.{total, added, capacity_of, amount_of, token_of, is_of, has_amount}
+use Rattle.rules.specs.Surplus.{total, added, cell_capacity, amount_of, token_of, is_of, has_amount}
 use Rattle.rules.specs.Lines.{Ruled, first_failing, verdict, followed, answer, line_with, ◌>>=◌, ◌>>◌}
 use Rattle.rules.specs.Judge.{Call, Names, of_records, of_outputs, scripts, limits, comparison, live, live_cells, spent, growth, unfunded, token_delta, funding_output_delta, covered, counted, tally, settled, token_account, accounts, contribution, opening, closing, ruling, ruling_against, judge}
 use Rattle.rules.specs.Run.{lent_cells}
@@ -52,15 +52,15 @@ unfolding spent line_with answer followed ◌>>◌
 spent-answer source ours peer lent = rw (live-answer source (length ours.inputs) lent.records)
 
 delta-answer : (type : List ℕ) (ours peer : Tx) → (funding_output_delta type ours peer).answer
-    ≡ fine (record { capacity = growth capacity_of ours peer; token = cond (is_empty type) 0 (growth amount_of ours peer) })
+    ≡ fine (record { capacity = growth cell_capacity ours peer; token = cond (is_empty type) 0 (growth amount_of ours peer) })
 unfolding funding_output_delta token_delta line_with answer followed ◌>>◌ ◌>>=◌
 delta-answer type ours peer = by (is_empty type)
   where
     grown : ℕ → Ruled Figures
-    grown t = answer (record { capacity = growth capacity_of ours peer; token = t })
+    grown t = answer (record { capacity = growth cell_capacity ours peer; token = t })
 
     by : (b : Bool) → (cond b (answer 0) (token_delta ours peer) >>= grown).answer
-        ≡ fine (record { capacity = growth capacity_of ours peer; token = cond b 0 (growth amount_of ours peer) })
+        ≡ fine (record { capacity = growth cell_capacity ours peer; token = cond b 0 (growth amount_of ours peer) })
     by true = refl
     by false = refl
 
@@ -109,11 +109,11 @@ unfolding covered line_with answer followed ◌>>◌
 covered-answer opening gained needed rate size = refl
 
 contribution-answer : (type : List ℕ) (ours peer : Tx) (records : List Cell) (rate size : ℕ)
-    → (contribution type ours peer (total capacity_of records) (tally of_records type 0 records) rate size).answer ≡ fine (surpluses type ours peer records)
+    → (contribution type ours peer (total cell_capacity records) (tally of_records type 0 records) rate size).answer ≡ fine (surpluses type ours peer records)
 unfolding contribution accounts answer
 contribution-answer type ours peer records rate size =
     after_bind (funding_output_delta type ours peer) _ (delta-answer type ours peer)
-    ∙ after_bind (covered (unfunded ours) (total capacity_of records) (growth capacity_of ours peer + total capacity_of (added ours peer)) rate size) _ (covered-answer _ _ _ rate size)
+    ∙ after_bind (covered (unfunded ours) (total cell_capacity records) (growth cell_capacity ours peer + total cell_capacity (added ours peer)) rate size) _ (covered-answer _ _ _ rate size)
     ∙ after_bind (token_account type (cond (is_empty type) 0 (growth amount_of ours peer)) (tally of_records type 0 records) (added ours peer)) _ (account-answer type ours peer records)
 
 closing-answer : (type source : List ℕ) (ours peer : Tx) (rate size : ℕ) (lent : LentRecords)

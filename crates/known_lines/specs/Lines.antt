@@ -5,7 +5,7 @@ use Rattle.units.specs.Units.{Figures}
 use Rattle.lists.specs.Lists.{is_empty}
 use Rattle.transaction.specs.Tx.{Tx}
 use Rattle.rules.specs.Cells.{Cell}
-use Rattle.rules.specs.Surplus.{total, added, capacity_of, amount_of, token_of}
+use Rattle.rules.specs.Surplus.{total, added, cell_capacity, amount_of, token_of}
 use Rattle.rules.specs.Lines.{Line}
 use Rattle.rules.specs.Judge.{Call, growth, ruling}
 
@@ -15,6 +15,6 @@ lines lock type ours call = (ruling lock type ours call).lines
 -- what an acceptance carries
 abbrev pub surpluses : List ℕ → Tx → Tx → List Cell → Figures
 surpluses type ours peer records = record {
-  capacity = total capacity_of records - (growth capacity_of ours peer + total capacity_of (added ours peer));
+  capacity = total cell_capacity records - (growth cell_capacity ours peer + total cell_capacity (added ours peer));
   token = cond (is_empty type) 0 (total (token_of type) records - (growth amount_of ours peer + total (token_of type) (added ours peer)));
 }

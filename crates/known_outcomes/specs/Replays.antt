@@ -3,10 +3,10 @@ use Rattle.std.specs.Prelude.{ℕ, List, [], ◌∷◌, map}
 use Rattle.arithmetic.specs.LittleEndian.{to_le}
 use Rattle.molecule.specs.Molecule.{Value, encode}
 use Rattle.rules.specs.Judge.{Call}
-use Rattle.negotiation.specs.Updates.{Update, Updates}
+use Rattle.negotiation.specs.Updates.{UpdateTable, Updates}
 use Rattle.known_outcomes.specs.Runs.{worked, opening}
 
-abbrev update_of : Call → Value Update
+abbrev update_of : Call → Value UpdateTable
 update_of c = (c.peer, (c.records, (c.source, (to_le 8 c.rate, tt))))
 
 abbrev pub lent : List ℕ

@@ -9,7 +9,7 @@ use lib.ListN.{length}
 use lib.Dec.{leb}
 use Rattle.molecule.specs.Write.{put_at, put_end, Put}
 use Rattle.molecule.proofs.WriteLaws.{put_yes, end_yes, did, then, length-kept}
-use Rattle.list_writer.specs.ListWriter.{later, put_list, put_list_end}
+use Rattle.list_writer.specs.ListWriter.{items_after_first, put_list, put_list_end}
 use Rattle.list_writer.specs.Around.{head_size, list_size, fits_at}
 
 pub fit-room : (at len : ℕ) {m n : ℕ} {r : Bool} → n ≡ min m 133117 → r ≡ fits_at n at len → not r ≡ false → (at + m ≤ len) × (m ≤ 133116)
@@ -75,4 +75,4 @@ pub capped_list : (first : ℕ) (s : List ℕ) (k last : ℕ) (r : ℕ) {f l : �
     → r ≡ min (list_size first s k last) 133117
 capped_list first s k last r {f} {l} ef el er =
     let w : min (4 * l) 4 ≡ min (4 * last) 4 = omega arith in
-    cap_parts (head_size k last) first (length (flatten (later s k))) last f l r ef el (rw w at er)
+    cap_parts (head_size k last) first (length (flatten (items_after_first s k))) last f l r ef el (rw w at er)

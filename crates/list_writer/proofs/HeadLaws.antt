@@ -11,7 +11,7 @@ use Rattle.molecule.specs.Write.{splice, put_at, put_end, Put}
 use Rattle.molecule.proofs.ItemsLaws.{length-join, unwords_length}
 use Rattle.molecule.proofs.Offsets.{span-length}
 use Rattle.molecule.proofs.WriteLaws.{did, then, as_bytes, none, length-kept, put_yes, end_yes}
-use Rattle.list_writer.specs.ListWriter.{item_or, later, if_any, if_positive}
+use Rattle.list_writer.specs.ListWriter.{item_or, items_after_first, if_any, if_positive}
 use Rattle.list_writer.specs.Around.{around, head_size, list_size, offset_words, head_of, Room}
 use Rattle.list_writer.proofs.SpanLaws.{flatten_append, offsets-append, unwords-append}
 
@@ -37,9 +37,9 @@ two_words : (x y : ℕ) → unwords (x ∷ y ∷ []) ≡ to_le 4 x ++ to_le 4 y
 unfolding unwords
 two_words x y = ap (λ (l : List ℕ). to_le 4 x ++ l) (append-nil (to_le 4 y))
 
-module _ (first : ℕ) (s : List ℕ) (k last : ℕ) {size w : ℕ} (ew : w ≡ min (4 * last) 4) (es : size ≡ min (length (flatten (later s k))) 133117) where
-  head_runs : length (flatten (later s k)) ≡ size
-      → to_le 4 (8 + 4 * k + w + first + size + last) ++ to_le 4 (8 + 4 * k + w) ++ offset_words (8 + 4 * k + w + first) (later s k) ++ if_positive last (to_le 4 (8 + 4 * k + w + first + size))
+module _ (first : ℕ) (s : List ℕ) (k last : ℕ) {size w : ℕ} (ew : w ≡ min (4 * last) 4) (es : size ≡ min (length (flatten (items_after_first s k))) 133117) where
+  head_runs : length (flatten (items_after_first s k)) ≡ size
+      → to_le 4 (8 + 4 * k + w + first + size + last) ++ to_le 4 (8 + 4 * k + w) ++ offset_words (8 + 4 * k + w + first) (items_after_first s k) ++ if_positive last (to_le 4 (8 + 4 * k + w + first + size))
       ≡ head_of first s k last
   unfolding head_of
   head_runs e = rw (ew, e)
@@ -47,7 +47,7 @@ module _ (first : ℕ) (s : List ℕ) (k last : ℕ) {size w : ℕ} (ew : w ≡ 
   pub put_head_lem : {out o₁ o₂ o₃ : List ℕ} {at n₁ n₂ n₃ : ℕ} → Room out at (list_size first s k last)
       → o₁ ≡ put_at out at (unwords ((8 + 4 * k + w + first + size + last) ∷ (8 + 4 * k + w) ∷ []))
       → n₁ ≡ put_end out at (unwords ((8 + 4 * k + w + first + size + last) ∷ (8 + 4 * k + w) ∷ []))
-      → Put o₁ n₁ (offset_words (8 + 4 * k + w + first) (later s k)) o₂ n₂
+      → Put o₁ n₁ (offset_words (8 + 4 * k + w + first) (items_after_first s k)) o₂ n₂
       → Put o₂ n₂ (if_positive last (to_le 4 (8 + 4 * k + w + first + size))) o₃ n₃
       → Put out at (head_of first s k last) o₃ n₃
   put_head_lem {at = at} h d f q r =
@@ -72,8 +72,8 @@ unfolding if_any
 any_head k [] = omega arith
 any_head k (b ∷ l) = omega arith
 
-pub later-length : (s : List ℕ) (k : ℕ) → length (later s k) ≡ k
-unfolding later
+pub later-length : (s : List ℕ) (k : ℕ) → length (items_after_first s k) ≡ k
+unfolding items_after_first
 later-length s k = span-length (item_or s) 1 k
 
 join_runs : (h n : ℕ) (first : List ℕ) (ys : List (List ℕ)) → h ≡ header (suc (length ys)) → n ≡ h + length first + length (flatten ys)
@@ -94,34 +94,34 @@ places_any o xs last =
     ∙ sym (ap unwords (offsets-append o xs (if_any last)) ∙ unwords-append (offsets o xs) (offsets (o + length (flatten xs)) (if_any last)))
 
 module _ (first s : List ℕ) (k : ℕ) (last : List ℕ) where
-  rest-bytes : flatten (later s k) ++ last ≡ flatten (later s k ++ if_any last)
-  rest-bytes = ap (λ (l : List ℕ). flatten (later s k) ++ l) (sym (any_bytes last)) ∙ sym (flatten_append (later s k) (if_any last))
+  rest-bytes : flatten (items_after_first s k) ++ last ≡ flatten (items_after_first s k ++ if_any last)
+  rest-bytes = ap (λ (l : List ℕ). flatten (items_after_first s k) ++ l) (sym (any_bytes last)) ∙ sym (flatten_append (items_after_first s k) (if_any last))
 
-  rest-count : head_size k (length last) ≡ header (suc (length (later s k ++ if_any last)))
-  rest-count = omega (arith, any_head k last, length-append (later s k) (if_any last), later-length s k)
+  rest-count : head_size k (length last) ≡ header (suc (length (items_after_first s k ++ if_any last)))
+  rest-count = omega (arith, any_head k last, length-append (items_after_first s k) (if_any last), later-length s k)
 
-  around_runs : head_of (length first) s k (length last) ++ (first ++ flatten (later s k) ++ last) ≡ around first s k last
+  around_runs : head_of (length first) s k (length last) ++ (first ++ flatten (items_after_first s k) ++ last) ≡ around first s k last
   unfolding head_of around
   around_runs =
       let h : ℕ = head_size k (length last) in
       let o : ℕ = h + length first in
-      let en : list_size (length first) s k (length last) ≡ h + length first + length (flatten (later s k ++ if_any last)) =
-      omega (arith, ap length rest-bytes, length-append (flatten (later s k)) last) in
-      regroup (to_le 4 (list_size (length first) s k (length last))) (to_le 4 h) (offset_words o (later s k)) (if_positive (length last) (to_le 4 (o + length (flatten (later s k)))))
-      first (flatten (later s k)) last
-      ∙ ap₂ (λ (p q : List ℕ). (to_le 4 (list_size (length first) s k (length last)) ++ (to_le 4 h ++ p)) ++ (first ++ q)) (places_any o (later s k) last) rest-bytes
-      ∙ join_runs h _ first (later s k ++ if_any last) rest-count en
+      let en : list_size (length first) s k (length last) ≡ h + length first + length (flatten (items_after_first s k ++ if_any last)) =
+      omega (arith, ap length rest-bytes, length-append (flatten (items_after_first s k)) last) in
+      regroup (to_le 4 (list_size (length first) s k (length last))) (to_le 4 h) (offset_words o (items_after_first s k)) (if_positive (length last) (to_le 4 (o + length (flatten (items_after_first s k)))))
+      first (flatten (items_after_first s k)) last
+      ∙ ap₂ (λ (p q : List ℕ). (to_le 4 (list_size (length first) s k (length last)) ++ (to_le 4 h ++ p)) ++ (first ++ q)) (places_any o (items_after_first s k) last) rest-bytes
+      ∙ join_runs h _ first (items_after_first s k ++ if_any last) rest-count en
 
   pub around-length : length (around first s k last) ≡ list_size (length first) s k (length last)
   unfolding around flatten
   around-length =
-      length-join (first ∷ later s k ++ if_any last)
-      ∙ omega (arith, rest-count, length-append first (flatten (later s k ++ if_any last)), ap length rest-bytes, length-append (flatten (later s k)) last)
+      length-join (first ∷ items_after_first s k ++ if_any last)
+      ∙ omega (arith, rest-count, length-append first (flatten (items_after_first s k ++ if_any last)), ap length rest-bytes, length-append (flatten (items_after_first s k)) last)
 
 pub put_around : (first s : List ℕ) (k : ℕ) (last : List ℕ) {out o₁ o₂ o₃ o₄ : List ℕ} {at n₁ n₂ n₃ n₄ f l : ℕ}
     → Room out at (list_size (length first) s k (length last)) → f ≡ min (length first) 133117 → l ≡ min (length last) 133117
     → Put out at (head_of f s k l) o₁ n₁ → n₁ ≡ at + head_size k l → o₂ ≡ put_at o₁ n₁ first → n₂ ≡ put_end o₁ n₁ first
-    → Put o₂ n₂ (flatten (later s k)) o₃ n₃ → o₄ ≡ put_at o₃ n₃ last → n₄ ≡ put_end o₃ n₃ last
+    → Put o₂ n₂ (flatten (items_after_first s k)) o₃ n₃ → o₄ ≡ put_at o₃ n₃ last → n₄ ≡ put_end o₃ n₃ last
     → Put out at (around first s k last) o₄ n₄
 put_around first s k last {f = f} {l = l} h ef el p v d₁ e₁ q d₂ e₂ =
     let room = h.0 in

@@ -7,19 +7,19 @@ use mir.Syntax.{w64}
 use mir.Val.{Fits}
 use Rattle.arithmetic.specs.LittleEndian.{to_le}
 use Rattle.molecule.specs.Write.{put_at, put_end}
-use Rattle.list_writer.specs.ListWriter.{item_or, later}
+use Rattle.list_writer.specs.ListWriter.{item_or, items_after_first}
 use Rattle.molecule.specs.Layout.{span}
 use Rattle.list_writer.specs.Around.{offset_words}
 use Rattle.list_writer.proofs.SpanLaws.{body}
 use Rattle.list_writer.proofs.LoopLaws.{Sizing, size-more, Writing, write-more, Placing, place-fits, place-more}
 
 module _ (s : List ℕ) (k : ℕ) where
-  pub later_body : flatten (later s k) ≡ body (item_or s) 1 k
-  unfolding later body
+  pub later_body : flatten (items_after_first s k) ≡ body (item_or s) 1 k
+  unfolding items_after_first body
   later_body = refl
 
-  pub later_places : (o : ℕ) → offset_words o (later s k) ≡ offset_words o (span (item_or s) 1 k)
-  unfolding later
+  pub later_places : (o : ℕ) → offset_words o (items_after_first s k) ≡ offset_words o (span (item_or s) 1 k)
+  unfolding items_after_first
   later_places o = refl
 
   -- a turn, at the item x

@@ -6,7 +6,7 @@ use mathlib.Core.List.{List, flatten}
 use lib.ListN.{length}
 use Rattle.molecule.specs.Write.{put_at, put_end, Put}
 use Rattle.list_writer.specs.declared.{Lengths.Lengths, Parts.Parts}
-use Rattle.list_writer.specs.ListWriter.{joined, later, put_list, put_list_end}
+use Rattle.list_writer.specs.ListWriter.{joined, items_after_first, put_list, put_list_end}
 use Rattle.list_writer.specs.Around.{head_size, fits_at, Room}
 use Rattle.list_writer.specs.Parts.{list_len, head_in, list_bytes, size_of, lengths_of}
 use Rattle.list_writer.proofs.HeadLaws.{around-length, put_around}
@@ -38,7 +38,7 @@ module _ (p : Parts) (out : List ℕ) (at : ℕ) {l : Lengths} {n : ℕ} {r : Bo
 -- where there is room: the header, then the parts
 pub put_parts : (p : Parts) {l : Lengths} {out o₁ o₂ o₃ o₄ : List ℕ} {at n₁ n₂ n₃ n₄ : ℕ} → Room out at (size_of p) → l ≡ lengths_of p
     → Put out at (head_in l) o₁ n₁ → n₁ ≡ at + head_size l.items.count l.last → o₂ ≡ put_at o₁ n₁ (joined p.first.now) → n₂ ≡ put_end o₁ n₁ (joined p.first.now)
-    → Put o₂ n₂ (flatten (later p.items.list.now p.items.count)) o₃ n₃ → o₄ ≡ put_at o₃ n₃ (joined p.last.now) → n₄ ≡ put_end o₃ n₃ (joined p.last.now)
+    → Put o₂ n₂ (flatten (items_after_first p.items.list.now p.items.count)) o₃ n₃ → o₄ ≡ put_at o₃ n₃ (joined p.last.now) → n₄ ≡ put_end o₃ n₃ (joined p.last.now)
     → Put out at (list_bytes p) o₄ n₄
 put_parts p h el q v d₁ e₁ r d₂ e₂ =
     put_around (joined p.first.now) p.items.list.now p.items.count (joined p.last.now) h refl refl (rw el at q) (rw el at v) d₁ e₁ r d₂ e₂

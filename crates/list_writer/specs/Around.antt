@@ -4,18 +4,18 @@ use Rattle.std.specs.Prelude.{ℕ, ◌+◌, ◌*◌, ◌≤◌, min, Bool, ◌&&
 use mathlib.Core.List.{List, ◌∷◌, ◌++◌, flatten}
 use Rattle.arithmetic.specs.LittleEndian.{to_le}
 use Rattle.molecule.specs.Items.{join, unwords, offsets}
-use Rattle.list_writer.specs.ListWriter.{later, if_any, if_positive}
+use Rattle.list_writer.specs.ListWriter.{items_after_first, if_any, if_positive}
 
 -- the list in bytes; no last one where `last` is empty
 unfoldable pub around : List ℕ → List ℕ → ℕ → List ℕ → List ℕ
-around first s k last = join (first ∷ later s k ++ if_any last)
+around first s k last = join (first ∷ items_after_first s k ++ if_any last)
 
 -- its length and that of its header, by the lengths of its first item and its last
 abbrev pub head_size : ℕ → ℕ → ℕ
 head_size k last = 8 + 4 * k + min (4 * last) 4
 
 abbrev pub list_size : ℕ → List ℕ → ℕ → ℕ → ℕ
-list_size first s k last = head_size k last + first + length (flatten (later s k)) + last
+list_size first s k last = head_size k last + first + length (flatten (items_after_first s k)) + last
 
 -- where each of the items xs begins, the first at o, as four bytes each
 unfoldable pub offset_words : ℕ → List (List ℕ) → List ℕ
@@ -26,8 +26,8 @@ unfoldable pub head_of : ℕ → List ℕ → ℕ → ℕ → List ℕ
 head_of first s k last =
     to_le 4 (list_size first s k last)
     ++ to_le 4 (head_size k last)
-    ++ offset_words (head_size k last + first) (later s k)
-    ++ if_positive last (to_le 4 (head_size k last + first + length (flatten (later s k))))
+    ++ offset_words (head_size k last + first) (items_after_first s k)
+    ++ if_positive last (to_le 4 (head_size k last + first + length (flatten (items_after_first s k))))
 
 -- n bytes fit a transaction, and a buffer of `len` bytes from `at` on
 unfoldable pub fits_at : ℕ → ℕ → ℕ → Bool

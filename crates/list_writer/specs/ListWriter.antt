@@ -23,8 +23,8 @@ unfoldable pub item_or : List ℕ → ℕ → List ℕ
 item_or s i = cond (ltb i (item_count s)) (item_of s i) (bytes_item [])
 
 -- k items, from the second on
-unfoldable pub later : List ℕ → ℕ → List (List ℕ)
-later s k = span (item_or s) 1 k
+unfoldable pub items_after_first : List ℕ → ℕ → List (List ℕ)
+items_after_first s k = span (item_or s) 1 k
 
 -- an item where there is one; none is empty
 unfoldable pub if_any : List ℕ → List (List ℕ)

@@ -7,7 +7,7 @@ ghost use mathlib.Core.List.{flatten};
 ghost use Rattle.arithmetic.specs.LittleEndian.{to_le};
 ghost use Rattle.molecule.specs.Items.{unwords};
 ghost use Rattle.molecule.specs.Write.{put_at, put_end, Put};
-ghost use Rattle.list_writer.specs.ListWriter.{joined, item_or, later, if_positive, put_list, put_list_end};
+ghost use Rattle.list_writer.specs.ListWriter.{joined, item_or, items_after_first, if_positive, put_list, put_list_end};
 ghost use Rattle.list_writer.specs.Around.{head_size, offset_words, fits_at, Room};
 ghost use Rattle.list_writer.specs.Parts.{list_len, head_in, list_bytes, size_of, lengths_of};
 
@@ -107,7 +107,7 @@ pub struct Later<'a> {
 impl Later<'_> {
     // How many bytes they have.
     fn len(self) -> usize
-        ensures { result ≡ min (length (flatten (later self.entry.list.now self.entry.count))) 133117 }
+        ensures { result ≡ min (length (flatten (items_after_first self.entry.list.now self.entry.count))) 133117 }
     {
         let mut n = 0;
         for i in 0..self.count {
@@ -118,8 +118,8 @@ impl Later<'_> {
 
     // Puts them.
     fn put(self, out: &mut [u8], at: usize) -> usize
-        requires { at + length (flatten (later self.list.now self.count)) ≤ length out.old }
-        ensures { Put out.old at (flatten (later self.entry.list.now self.entry.count)) out.new result }
+        requires { at + length (flatten (items_after_first self.list.now self.count)) ≤ length out.old }
+        ensures { Put out.old at (flatten (items_after_first self.entry.list.now self.entry.count)) out.new result }
     {
         let mut next = at;
         for i in 0..self.count {
@@ -130,8 +130,8 @@ impl Later<'_> {
 
     // Puts where each of them begins, the first at o.
     fn put_places(self, out: &mut [u8], at: usize, o: usize) -> usize
-        requires { (at + 4 * self.count ≤ length out.old) × (o + length (flatten (later self.list.now self.count)) < 2 ^ 32) }
-        ensures put { Put out.old at (offset_words o (later self.entry.list.now self.entry.count)) out.new result }
+        requires { (at + 4 * self.count ≤ length out.old) × (o + length (flatten (items_after_first self.list.now self.count)) < 2 ^ 32) }
+        ensures put { Put out.old at (offset_words o (items_after_first self.entry.list.now self.entry.count)) out.new result }
         ensures value { result ≡ at + 4 * self.entry.count }
     {
         let mut next = at;

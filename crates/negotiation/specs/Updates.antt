@@ -8,11 +8,11 @@ use Rattle.transaction.specs.Ckb.{Bytes, Uint64}
 use Rattle.rules.specs.Judge.{Call}
 
 -- the peer's transaction, the records, the source lock, and the fee rate; whether the first three are readable is for the rules to say
-abbrev pub Update : Ty
-Update = table (Bytes & Bytes & Bytes & Uint64 & end)
+abbrev pub UpdateTable : Ty
+UpdateTable = table (Bytes & Bytes & Bytes & Uint64 & end)
 
 abbrev pub Updates : Ty
-Updates = dynvec Update
+Updates = dynvec UpdateTable
 
 -- the bytes of field j of update i, and where they start
 unfoldable pub field_bytes : List ℕ → ℕ → ℕ → List ℕ

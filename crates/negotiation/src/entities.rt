@@ -6,7 +6,7 @@ use molecule::Entity;
 pub struct Update;
 
 impl Entity for Update {
-    ghost ty = { form.Update };
+    ghost ty = { form.UpdateTable };
 
     // The peer's transaction, the records, the source lock, and the fee rate.
     fn is(s: &[u8]) -> bool {

@@ -23,7 +23,7 @@ use Rattle.transaction.specs.Ckb.{Record, Records}
 use Rattle.transaction.proofs.ListLaws.{option-some}
 use Rattle.rules.specs.Cells.{Cell, record_cell, record_at, lent_at}
 use Rattle.error.specs.Outcome.{Outcome, fine, refused, check, check_with, ◌>>◌, ◌>>=◌, refusal, told_by}
-use Rattle.rules.specs.Surplus.{total, capacity_of}
+use Rattle.rules.specs.Surplus.{total, cell_capacity}
 use Rattle.rules.specs.Judge.{has_lock, live, live_cells, of_records, counted, tally}
 use Rattle.error.specs.declared.Refusal.{Refusal}
 use Rattle.error.specs.Refusal.{number, values}
@@ -86,7 +86,7 @@ record_is s i b ex e = rw (← ex, e)
 pub record Gathering (source type s : List ℕ) (first n i from : ℕ) (capacity : Shannons) (token : Result Tokens Refusal) : Type 0 where
   pub walked : Walked (option Record) s n i from
   pub alive : verdict (live source first (span (record_at s) 0 (item_count s))) ≡ verdict (live source (first + i) (span (record_at s) i (n - i)))
-  pub sums : Sums (record_cell_at s) n i capacity (total capacity_of (record_cells s))
+  pub sums : Sums (record_cell_at s) n i capacity (total cell_capacity (record_cells s))
   pub paid : verdict (tally of_records type 0 (record_cells s)) ≡ tallied type (told_by token_count token) (span (record_cell_at s) i (n - i))
 
 module _ (source type s : List ℕ) (first : ℕ) where
@@ -116,7 +116,7 @@ module _ (source type s : List ℕ) (first : ℕ) where
         record {
           walked = walked_none (option Record) s e h q ea;
           alive = rw (← e) (ap₂ (λ (j : ℕ) (rs : List (Option Cell)). verdict (live source j rs)) z (span-whole (record_at s) n));
-          sums = record { rest = rw (← e) (zero-add _ ∙ ap (total capacity_of) (sym (span-whole (record_cell_at s) n))); far = omega arith };
+          sums = record { rest = rw (← e) (zero-add _ ∙ ap (total cell_capacity) (sym (span-whole (record_cell_at s) n))); far = omega arith };
           paid = rw (← e) (ap (λ (cs : List Cell). verdict (tally of_records type 0 cs)) (span-whole (record_cell_at s) n));
         }
 
@@ -160,7 +160,7 @@ module _ {source type s : List ℕ} {first n i from : ℕ} {capacity : Shannons}
             (g.alive ∙ rw (span-on (record_at s) i n l, record_is s i false item (ne_eqb (length x) 0 z), ← eo, u)) h
 
         pub gather_more : (y : Shannons) {c : Shannons} (t : Result Tokens Refusal) → from ≤ to → not q ≡ false → o ≡ false → Fits w32 n
-            → shannon_count y ≡ capacity_of (record_cell x) → shannon_count y < 2 ^ 64 → c ≡ capped_sum capacity y
+            → shannon_count y ≡ cell_capacity (record_cell x) → shannon_count y < 2 ^ 64 → c ≡ capped_sum capacity y
             → told_by token_count t ≡ verdict (and_record type (known (told_by token_count token)) (record_cell x)) → Gathering source type s first n (i + 1) to c t
         unfolding live line_with followed lines.◌>>◌ verdict first_failing check_with ◌>>◌ record_cell_at
         gather_more y t m u v w ey sy ec et =
@@ -169,6 +169,6 @@ module _ {source type s : List ℕ} {first n i from : ℕ} {capacity : Shannons}
             record {
               walked = walked_more g.walked l e k (option-some Record x z eq) m u;
               alive = g.alive ∙ rw (span-on (record_at s) i n l, record_is s i false item (ne_eqb (length x) 0 z), ← eo, v, j);
-              sums = sums-more g.sums y l w (ey ∙ ap capacity_of b) sy ec;
+              sums = sums-more g.sums y l w (ey ∙ ap cell_capacity b) sy ec;
               paid = g.paid ∙ rw (span-on (record_cell_at s) i n l) (tallied_more type (told_by token_count token) (record_cell_at s i) _ ∙ ap (λ (p : Outcome ℕ). tallied type p (span (record_cell_at s) (i + 1) (n - (i + 1)))) (sym (et ∙ ap (λ (y : Cell). verdict (and_record type (known (told_by token_count token)) y)) b)));
             }

@@ -4,7 +4,7 @@ use Rattle.units.specs.Units.{shannon_count, token_count}
 use Rattle.error.specs.Outcome.{Outcome, fine, ◌>>=◌, told_by}
 use Rattle.transaction.specs.Tx.{Tx}
 use Rattle.rules.specs.Cells.{Cell, LentRecords}
-use Rattle.rules.specs.Surplus.{total, capacity_of}
+use Rattle.rules.specs.Surplus.{total, cell_capacity}
 use Rattle.rules.specs.Lines.{verdict}
 use Rattle.rules.specs.Judge.{of_records, tally, spent}
 use Rattle.accounts.specs.declared.Brought as accounts
@@ -16,7 +16,7 @@ pub record Brought : Type 0 where
 
 -- what cells bring in, in capacity and in the expected token; untyped, the latter means nothing
 abbrev pub brought : List ℕ → List Cell → Brought
-brought type cells = record { capacity = total capacity_of cells; token = verdict (tally of_records type 0 cells) }
+brought type cells = record { capacity = total cell_capacity cells; token = verdict (tally of_records type 0 cells) }
 
 -- the same in numbers
 abbrev pub brought_by : accounts.Brought → Brought

@@ -18,7 +18,7 @@ use Rattle.lists.specs.Lists.{is_empty}
 use Rattle.transaction.specs.Ckb.{Transaction}
 use Rattle.transaction.specs.Tx.{Tx, tx_at}
 use Rattle.rules.specs.Cells.{Cell, cells, LentRecords, lent_at}
-use Rattle.rules.specs.Surplus.{total, first, added, capacities, capacity_of, amount_of, token_of, is_of, has_amount, expected}
+use Rattle.rules.specs.Surplus.{total, first, added, capacities, cell_capacity, amount_of, token_of, is_of, has_amount, expected}
 use Rattle.rules.specs.Lines.{line, line_with, answer, verdict, followed, line_holds, ◌>>=◌, ◌>>◌}
 use Rattle.rules.specs.Judge.{Call, judge, judge_against, ruling, ruling_against, opening, closing, scripts, limits, comparison, spent, live, live_cells, counted, Names, of_records, of_outputs, tally, settled, growth, token_delta, funding_output_delta, covered, token_account, accounts, contribution}
 use Rattle.rules.specs.Run.{handed_back, lent_cells, next, update_for_peer}
@@ -155,9 +155,9 @@ token_balanced (b ∷ bs) ours peer records paid e t =
     account_balanced (b ∷ bs) amount_of ours peer records paid (accounted (b ∷ bs) (growth amount_of ours peer) records (added ours peer) paid e) (leb→le (first amount_of (cells ours)) (first amount_of (cells peer)) t)
 
 record Grown (type : List ℕ) (ours peer : Tx) (delta : Figures) : Type 0 where
-  pub capacity : first capacity_of (cells ours) ≤ first capacity_of (cells peer)
+  pub capacity : first cell_capacity (cells ours) ≤ first cell_capacity (cells peer)
   pub amount : Grows type ours peer
-  pub is : record { capacity = growth capacity_of ours peer; token = cond (is_empty type) 0 (growth amount_of ours peer) } ≡ delta
+  pub is : record { capacity = growth cell_capacity ours peer; token = cond (is_empty type) 0 (growth amount_of ours peer) } ≡ delta
 
 -- of a typed update
 token-grown : (ours peer : Tx) (t : ℕ) → verdict (token_delta ours peer) ≡ fine t → T (leb (first amount_of (cells ours)) (first amount_of (cells peer))) × (growth amount_of ours peer ≡ t)
@@ -185,7 +185,7 @@ grown type ours peer delta e =
     record {
       capacity = leb→le _ _ capacityGrows;
       amount = amountGrows;
-      is = ap (λ (n : ℕ). record { capacity = growth capacity_of ours peer; token = n }) is ∙ answer-accepted e₄;
+      is = ap (λ (n : ℕ). record { capacity = growth cell_capacity ours peer; token = n }) is ∙ answer-accepted e₄;
     }
 
 left_over : (opening : Bool) (gained needed rate bytes paid : ℕ) → verdict (covered opening gained needed rate bytes) ≡ fine paid → gained ≡ paid + needed
@@ -197,12 +197,12 @@ left_over opening gained needed rate bytes paid e =
     let p : gained - needed ≡ paid = answer-accepted e₂ in
     omega arith
 
-capacity_free : (cs : List Cell) → All (Settled capacity_of) cs
-unfolding capacity_of
-capacity_free cs = data_free capacity_of (λ _ _. refl) cs
+capacity_free : (cs : List Cell) → All (Settled cell_capacity) cs
+unfolding cell_capacity
+capacity_free cs = data_free cell_capacity (λ _ _. refl) cs
 
 contributed : (type : List ℕ) (ours peer : Tx) (records : List Cell) (rate bytes : ℕ) (s : Figures)
-    → verdict (contribution type ours peer (total capacity_of records) (tally of_records type 0 records) rate bytes) ≡ fine s
+    → verdict (contribution type ours peer (total cell_capacity records) (tally of_records type 0 records) rate bytes) ≡ fine s
     → Balanced capacities ours peer records s.capacity × Balanced (expected type) ours peer records s.token
 unfolding contribution accounts
 contributed type ours peer records rate bytes s e =
@@ -212,7 +212,7 @@ contributed type ours peer records rate bytes s e =
     let paid : capacity ≡ s.capacity = ap (λ (r : Figures). r.capacity) (answer-accepted e₃) in
     let tokenPaid : token ≡ s.token = ap (λ (r : Figures). r.token) (answer-accepted e₃) in
     let g : Grown type ours peer delta = grown type ours peer delta d in
-    let by : growth capacity_of ours peer ≡ delta.capacity = ap (λ (r : Figures). r.capacity) g.is in
+    let by : growth cell_capacity ours peer ≡ delta.capacity = ap (λ (r : Figures). r.capacity) g.is in
     let tokenBy : delta.token ≡ cond (is_empty type) 0 (growth amount_of ours peer) = ap (λ (r : Figures). r.token) (sym g.is) in (
       record {
         settled = capacity_free (added ours peer);

@@ -9,7 +9,7 @@ use Rattle.transaction.specs.Tx.{Tx, tx_at, lock_of}
 use Rattle.units.specs.{Fee.fee_shannons, Units.Figures}
 use Rattle.rules.specs.Cells.{Cell, cells, LentRecords, lent_at}
 use Rattle.rules.specs.Lines.{Name, Ruled, line, line_with, answer, verdict, ◌>>=◌, ◌>>◌}
-use Rattle.rules.specs.Surplus.{total, first, added, capacity_of, amount_of, is_of, has_amount}
+use Rattle.rules.specs.Surplus.{total, first, added, cell_capacity, amount_of, is_of, has_amount}
 
 -- what a call brings
 pub record Call : Type 0 where
@@ -116,9 +116,9 @@ unfoldable pub funding_output_delta : List ℕ → Tx → Tx → Ruled Figures
 funding_output_delta type ours peer = do
   line 5 "output 0 missing" (not (is_empty peer.outputs))
   line 5 "output 0's data missing" (not (is_empty peer.outputs_data))
-  line 5 "its capacity falls" (leb (first capacity_of (cells ours)) (first capacity_of (cells peer)))
+  line 5 "its capacity falls" (leb (first cell_capacity (cells ours)) (first cell_capacity (cells peer)))
   token ← cond (is_empty type) (answer 0) (token_delta ours peer)
-  answer (record { capacity = growth capacity_of ours peer; token = token })
+  answer (record { capacity = growth cell_capacity ours peer; token = token })
 
 -- ours has no inputs and no outputs
 abbrev pub unfunded : Tx → Bool
@@ -180,7 +180,7 @@ token_account type growth paid outs = cond (is_empty type) (answer 0) account
 -- both accounts of records that bring in so many shannons and tokens, with output 0 grown by `grown` and with these outputs added
 unfoldable pub accounts : List ℕ → Bool → ℕ → Ruled ℕ → List Cell → ℕ → ℕ → Figures → Ruled Figures
 accounts type opening gained paid outs rate size grown = do
-  capacity ← covered opening gained (grown.capacity + total capacity_of outs) rate size
+  capacity ← covered opening gained (grown.capacity + total cell_capacity outs) rate size
   token ← token_account type grown.token paid outs
   answer (record { capacity = capacity; token = token })
 
@@ -203,7 +203,7 @@ opening lock type source ours bytes = do
 unfoldable pub closing : List ℕ → List ℕ → Tx → Tx → ℕ → ℕ → LentRecords → Ruled Figures
 closing type source ours peer rate size lent = do
   records ← spent source ours peer lent
-  contribution type ours peer (total capacity_of records) (tally of_records type 0 records) rate size
+  contribution type ours peer (total cell_capacity records) (tally of_records type 0 records) rate size
 
 -- against our transaction, as it was read
 unfoldable pub ruling_against : List ℕ → List ℕ → Tx → Call → Ruled Figures

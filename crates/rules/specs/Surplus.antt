@@ -32,11 +32,11 @@ surplus m earlier later records =
 
 -- ---- capacity
 
-unfoldable pub capacity_of : Cell → ℕ
-capacity_of c = tx.capacity_of c.output
+unfoldable pub cell_capacity : Cell → ℕ
+cell_capacity c = tx.capacity_of c.output
 
 abbrev pub capacities : Measure
-capacities = record { at_zero = capacity_of; of = capacity_of }
+capacities = record { at_zero = cell_capacity; of = cell_capacity }
 
 -- ---- tokens
 
