@@ -4,8 +4,9 @@
   tools/cases.py          the known outcomes, into examples/cases
   tools/cases.py DIR      these, and for each line of the rules' table the case in which it alone fails, into DIR
 
-The names are those of crates/known_cases/specs/Cases.antt, crates/known_outcomes/specs/Outcomes.antt and crates/known_lines/specs/Alone.antt, where the same cases are
-values of the schema and the answers are proved, but for `record_unreadable`, which stands there in another form. Nothing here judges."""
+The names are those of crates/case_parts/specs/Parts.antt, crates/known_cases/specs/Cases.antt, crates/known_outcomes/specs/Outcomes.antt and
+crates/known_lines/specs/Alone.antt, where the same cases are values of the schema and the answers are proved, but for `record_unreadable`, which stands there in
+another form. Nothing here judges."""
 import os
 import sys
 

@@ -13,8 +13,8 @@ use Rattle.base_lists.specs.BaseLists.{placeholder, output_list, data_list, witn
 use Rattle.cell_deps.specs.CellDeps.{dep_pushed, push_all, cell_deps}
 use Rattle.funding_builder.specs.Base as base
 use Rattle.funding_builder.specs.Base.{packed, base_tx, lists, supplied, with_pick, with_cell, with_request, build_base}
-use Rattle.known_cases.proofs.Computing.{computing_updates}
+use Rattle.case_parts.proofs.Computing.{computing_parts}
 
 unfoldable pub computing : Unit {0}
-unfolding computing_updates flatten change_capacity args_of cell_of cell_of_sums funding_cell cell_output plus_cell enough_or pick_from pick_typed bytes_item fix_list item_or items_after_first if_any if_positive raw_bytes tx_bytes fits picked_input picked input_list placeholder output_list data_list witness_list dep_pushed push_all cell_deps in_room answer_by base.change_output_capacity packed base_tx lists supplied with_pick with_cell with_request build_base
+unfolding computing_parts flatten change_capacity args_of cell_of cell_of_sums funding_cell cell_output plus_cell enough_or pick_from pick_typed bytes_item fix_list item_or items_after_first if_any if_positive raw_bytes tx_bytes fits picked_input picked input_list placeholder output_list data_list witness_list dep_pushed push_all cell_deps in_room answer_by base.change_output_capacity packed base_tx lists supplied with_pick with_cell with_request build_base
 computing = tt

@@ -1,7 +1,7 @@
 -- Every row is what the definitions compute.
 use mathlib.Core.Path.{refl}
-use Rattle.known_cases.specs.Rows.{AllRight}
-use Rattle.known_cases.proofs.Rows.{◌and◌, done}
+use Rattle.case_parts.specs.Rows.{AllRight}
+use Rattle.case_parts.proofs.Rows.{◌and◌, done}
 use Rattle.known_bases.specs.Bases.{rows}
 use Rattle.known_bases.proofs.Computing.{computing}
 use Rattle.known_bases.proofs.WidthLaws.{width_passes, width_over, width_leaves}

@@ -3,8 +3,8 @@ use mathlib.Core.Path.{refl}
 use Rattle.funding_cell.specs.FundingCell.{build_funding_cell}
 use Rattle.udt_cells.specs.Change.{with_output, with_change, lent, udt_made, udt_inputs_outputs}
 use Rattle.transaction_writer.specs.Written.{in_form, bytes_if}
-use Rattle.known_cases.specs.Rows.{AllRight}
-use Rattle.known_cases.proofs.Rows.{◌and◌, done}
+use Rattle.case_parts.specs.Rows.{AllRight}
+use Rattle.case_parts.proofs.Rows.{◌and◌, done}
 use Rattle.known_bases.specs.Parts.{parts}
 use Rattle.known_bases.proofs.Computing.{computing}
 

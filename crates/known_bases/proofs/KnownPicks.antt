@@ -1,8 +1,8 @@
 -- Every row is what the definitions compute.
 use mathlib.Core.Path.{refl}
 use Rattle.udt_cells.specs.Change.{with_output, with_change, lent, udt_made, udt_inputs_outputs}
-use Rattle.known_cases.specs.Rows.{AllRight}
-use Rattle.known_cases.proofs.Rows.{◌and◌, done}
+use Rattle.case_parts.specs.Rows.{AllRight}
+use Rattle.case_parts.proofs.Rows.{◌and◌, done}
 use Rattle.known_bases.specs.Picks.{picks, sizes, changes}
 use Rattle.known_bases.proofs.Computing.{computing}
 

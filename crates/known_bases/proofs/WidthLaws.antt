@@ -25,7 +25,7 @@ use Rattle.transaction_writer.specs.Written.{fits, in_room, written}
 use Rattle.transaction_writer.proofs.PutLaws.{tx_length}
 use Rattle.udt_cells.specs.Pick.{Pick}
 use Rattle.funding_builder.specs.Base.{Packed, packed, base_tx, build_base}
-use Rattle.known_cases.specs.Cases.{our_lock, room}
+use Rattle.case_parts.specs.Parts.{our_lock, room}
 use Rattle.known_bases.specs.Bases.{request, scripts, wide_lock, numbers, answer, buffer}
 use Rattle.known_bases.proofs.Computing.{computing}
 

@@ -10,9 +10,9 @@ use Rattle.error.specs.Outcome.{Outcome, fine, refused}
 use Rattle.funding_cell.specs.declared.{FundingRequest.FundingRequest}
 use Rattle.transaction_writer.specs.Written.{written}
 use Rattle.funding_builder.specs.Base.{Lent, build_base}
-use Rattle.known_cases.specs.Rows.{Row, ◌gives◌}
-use Rattle.known_cases.specs.Cases.{plain_script, expected_lock, our_lock, token_type, input, inputs, dep, header, output, plain, token, amount, room}
-use Rattle.known_cases.specs.Cases.{transaction, spending}
+use Rattle.case_parts.specs.Rows.{Row, ◌gives◌}
+use Rattle.case_parts.specs.Parts.{plain_script, expected_lock, our_lock, token_type, input, inputs, dep, header, output, plain, token, amount, room}
+use Rattle.case_parts.specs.Parts.{transaction, spending}
 
 -- ---- what is lent
 

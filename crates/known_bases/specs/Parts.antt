@@ -10,8 +10,8 @@ use Rattle.funding_cell.specs.declared.{FundingRequest.FundingRequest}
 use Rattle.funding_cell.specs.FundingCell.{build_funding_cell}
 use Rattle.udt_cells.specs.Change.{Built, udt_inputs_outputs}
 use Rattle.transaction_writer.specs.Written.{tx_bytes, in_form, bytes_if, written}
-use Rattle.known_cases.specs.Rows.{Row, ◌gives◌}
-use Rattle.known_cases.specs.Cases.{our_lock, token_type, plain, amount, room, spending, bare, usual, numbers}
+use Rattle.case_parts.specs.Rows.{Row, ◌gives◌}
+use Rattle.case_parts.specs.Parts.{our_lock, token_type, plain, amount, room, spending, bare, usual, numbers}
 use Rattle.known_bases.specs.Bases as bases
 use Rattle.known_bases.specs.Bases.{token_cell, three_cells, no_list}
 

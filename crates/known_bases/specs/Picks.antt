@@ -8,8 +8,8 @@ use Rattle.error.specs.Outcome.{Outcome, fine, refused}
 use Rattle.cell_output.specs.CellOutput.{cell_output}
 use Rattle.udt_cells.specs.Pick.{Pick, pick_from}
 use Rattle.udt_cells.specs.Change.{Built, built, capacity_for, udt_inputs_outputs}
-use Rattle.known_cases.specs.Rows.{Row, ◌gives◌}
-use Rattle.known_cases.specs.Cases.{amount, room}
+use Rattle.case_parts.specs.Rows.{Row, ◌gives◌}
+use Rattle.case_parts.specs.Parts.{amount, room}
 use Rattle.known_bases.specs.Bases.{token_cell, three_cells, no_list}
 
 -- ---- the pick

@@ -8,9 +8,9 @@ use lib.ListN.{replicate}
 use Rattle.error.specs.Outcome.{fine}
 use Rattle.exclusion_entries.specs.Exclusions.{truncate_on}
 use Rattle.exclusion_entries.specs.Entries.{FitEntry}
-use Rattle.known_cases.specs.Rows.{AllRight}
-use Rattle.known_cases.specs.Cases.{bare}
-use Rattle.known_cases.proofs.Rows.{◌and◌, done}
+use Rattle.case_parts.specs.Rows.{AllRight}
+use Rattle.case_parts.specs.Parts.{bare}
+use Rattle.case_parts.proofs.Rows.{◌and◌, done}
 use Rattle.known_exclusions.specs.Exclusions.{on_bytes, left, add, commit, zeros, lent, hash, room, listed, pending_of, committed_of, transactions, pending7, committed7, one, two, three, twice, excluded_by, no_map, unread, full, works, doubled, lists}
 use Rattle.known_exclusions.proofs.Computing.{computing}
 use Rattle.known_exclusions.proofs.LentLaws.{Holds, add-on, commit-on, remove-on, truncate-on, migrate-on, apply-on, left-holds, zeros-hold, lent-holds, pending-fits, committed-fits, transactions-fit}

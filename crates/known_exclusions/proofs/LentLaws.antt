@@ -22,7 +22,7 @@ use Rattle.exclusion_entries.specs.Exclusions.{MapEntry, commit_on, remove_on, t
 use Rattle.exclusion_entries.specs.Entries.{block_of, map_bytes, FitEntry, excluded_at, is_map}
 use Rattle.exclusion_entries.proofs.MapLaws.{map-long, map-size, map-zeros, zeros_are, put_is, splice-back}
 use Rattle.exclusion_entries.specs.Calls.{map_table, with_tx}
-use Rattle.known_cases.specs.Cases.{point}
+use Rattle.case_parts.specs.Parts.{point}
 use Rattle.known_exclusions.specs.Exclusions.{on_bytes, add, commit, remove, truncate, migrate, apply, left, puts, zeros, lent, entry, pending_of, committed_of}
 
 pub record Holds (s : List ℕ) (l : List MapEntry) : Type 0 where

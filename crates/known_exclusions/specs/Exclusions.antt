@@ -14,8 +14,8 @@ use Rattle.table_bytes.specs.Lent.{on_table}
 use Rattle.exclusion_entries.specs.Exclusions.{MapEntry, commit_on, remove_on, truncate_on, apply_on, add_on, migrate_on}
 use Rattle.exclusion_entries.specs.Entries.{map_bytes, excluded_at}
 use Rattle.exclusion_entries.specs.Calls.{map_table, with_tx}
-use Rattle.known_cases.specs.Rows.{Row, ◌gives◌}
-use Rattle.known_cases.specs.Cases.{bare, point}
+use Rattle.case_parts.specs.Rows.{Row, ◌gives◌}
+use Rattle.case_parts.specs.Parts.{bare, point}
 
 -- ---- the calls on bytes s: the outcome, and the bytes after it
 

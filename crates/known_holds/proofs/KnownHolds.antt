@@ -17,8 +17,8 @@ use Rattle.transaction.specs.Ckb.{OutPoint, OutPoints}
 use Rattle.error.specs.Outcome.{refused, check, check_with, ◌>>◌}
 use Rattle.hold_records.specs.declared.{Hold.Hold}
 use Rattle.hold_records.specs.Holds.{hold_funding}
-use Rattle.known_cases.specs.Rows.{AllRight}
-use Rattle.known_cases.proofs.Rows.{◌and◌, done}
+use Rattle.case_parts.specs.Rows.{AllRight}
+use Rattle.case_parts.proofs.Rows.{◌and◌, done}
 use Rattle.known_holds.specs.Holds.{returning, long, locking, taking, longest, naming}
 use Rattle.known_holds.proofs.Computing.{computing}
 use Rattle.known_holds.proofs.LongLaws.{spent-fit, spent-over}

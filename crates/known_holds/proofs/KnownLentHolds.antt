@@ -1,9 +1,9 @@
 -- Every row is what the definitions compute.
 use mathlib.Core.Path.{refl}
 use Rattle.hold_records.specs.declared.{Taker.Taker}
-use Rattle.known_cases.specs.Rows.{AllRight}
-use Rattle.known_cases.specs.Cases.{point, room}
-use Rattle.known_cases.proofs.Rows.{◌and◌, done}
+use Rattle.case_parts.specs.Rows.{AllRight}
+use Rattle.case_parts.specs.Parts.{point, room}
+use Rattle.case_parts.proofs.Rows.{◌and◌, done}
 use Rattle.known_holds.specs.Holds.{A, B, of1, of2, none}
 use Rattle.known_holds.specs.LentHolds.{funded, watched, released, locked, naming, taken}
 use Rattle.known_holds.proofs.Computing.{computing}

@@ -20,7 +20,7 @@ use Rattle.out_points.proofs.ListLaws.{length-points, length_list}
 use Rattle.out_points.proofs.AgainLaws.{list_back}
 use Rattle.hold_records.specs.declared.{Hold.Hold, Taker.Taker}
 use Rattle.hold_records.specs.Holds.{is_busy, is_new, firsts, others, take_these, take_free, take_cells, after_take}
-use Rattle.known_cases.specs.Cases.{ms, room}
+use Rattle.case_parts.specs.Parts.{ms, room}
 use Rattle.known_holds.specs.Holds.{A, of1, none, takes}
 use Rattle.known_holds.proofs.Computing.{computing}
 

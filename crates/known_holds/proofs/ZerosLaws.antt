@@ -16,7 +16,7 @@ use Rattle.table_bytes.specs.declared.{Place.Place}
 use Rattle.table_bytes.specs.Places.{place_at, place_of}
 use Rattle.table_bytes.specs.Lent.{on_table}
 use Rattle.held_bytes.specs.HeldBytes.{owner_of, hold_of, held_of, held_at, held_table}
-use Rattle.known_cases.specs.Cases.{ms, point}
+use Rattle.case_parts.specs.Parts.{ms, point}
 use Rattle.known_holds.specs.Holds.{funding}
 use Rattle.known_holds.specs.LentHolds.{on_bytes, hold, watch, release, lock_on, lock, named_on, named, takes_on, takes, zeros, of_zeros}
 use Rattle.known_holds.proofs.Computing.{computing}

@@ -10,8 +10,8 @@ use Rattle.hold_records.specs.declared.{Owner.Owner, Hold.Hold, Taker.Taker}
 use Rattle.units.specs.declared.{Millis.Millis}
 use Rattle.hold_records.specs.Holds.{held_by, hold_funding, hold_for_watchtower, release_for_watchtower, lock_held, unavailable, take_cells, after_lock}
 use Rattle.hold_records.specs.Holds.{after_take}
-use Rattle.known_cases.specs.Rows.{Row, ◌gives◌}
-use Rattle.known_cases.specs.Cases.{ms, point, room}
+use Rattle.case_parts.specs.Rows.{Row, ◌gives◌}
+use Rattle.case_parts.specs.Parts.{ms, point, room}
 
 -- ---- what the rows are built from
 

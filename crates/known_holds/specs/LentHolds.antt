@@ -11,8 +11,8 @@ use Rattle.hold_records.specs.declared.{Hold.Hold, Taker.Taker}
 use Rattle.hold_records.specs.Holds.{cells_of, hold_funding, hold_for_watchtower, release_for_watchtower, lock_held, unavailable, take_cells, records_after}
 use Rattle.table_bytes.specs.Lent.{on_table}
 use Rattle.held_bytes.specs.HeldBytes.{held_at, held_table}
-use Rattle.known_cases.specs.Rows.{Row, ◌gives◌}
-use Rattle.known_cases.specs.Cases.{ms, point, room}
+use Rattle.case_parts.specs.Rows.{Row, ◌gives◌}
+use Rattle.case_parts.specs.Parts.{ms, point, room}
 use Rattle.known_holds.specs.Holds.{A, B, C, funding, tower, of1, of2, none, no_list}
 
 -- ---- the calls on bytes s: the outcome, the bytes after it, and the buffers

@@ -9,8 +9,8 @@ use Rattle.answer_words.specs.Answers.{count_words}
 use Rattle.transaction_lists.specs.Lists.{list_of, list_in, start_in, place_in_bytes}
 use Rattle.transaction_lists.specs.Found.{version_found, count_found}
 use Rattle.item_places.specs.Places.{places_found}
-use Rattle.known_cases.specs.Rows.{AllRight}
-use Rattle.known_cases.proofs.Rows.{◌and◌, done}
+use Rattle.case_parts.specs.Rows.{AllRight}
+use Rattle.case_parts.proofs.Rows.{◌and◌, done}
 use Rattle.known_outcomes.proofs.Computing.{computing}
 use Rattle.known_lines.specs.Found.{numbers, places}
 

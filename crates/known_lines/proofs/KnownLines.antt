@@ -7,7 +7,7 @@ use lib.ListN.{take}
 use Rattle.molecule.specs.Partial.{All}
 use Rattle.known_cases.specs.Cases.{untyped, crowd, answer}
 use Rattle.known_cases.proofs.Largest.{bytes-over}
-use Rattle.known_cases.proofs.Rows.{◌and◌, done}
+use Rattle.case_parts.proofs.Rows.{◌and◌, done}
 use Rattle.rules.specs.Lines.{Line}
 use Rattle.known_lines.specs.Lines.{lines}
 use Rattle.known_lines.specs.Alone.{Row, groups, failing_in, whole}

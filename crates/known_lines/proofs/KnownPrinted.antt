@@ -4,8 +4,8 @@ use Rattle.transaction_writer.specs.Written.{in_room}
 use Rattle.error.specs.Outcome.{number_of, values_of}
 use Rattle.words.specs.Words.{set_words, in_words, writing}
 use Rattle.answer_words.specs.Answers.{count_words}
-use Rattle.known_cases.specs.Rows.{AllRight}
-use Rattle.known_cases.proofs.Rows.{◌and◌, done}
+use Rattle.case_parts.specs.Rows.{AllRight}
+use Rattle.case_parts.proofs.Rows.{◌and◌, done}
 use Rattle.known_outcomes.proofs.Computing.{computing}
 use Rattle.known_lines.specs.Printed.{printed, in_buffer}
 

@@ -7,8 +7,9 @@ use Rattle.transaction.specs.Ckb.{CellOutput, Records}
 use Rattle.rules.specs.Judge.{Call}
 use Rattle.rules.specs.Lines.{failing}
 use Rattle.known_lines.specs.Lines.{lines}
-use Rattle.known_cases.specs.Cases.{expected_lock, our_lock, token_type, input, dep, header, inputs, output, plain, token, amount, spending, usual, of_version}
-use Rattle.known_cases.specs.Cases.{with_deps, with_headers, with_inputs, holding, crowd, cell, not_live, offer, Case, untyped, typed}
+use Rattle.case_parts.specs.Parts.{expected_lock, our_lock, token_type, input, dep, header, inputs, output, plain, token, amount, spending, usual, of_version}
+use Rattle.case_parts.specs.Parts.{with_deps, with_headers, with_inputs, holding, cell, not_live}
+use Rattle.known_cases.specs.Cases.{crowd, offer, Case, untyped, typed}
 
 -- a case, the lines that fail in it, and the answer
 pub record Row : Type 0 where

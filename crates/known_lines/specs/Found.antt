@@ -4,8 +4,8 @@ use Rattle.words.specs.Words.{in_words, writing}
 use Rattle.answer_words.specs.Answers.{count_words}
 use Rattle.transaction_lists.specs.Found.{version_found, count_found}
 use Rattle.item_places.specs.Places.{places_found, listed}
-use Rattle.known_cases.specs.Rows.{Row, ◌gives◌}
-use Rattle.known_cases.specs.Cases.{plain, header, deps, inputs, room, transaction}
+use Rattle.case_parts.specs.Rows.{Row, ◌gives◌}
+use Rattle.case_parts.specs.Parts.{plain, header, deps, inputs, room, transaction}
 
 -- version 9, two cell deps, a header dep, three inputs, an output of 77 bytes, two data entries and a witness
 abbrev asked : List ℕ

@@ -8,8 +8,8 @@ use Rattle.error.specs.Outcome.{fine}
 use Rattle.transaction_writer.specs.Written.{written}
 use Rattle.words.specs.Words.{writing}
 use Rattle.answer_words.specs.Answers.{count_words}
-use Rattle.known_cases.specs.Rows.{Row, ◌gives◌}
-use Rattle.known_cases.specs.Cases.{plain, room, bare, usual, cell, not_live}
+use Rattle.case_parts.specs.Rows.{Row, ◌gives◌}
+use Rattle.case_parts.specs.Parts.{plain, room, bare, usual, cell, not_live}
 use Rattle.known_outcomes.specs.CaseFiles.{ascii, file}
 
 -- bytes that are no transaction and no script

@@ -1,8 +1,8 @@
 -- Every row is what the definitions compute.
 use mathlib.Core.Path.{refl}
 use Rattle.known_orders.specs.Orders.{orders}
-use Rattle.known_cases.specs.Rows.{AllRight}
-use Rattle.known_cases.proofs.Rows.{◌and◌, done}
+use Rattle.case_parts.specs.Rows.{AllRight}
+use Rattle.case_parts.proofs.Rows.{◌and◌, done}
 use Rattle.known_cases.proofs.Computing.{computing_updates}
 
 pub known_orders : AllRight orders

@@ -7,9 +7,10 @@ use Rattle.molecule.specs.Items.{join}
 use Rattle.molecule.specs.Molecule.{Value, option, encode}
 use Rattle.transaction.specs.Ckb.{CellOutput, Record, Records}
 use Rattle.rules.specs.Judge.{Call}
-use Rattle.known_cases.specs.Rows.{Row, ◌gives◌}
-use Rattle.known_cases.specs.Cases.{plain_script, expected_lock, our_lock, input, inputs, dep, deps, header, output, plain, token, amount, transaction}
-use Rattle.known_cases.specs.Cases.{spending, bare, usual, of_version, with_deps, with_headers, with_inputs, holding, cell, not_live, offer, Case, untyped}
+use Rattle.case_parts.specs.Rows.{Row, ◌gives◌}
+use Rattle.case_parts.specs.Parts.{plain_script, expected_lock, our_lock, input, inputs, dep, deps, header, output, plain, token, amount, transaction}
+use Rattle.case_parts.specs.Parts.{spending, bare, usual, of_version, with_deps, with_headers, with_inputs, holding, cell, not_live}
+use Rattle.known_cases.specs.Cases.{offer, Case, untyped}
 use Rattle.known_cases.specs.Cases.{typed, answer}
 
 -- ---- transactions

@@ -11,8 +11,8 @@ use Rattle.rules.specs.Lines.{line, verdict, ◌>>◌}
 use Rattle.known_outcomes.specs.Outcomes.{empty_tx}
 use Rattle.known_outcomes.specs.Decided.{decided}
 use Rattle.known_outcomes.proofs.Computing.{computing}
-use Rattle.known_cases.specs.Rows.{AllRight}
-use Rattle.known_cases.proofs.Rows.{◌and◌, done}
+use Rattle.case_parts.specs.Rows.{AllRight}
+use Rattle.case_parts.proofs.Rows.{◌and◌, done}
 
 pub known_decided : AllRight decided
 unfolding computing

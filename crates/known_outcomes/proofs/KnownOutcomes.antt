@@ -4,8 +4,8 @@ use Rattle.known_outcomes.specs.Outcomes.{outcomes}
 use Rattle.known_outcomes.proofs.Computing.{computing}
 use Rattle.known_cases.proofs.Largest.{bytes_pass, bytes-over}
 use Rattle.known_exclusions.proofs.KnownExclusions.{kept-at_99, kept-at_112, dropped_at_113}
-use Rattle.known_cases.specs.Rows.{AllRight}
-use Rattle.known_cases.proofs.Rows.{◌and◌, done}
+use Rattle.case_parts.specs.Rows.{AllRight}
+use Rattle.case_parts.proofs.Rows.{◌and◌, done}
 
 pub known_outcomes : AllRight outcomes
 unfolding computing

@@ -8,7 +8,7 @@ use Rattle.negotiation.specs.Updates.{field_bytes, rate_of, calls_of, transactio
 use Rattle.words.specs.Words.{surplus_words, set_words, in_words}
 use Rattle.negotiation.specs.Words.{all_words}
 use Rattle.negotiation.specs.Replay.{accepted_of, index_after, replay_of, after_replay}
-use Rattle.known_cases.specs.Cases.{expected_lock, token_type}
+use Rattle.case_parts.specs.Parts.{expected_lock, token_type}
 use Rattle.known_outcomes.specs.Runs.{worked, opening, growing}
 use Rattle.known_outcomes.specs.Replays.{lent, lent_one}
 use Rattle.known_outcomes.proofs.Computing.{computing}

@@ -18,7 +18,7 @@ use Rattle.funding_tx.specs.Negotiation.{Called}
 use Rattle.rules.proofs.Accept.{accepted}
 use Rattle.rules.proofs.Law.{exact}
 use Rattle.rules.proofs.LawfulLaws.{step_of}
-use Rattle.known_cases.specs.Cases.{expected_lock, token_type, input, token, amount}
+use Rattle.case_parts.specs.Parts.{expected_lock, token_type, input, token, amount}
 use Rattle.known_outcomes.specs.Runs.{worked, opening, growing, spent_for, any_type, changing}
 use Rattle.known_outcomes.proofs.Computing.{computing}
 

@@ -8,7 +8,7 @@ use Rattle.std.proofs.Math.Option.{none, some}
 use Rattle.arithmetic.specs.LittleEndian.{to_le}
 use Rattle.molecule.specs.Molecule.{option, Value, encode}
 use Rattle.transaction.specs.Ckb.{CellOutput, Record}
-use Rattle.known_cases.specs.Cases.{expected_lock, our_lock, plain}
+use Rattle.case_parts.specs.Parts.{expected_lock, our_lock, plain}
 
 -- the bytes of a line
 abbrev pub ascii : String → List ℕ

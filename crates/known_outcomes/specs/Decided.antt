@@ -6,9 +6,10 @@ use Rattle.molecule.specs.Items.{join}
 use Rattle.molecule.specs.Molecule.{Value, option, encode}
 use Rattle.transaction.specs.Ckb.{CellOutput, Record, Records}
 use Rattle.rules.specs.Judge.{Call}
-use Rattle.known_cases.specs.Rows.{Row, ◌gives◌}
-use Rattle.known_cases.specs.Cases.{plain_script, expected_lock, our_lock, input, inputs, dep, deps, output, plain, token, amount, transaction, spending}
-use Rattle.known_cases.specs.Cases.{usual, holding, cell, not_live, at_rate, offer, untyped, typed, answer}
+use Rattle.case_parts.specs.Rows.{Row, ◌gives◌}
+use Rattle.case_parts.specs.Parts.{plain_script, expected_lock, our_lock, input, inputs, dep, deps, output, plain, token, amount, transaction, spending}
+use Rattle.case_parts.specs.Parts.{usual, holding, cell, not_live}
+use Rattle.known_cases.specs.Cases.{at_rate, offer, untyped, typed, answer}
 use Rattle.known_outcomes.specs.Outcomes.{empty_tx, peer_tx}
 
 -- an update that adds one input to `usual` or to `holding`: the outputs then, their data, and the record

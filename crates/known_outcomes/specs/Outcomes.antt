@@ -19,9 +19,10 @@ use Rattle.udt_cells.specs.Change.{Built, udt_inputs_outputs}
 use Rattle.case_file.specs.CaseFile.{case_line}
 use Rattle.known_outcomes.specs.CaseFiles.{ascii, file, file_at, first_file}
 use Rattle.known_exclusions.specs.Exclusions.{listed, excluded_by}
-use Rattle.known_cases.specs.Rows.{Row, ◌gives◌}
-use Rattle.known_cases.specs.Cases.{plain_script, expected_lock, our_lock, token_type, inputs, output, plain, token, amount, ms, point, spending, with_inputs}
-use Rattle.known_cases.specs.Cases.{crowd, cell, not_live, at_rate, offer, untyped, numbers, answer}
+use Rattle.case_parts.specs.Rows.{Row, ◌gives◌}
+use Rattle.case_parts.specs.Parts.{plain_script, expected_lock, our_lock, token_type, inputs, output, plain, token, amount, ms, point, spending, with_inputs}
+use Rattle.case_parts.specs.Parts.{cell, not_live, numbers}
+use Rattle.known_cases.specs.Cases.{crowd, at_rate, offer, untyped, answer}
 
 abbrev bytes : List ℕ → List ℕ
 bytes s = length s ∷ []

@@ -5,7 +5,8 @@ use Rattle.transaction.specs.Ckb.{CellInput, CellOutput}
 use Rattle.units.specs.Units.{Figures}
 use Rattle.rules.specs.Judge.{Call, judge}
 use Rattle.rules.specs.Run.{Entry, Spent, lent_cells}
-use Rattle.known_cases.specs.Cases.{inputs, plain, token, amount, spending, cell, token_type, offer}
+use Rattle.case_parts.specs.Parts.{inputs, plain, token, amount, spending, cell, token_type}
+use Rattle.known_cases.specs.Cases.{offer}
 
 -- ---- under one type: accepted, refused, accepted
 
