@@ -30,8 +30,8 @@ use Rattle.rules.specs.Cells.{Cell, pair, cells}
 use Rattle.error.specs.Outcome.{Outcome, fine, refused, told, answer_by, putting, check, check_with, ◌>>◌}
 use Rattle.lists.specs.Lists.{is_empty}
 use Rattle.units.specs.Units.{Figures}
-use Rattle.rules.specs.Step.{Prefix}
-use Rattle.rules.proofs.Telescope.{prefix_refl, prefix_trans, prefix_length}
+use Rattle.lists.specs.Prefix.{Prefix}
+use Rattle.lists.proofs.PrefixLaws.{prefix_refl, prefix_trans, prefix_length}
 use Rattle.error.proofs.Passed.{is_true, never, fine_inj, bound-fine, check-fine, check_last, then-fine}
 use Rattle.funding_cell.specs.declared.FundingRequest.{FundingRequest}
 use Rattle.funding_cell.specs.FundingCell.{funding_cell}

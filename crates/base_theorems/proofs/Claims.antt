@@ -17,7 +17,7 @@ use Rattle.rules.specs.Cells.{Cell, cells}
 use Rattle.error.specs.Outcome.{fine, told}
 use Rattle.units.specs.Units.{Figures}
 use Rattle.rules.specs.{Judge.comparison, Lines.verdict}
-use Rattle.rules.specs.Step.{Prefix}
+use Rattle.lists.specs.Prefix.{Prefix}
 use Rattle.funding_cell.specs.declared.FundingRequest.{FundingRequest}
 use Rattle.funding_cell.specs.FundingCell.{funding_cell}
 use Rattle.udt_cells.specs.Pick.{Pick, pick_typed}

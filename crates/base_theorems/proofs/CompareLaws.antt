@@ -16,8 +16,8 @@ use Rattle.error.specs.Outcome.{check}
 use Rattle.rules.specs.Surplus.{is_of}
 use Rattle.rules.specs.Judge.{at_first, has_lock, no_data_untyped, comparison}
 use Rattle.rules.specs.Lines.{verdict}
-use Rattle.rules.specs.Step.{Prefix, start, more}
-use Rattle.rules.proofs.Telescope.{prefix_refl, prefix_trans, prefix_length}
+use Rattle.lists.specs.Prefix.{Prefix, start, more}
+use Rattle.lists.proofs.PrefixLaws.{prefix_refl, prefix_trans, prefix_length}
 use Rattle.rules.proofs.Checks.{pass, last_is}
 use Rattle.list_writer.specs.ListWriter.{item_or}
 use Rattle.cell_deps.specs.CellDeps.{dep_pushed, push_all}

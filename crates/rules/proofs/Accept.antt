@@ -25,7 +25,7 @@ use Rattle.rules.specs.Run.{handed_back, lent_cells, next, update_for_peer}
 use Rattle.rules.specs.Step.{Settled, with_data, Extends, Balanced}
 use Rattle.rules.specs.Lawful.{Owed, Owes, two_figures}
 use Rattle.rules.proofs.LinesLaws.{holding, line-then, line-accepted, answer-accepted, bind-accepted, then-accepted}
-use Rattle.rules.proofs.Telescope.{prefix_length}
+use Rattle.lists.proofs.PrefixLaws.{prefix_length}
 use Rattle.rules.proofs.Tests.{agree_prefix, drop_more}
 
 -- ---- comparison

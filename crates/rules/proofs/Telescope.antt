@@ -1,42 +1,20 @@
 -- Added outputs of a chain of transactions are those of its steps, one after another, and so are their figures.
 -- Nothing here reads a verdict or a byte: what a step has to bring is the record `Step`.
 use mathlib.Core.Path.{◌≡◌, refl, sym, ap, ◌∙◌}
-use Prim.Native.Nat.{ℕ, zero, suc, ◌+◌, ◌-◌, ◌≤◌, zero-le, suc-le-suc, max}
+use Prim.Native.Nat.{ℕ, zero, suc, ◌+◌, ◌-◌, ◌≤◌, zero-le, max}
 use native.Mathlib.Nat.{le_of_suc-le-suc, not-suc-le-zero}
 use native.Mathlib.Omega.{arith}
 use mathlib.Core.List.{List, [], ◌∷◌, ◌++◌, append_assoc, append-nil}
 use lib.ListN.{length, get_or, drop, length-drop, drop_of_length-le}
 use lib.Seq.{drop-drop}
+use Rattle.lists.specs.Prefix.{Prefix, start, more}
+use Rattle.lists.proofs.PrefixLaws.{prefix_refl, prefix_trans, prefix_length, prefix_rest, prefix_tail}
 use Rattle.transaction.specs.Tx.{Tx}
 use Rattle.rules.specs.Cells.{Cell, pair, cells}
 use Rattle.molecule.specs.Partial.{All}
 use Rattle.rules.specs.Surplus.{total, first, added, Measure}
-use Rattle.rules.specs.Step.{Prefix, start, more, with_data, Settled, Extends, Step}
+use Rattle.rules.specs.Step.{with_data, Settled, Extends, Step}
 use Rattle.rules.specs.Run.{Spent, spends, inputs_of, spent_cells}
-
--- ---- prefixes
-
-module _ {A : Type 0} where
-  pub prefix_refl : (xs : List A) → Prefix xs xs
-  prefix_refl [] = start
-  prefix_refl (x ∷ xs) = more (prefix_refl xs)
-
-  pub prefix_trans : {xs ys zs : List A} → Prefix xs ys → Prefix ys zs → Prefix xs zs
-  prefix_trans start q = start
-  prefix_trans (more p) (more q) = more (prefix_trans p q)
-
-  pub prefix_length : {xs ys : List A} → Prefix xs ys → length xs ≤ length ys
-  prefix_length start = zero-le
-  prefix_length (more p) = suc-le-suc (prefix_length p)
-
-  -- what comes after a beginning
-  pub prefix_rest : {xs ys : List A} → Prefix xs ys → ys ≡ xs ++ drop (length xs) ys
-  prefix_rest start = refl
-  prefix_rest (more {x = x} p) = ap (λ (l : List A). x ∷ l) (prefix_rest p)
-
-  prefix_tail : {xs ys : List A} → Prefix xs ys → Prefix (drop 1 xs) (drop 1 ys)
-  prefix_tail start = start
-  prefix_tail (more p) = p
 
 -- ---- cells
 

@@ -9,7 +9,7 @@ use lib.Dec.{T}
 use Rattle.error.proofs.Passed.{both, is_true}
 use Rattle.lists.specs.Lists.{eq_bytes, agree}
 use Rattle.lists.proofs.EqualLaws.{eq_true}
-use Rattle.rules.specs.Step.{Prefix, start, more}
+use Rattle.lists.specs.Prefix.{Prefix, start, more}
 
 -- a list that is no longer, and has the same at each shared place, is a beginning
 pub agree_prefix : (xs ys : List (List ℕ)) → length xs ≤ length ys → T (agree xs ys) → Prefix xs ys

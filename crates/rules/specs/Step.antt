@@ -1,15 +1,11 @@
 -- What an entry owes for each acceptance, so that the law over lists of updates (docs/RULES.md, "The three demands", 3) holds of it: a step (ours:
 -- docs/DECISIONS.md, "A peer's update").
-use Rattle.std.specs.Prelude.{◌≡◌, ℕ, ◌+◌, List, [], ◌∷◌, length, drop}
+use Rattle.std.specs.Prelude.{◌≡◌, ℕ, ◌+◌, List, [], length, drop}
+use Rattle.lists.specs.Prefix.{Prefix}
 use Rattle.transaction.specs.Tx.{Tx}
 use Rattle.rules.specs.Cells.{Cell, cells}
 use Rattle.molecule.specs.Partial.{All}
 use Rattle.rules.specs.Surplus.{total, first, added, Measure}
-
--- the first list is a beginning of the second
-pub data Prefix {A : Type 0} : List A → List A → Type 0 where
-  start : {ys : List A} → Prefix [] ys
-  more : {x : A} {xs ys : List A} → Prefix xs ys → Prefix (x ∷ xs) (x ∷ ys)
 
 abbrev pub with_data : List ℕ → List ℕ → Cell
 with_data o d = record { output = o; cell_data = d }
