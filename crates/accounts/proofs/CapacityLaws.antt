@@ -7,7 +7,8 @@ use Rattle.molecule.specs.Layout.{span, item_count, item_of}
 use Rattle.lists.proofs.SpanLaws.{span-on, span-end}
 use Rattle.transaction.specs.Tx.{first_of}
 use Rattle.transaction.specs.Tx as tx
-use Rattle.rules.specs.Cells.{Cell, record_cell}
+use Rattle.transaction.specs.Cells.{Cell}
+use Rattle.rules.specs.Records.{record_cell}
 use Rattle.rules.specs.Surplus.{total, cell_capacity}
 use Rattle.accounts.specs.Added.{cell_in, cells_from}
 

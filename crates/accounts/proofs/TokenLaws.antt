@@ -6,7 +6,7 @@ use Rattle.error.specs.declared.Refusal.{Refusal}
 use Rattle.molecule.specs.Layout.{span, item_count}
 use Rattle.lists.proofs.SpanLaws.{span-on, span-end}
 use Rattle.error.specs.Outcome.{Outcome, fine, ◌>>=◌, told_by}
-use Rattle.rules.specs.Cells.{Cell}
+use Rattle.transaction.specs.Cells.{Cell}
 use Rattle.lists.specs.Lists.{is_empty}
 use Rattle.rules.specs.Judge.{of_outputs, counted, tally, settled, token_account}
 use Rattle.rules.specs.Lines.{Ruled, verdict, first_failing, answer, known}

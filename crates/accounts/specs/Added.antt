@@ -1,7 +1,7 @@
 -- Outputs with their data, from an index on (docs/RULES.md, "What the peer put in": "Added outputs are those from our output count on, never index 0").
 use Rattle.std.specs.Prelude.{ℕ, ◌-◌, List}
 use Rattle.molecule.specs.Layout.{span, item_count, item_of, entry_of}
-use Rattle.rules.specs.Cells.{Cell}
+use Rattle.transaction.specs.Cells.{Cell}
 use Rattle.accounts.specs.declared.Added.{Added}
 
 -- output i of a list of outputs, with its entry in a list of data

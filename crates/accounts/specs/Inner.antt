@@ -1,6 +1,6 @@
 -- What functions of this crate answer inside; no entry's contract cites it.
 use Rattle.std.specs.Prelude.{ℕ, List}
-use Rattle.rules.specs.Cells.{Cell}
+use Rattle.transaction.specs.Cells.{Cell}
 use Rattle.rules.specs.Judge.{of_records, counted}
 use Rattle.rules.specs.Lines.{Ruled, ◌>>=◌}
 

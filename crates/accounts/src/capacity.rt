@@ -1,7 +1,7 @@
 // The capacity account.
 ghost use Rattle.std.specs.Prelude.{◌≡◌, ◌+◌, ◌^◌, ◌<◌};
 ghost use Rattle.units.specs.Units.{shannon_count};
-ghost use Rattle.rules.specs.Cells.{record_cell};
+ghost use Rattle.rules.specs.Records.{record_cell};
 ghost use Rattle.rules.specs.Surplus.{total, cell_capacity};
 ghost use Rattle.rules.specs.Judge.{covered};
 ghost use Rattle.rules.specs.Lines.{verdict};

@@ -2,7 +2,7 @@
 // is too wide.
 ghost use Rattle.std.specs.Prelude.{◌≡◌, true, List, ℕ};
 ghost use Rattle.units.specs.Units.{token_count};
-ghost use Rattle.rules.specs.Cells.{record_cell};
+ghost use Rattle.rules.specs.Records.{record_cell};
 ghost use Rattle.rules.specs.Surplus.{is_of};
 ghost use Rattle.rules.specs.Judge.{Names, of_outputs, counted, tally, settled, token_account};
 ghost use Rattle.rules.specs.Lines.{Name, verdict, known};

@@ -26,7 +26,7 @@ use Rattle.transaction.specs.Ckb.{Bytes, CellDep, CellDeps, Script, CellOutput, 
 use Rattle.transaction.specs.Tx.{Tx, tx_at, raw_field, are_scripts}
 use Rattle.transaction_writer.specs.Written.{fits, in_room, written}
 use Rattle.transaction_writer.proofs.PutLaws.{tx_length}
-use Rattle.rules.specs.Cells.{Cell, pair, cells}
+use Rattle.transaction.specs.Cells.{Cell, pair, cells}
 use Rattle.error.specs.Outcome.{Outcome, fine, refused, told, answer_by, putting, check, check_with, ◌>>◌}
 use Rattle.lists.specs.Lists.{is_empty}
 use Rattle.units.specs.Units.{Figures}

@@ -10,7 +10,7 @@ use Rattle.arithmetic.specs.LittleEndian.{to_le}
 use Rattle.arithmetic.proofs.LittleEndianLaws.{length-to_le}
 use Rattle.molecule.specs.Partial.{All}
 use Rattle.molecule.specs.Layout.{span, item_of, content}
-use Rattle.rules.specs.Cells.{pair}
+use Rattle.transaction.specs.Cells.{pair}
 use Rattle.error.specs.Outcome.{fine}
 use Rattle.lists.specs.Lists.{is_empty}
 use Rattle.cell_output.specs.CellOutput.{cell_output}

@@ -13,7 +13,7 @@ use Rattle.molecule.specs.Molecule.{Value, encode, readable, Good}
 use Rattle.lists.specs.Lists.{contains, is_empty}
 use Rattle.transaction.specs.Ckb.{Transaction}
 use Rattle.transaction.specs.Tx.{Tx, tx_at, capacity_of, lock_of, type_of}
-use Rattle.rules.specs.Cells.{Cell, cells}
+use Rattle.transaction.specs.Cells.{Cell, cells}
 use Rattle.error.specs.Outcome.{fine, told}
 use Rattle.units.specs.Units.{Figures}
 use Rattle.rules.specs.{Judge.comparison, Lines.verdict}

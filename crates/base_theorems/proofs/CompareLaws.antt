@@ -11,7 +11,7 @@ use Rattle.molecule.specs.Layout.{span, item_count, content, entry_of}
 use Rattle.lists.specs.Lists.{eq_bytes, agree, contains, contains_all, is_empty}
 use Rattle.lists.proofs.EqualLaws.{eq_refl, eq_true}
 use Rattle.transaction.specs.Tx.{Tx, lock_of, type_of}
-use Rattle.rules.specs.Cells.{Cell, cells}
+use Rattle.transaction.specs.Cells.{Cell, cells}
 use Rattle.error.specs.Outcome.{check}
 use Rattle.rules.specs.Surplus.{is_of}
 use Rattle.rules.specs.Judge.{at_first, has_lock, no_data_untyped, comparison}

@@ -21,7 +21,7 @@ use Rattle.molecule.specs.Items.{join}
 use Rattle.molecule.specs.Write.{splice, Put}
 use Rattle.molecule.proofs.ItemsLaws.{length-join}
 use Rattle.molecule.proofs.WriteLaws.{splice_zero}
-use Rattle.rules.specs.Cells.{Cell}
+use Rattle.transaction.specs.Cells.{Cell}
 use Rattle.error.specs.Outcome.{Outcome}
 use Rattle.units.specs.Units.{Figures}
 use Rattle.rules.specs.Judge.{judge}

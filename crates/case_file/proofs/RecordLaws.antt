@@ -17,7 +17,7 @@ use Rattle.arithmetic.proofs.LittleEndianLaws.{length-to_le}
 use Rattle.molecule.specs.Partial.{only, pick}
 use Rattle.molecule.specs.Layout.{part}
 use Rattle.molecule.proofs.ItemsLaws.{length-join}
-use Rattle.rules.specs.Cells.{Cell}
+use Rattle.transaction.specs.Cells.{Cell}
 use Rattle.case_file.specs.declared.record_list.Measured.{Measured}
 use Rattle.case_file.specs.CaseFile.{Read, ◌>>=◌, kind_at, length_at, body_end, item_end, body_at, all_zero, item_at, dead_at, cell_at, resolved_at, records_from, record_bytes, record_list}
 use Rattle.case_file.specs.Walk.{next_of, entry_at, cell_bytes, walk, measured}

@@ -6,7 +6,7 @@ use Rattle.arithmetic.specs.LittleEndian.{to_le, u32_at, u64_at}
 use Rattle.molecule.specs.Partial.{only, pick}
 use Rattle.molecule.specs.Items.{join}
 use Rattle.molecule.specs.Layout.{part}
-use Rattle.rules.specs.Cells.{Cell}
+use Rattle.transaction.specs.Cells.{Cell}
 use Rattle.error.specs.Outcome.{Outcome, refused}
 use Rattle.units.specs.Units.{Figures}
 use Rattle.rules.specs.Judge.{judge}

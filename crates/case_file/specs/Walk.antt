@@ -5,7 +5,7 @@ use Rattle.std.proofs.Math.Option.{none, some}
 use Rattle.arithmetic.specs.LittleEndian.{to_le, u64_at}
 use Rattle.molecule.specs.Partial.{pick}
 use Rattle.molecule.specs.Items.{join}
-use Rattle.rules.specs.Cells.{Cell}
+use Rattle.transaction.specs.Cells.{Cell}
 use Rattle.error.specs.Outcome.{Outcome}
 use Rattle.units.specs.Units.{Figures}
 use Rattle.rules.specs.Judge.{judge}

@@ -16,7 +16,7 @@ use Rattle.lists.proofs.AgreeLaws.{extends-is, extends-rest}
 use Rattle.transaction.specs.Tx.{tx_at, raw_field, lock_of, type_of}
 use Rattle.molecule.specs.Layout.{item_of, entry_of}
 use Rattle.error.specs.Outcome.{check}
-use Rattle.rules.specs.Cells.{cells}
+use Rattle.transaction.specs.Cells.{cells}
 use Rattle.rules.specs.Surplus.{is_of}
 use Rattle.rules.specs.Judge.{at_first, has_lock, no_data_untyped, comparison}
 use Rattle.rules.specs.Lines.{verdict}

@@ -1,7 +1,7 @@
 -- Lines of the comparison (docs/RULES.md, the table's row "comparison") that read one list of each transaction, and that one function answers.
 use Rattle.std.specs.Prelude.{ℕ, Bool, ◌&&◌, List, length, drop, leb}
 use Rattle.lists.specs.Lists.{agree, contains_all}
-use Rattle.rules.specs.Cells.{Cell}
+use Rattle.transaction.specs.Cells.{Cell}
 use Rattle.rules.specs.Surplus.{is_of}
 use Rattle.rules.specs.Judge.{at_first, has_lock, no_data_untyped}
 

@@ -6,7 +6,7 @@ ghost use Rattle.std.specs.Prelude.{◌≡◌, eqb, leb, ◌&&◌, List, ℕ, Bo
 ghost use Rattle.molecule.specs.Layout.{item_count};
 ghost use Rattle.transaction.specs.Tx.{tx_at};
 ghost use Rattle.error.specs.Outcome.{check};
-ghost use Rattle.rules.specs.Cells.{cells};
+ghost use Rattle.transaction.specs.Cells.{cells};
 ghost use Rattle.rules.specs.Judge.{comparison};
 ghost use Rattle.rules.specs.Lines.{verdict};
 ghost use Rattle.comparison.specs.Together.{none_missing, funding_cell_first};

@@ -10,7 +10,7 @@ use Rattle.units.specs.Units.{Figures}
 use Rattle.error.specs.Outcome.{Outcome, fine, check, ◌>>=◌, ◌>>◌}
 use Rattle.lists.specs.Lists.{is_empty}
 use Rattle.transaction.specs.Tx.{Tx, tx_at, raw_field}
-use Rattle.rules.specs.Cells.{Cell, cells}
+use Rattle.transaction.specs.Cells.{Cell, cells}
 use Rattle.rules.specs.Surplus.{total, first, added, cell_capacity}
 use Rattle.rules.specs.Lines.{Ruled, verdict, answer, known, first_failing}
 use Rattle.rules.specs.Judge.{growth, unfunded, token_delta, funding_output_delta, covered, token_account, accounts, contribution}

@@ -4,7 +4,7 @@ use Rattle.units.specs.declared.Tokens.{Tokens}
 use Rattle.units.specs.Units.{token_count}
 use Rattle.error.specs.Outcome.{Outcome, fine, refused, check, ◌>>◌}
 use Rattle.transaction.specs.Tx.{Tx}
-use Rattle.rules.specs.Cells.{cells}
+use Rattle.transaction.specs.Cells.{cells}
 use Rattle.rules.specs.Surplus.{first, amount_of, has_amount}
 use Rattle.rules.specs.Judge.{at_first}
 

@@ -2,7 +2,7 @@
 ghost use Rattle.std.specs.Prelude.{◌≡◌, ◌&&◌, not};
 ghost use Rattle.units.specs.Units.{shannon_count};
 ghost use Rattle.transaction.specs.Tx.{tx_at, raw_field};
-ghost use Rattle.rules.specs.Cells.{cells};
+ghost use Rattle.transaction.specs.Cells.{cells};
 ghost use Rattle.lists.specs.Lists.{is_empty};
 ghost use Rattle.rules.specs.Surplus.{first, cell_capacity};
 ghost use Rattle.rules.specs.Judge.{unfunded};

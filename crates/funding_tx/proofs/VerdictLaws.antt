@@ -12,7 +12,8 @@ use Rattle.molecule.specs.Molecule.{option, readable}
 use Rattle.lists.proofs.EqualLaws.{whole}
 use Rattle.transaction.specs.Ckb.{Script, Transaction}
 use Rattle.transaction.specs.Tx.{Tx, tx_at, are_scripts}
-use Rattle.rules.specs.Cells.{Cell, LentRecords, lent_at}
+use Rattle.transaction.specs.Cells.{Cell}
+use Rattle.rules.specs.Records.{LentRecords, lent_at}
 use Rattle.rules.specs.Surplus.{total, cell_capacity}
 use Rattle.rules.specs.Lines.{Name, line, line_with, followed, known, verdict, first_failing}
 use Rattle.rules.specs.Lines as lines

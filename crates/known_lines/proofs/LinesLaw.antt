@@ -12,7 +12,8 @@ use Rattle.transaction.specs.Ckb.{Transaction}
 use Rattle.units.specs.Units.{Figures}
 use Rattle.lists.specs.Lists.{is_empty}
 use Rattle.transaction.specs.Tx.{Tx, tx_at}
-use Rattle.rules.specs.Cells.{Cell, LentRecords, lent_at}
+use Rattle.transaction.specs.Cells.{Cell}
+use Rattle.rules.specs.Records.{LentRecords, lent_at}
 use Rattle.rules.specs.Surplus.{total, added, cell_capacity, amount_of, token_of, is_of, has_amount}
 use Rattle.rules.specs.Lines.{Ruled, first_failing, verdict, followed, answer, line_with, ◌>>=◌, ◌>>◌}
 use Rattle.rules.specs.Judge.{Call, Names, of_records, of_outputs, scripts, limits, comparison, live, live_cells, spent, growth, unfunded, token_delta, funding_output_delta, covered, counted, tally, settled, token_account, accounts, contribution, opening, closing, ruling, ruling_against, judge}

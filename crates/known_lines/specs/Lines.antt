@@ -4,7 +4,7 @@ use Rattle.std.specs.Prelude.{ℕ, ◌+◌, ◌-◌, cond, List}
 use Rattle.units.specs.Units.{Figures}
 use Rattle.lists.specs.Lists.{is_empty}
 use Rattle.transaction.specs.Tx.{Tx}
-use Rattle.rules.specs.Cells.{Cell}
+use Rattle.transaction.specs.Cells.{Cell}
 use Rattle.rules.specs.Surplus.{total, added, cell_capacity, amount_of, token_of}
 use Rattle.rules.specs.Lines.{Line}
 use Rattle.rules.specs.Judge.{Call, growth, ruling}

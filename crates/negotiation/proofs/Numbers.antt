@@ -12,7 +12,8 @@ use Rattle.units.specs.Units.{Figures}
 use Rattle.molecule.specs.Partial.{All}
 use Rattle.lists.specs.Lists.{is_empty}
 use Rattle.transaction.specs.Tx.{Tx, tx_at}
-use Rattle.rules.specs.Cells.{Cell, LentRecords, lent_at}
+use Rattle.transaction.specs.Cells.{Cell}
+use Rattle.rules.specs.Records.{LentRecords, lent_at}
 use Rattle.rules.specs.Surplus.{is_of, added}
 use Rattle.rules.specs.Lines.{Name, Line, Ruled, first_failing, verdict, followed, answer, line_with, ◌>>=◌, ◌>>◌}
 use Rattle.rules.specs.Judge.{Call, Names, limits, comparison, live, live_cells, spent, token_delta, funding_output_delta, covered, counted, tally, settled, token_account, accounts, contribution, scripts, opening, closing, ruling, ruling_against, judge}

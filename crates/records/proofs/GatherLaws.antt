@@ -21,7 +21,8 @@ use Rattle.molecule.proofs.TestLaws.{Walked, walked_no, walked_none, walked_fall
 use Rattle.lists.proofs.SpanLaws.{span-on, span-end, span-whole}
 use Rattle.transaction.specs.Ckb.{Record, Records}
 use Rattle.transaction.proofs.ListLaws.{option-some}
-use Rattle.rules.specs.Cells.{Cell, record_cell, record_at, lent_at}
+use Rattle.transaction.specs.Cells.{Cell}
+use Rattle.rules.specs.Records.{record_cell, record_at, lent_at}
 use Rattle.error.specs.Outcome.{Outcome, fine, refused, check, check_with, ◌>>◌, ◌>>=◌, refusal, told_by}
 use Rattle.rules.specs.Surplus.{total, cell_capacity}
 use Rattle.rules.specs.Judge.{has_lock, live, live_cells, of_records, counted, tally}

@@ -17,7 +17,8 @@ use Rattle.molecule.proofs.Offsets.{span-length}
 use Rattle.lists.specs.Lists.{eq_bytes}
 use Rattle.transaction.specs.Ckb.{Records}
 use Rattle.transaction.specs.Tx.{Tx, tx_at, raw_field, lock_of, first_of}
-use Rattle.rules.specs.Cells.{Cell, record_cell, record_at, LentRecords, lent_at}
+use Rattle.transaction.specs.Cells.{Cell}
+use Rattle.rules.specs.Records.{record_cell, record_at, LentRecords, lent_at}
 use Rattle.rules.specs.Judge.{has_lock, live, live_cells, spent}
 use Rattle.error.specs.declared.Refusal.{Refusal}
 use Rattle.error.specs.Refusal.{number, values}

@@ -2,7 +2,7 @@
 use Rattle.std.specs.Prelude.{ℕ, List}
 use Rattle.error.specs.declared.Refusal.{Refusal}
 use Rattle.error.specs.Outcome.{Outcome, fine, check, ◌>>◌, refusal}
-use Rattle.rules.specs.Cells.{LentRecords}
+use Rattle.rules.specs.Records.{LentRecords}
 use Rattle.rules.specs.Lines.{verdict}
 use Rattle.rules.specs.Judge.{live, live_cells}
 use Rattle.records.specs.Resolved.{Brought, brought}

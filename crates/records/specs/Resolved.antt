@@ -3,7 +3,8 @@ use Rattle.std.specs.Prelude.{ℕ, List}
 use Rattle.units.specs.Units.{shannon_count, token_count}
 use Rattle.error.specs.Outcome.{Outcome, fine, ◌>>=◌, told_by}
 use Rattle.transaction.specs.Tx.{Tx}
-use Rattle.rules.specs.Cells.{Cell, LentRecords}
+use Rattle.transaction.specs.Cells.{Cell}
+use Rattle.rules.specs.Records.{LentRecords}
 use Rattle.rules.specs.Surplus.{total, cell_capacity}
 use Rattle.rules.specs.Lines.{verdict}
 use Rattle.rules.specs.Judge.{of_records, tally, spent}

@@ -5,7 +5,7 @@ ghost use Rattle.std.specs.Prelude.{◌≡◌, ◌+◌};
 ghost use Rattle.molecule.specs.Molecule.{readable};
 ghost use Rattle.transaction.specs.Ckb.{Record};
 ghost use Rattle.transaction.specs.Tx.{tx_at};
-ghost use Rattle.rules.specs.Cells.{lent_at, record_cell};
+ghost use Rattle.rules.specs.Records.{lent_at, record_cell};
 ghost use Rattle.rules.specs.Judge.{has_lock};
 ghost use Rattle.error.specs.Outcome.{refusal, told_by};
 ghost use Rattle.records.specs.Inner.{or_unreadable, gathered};

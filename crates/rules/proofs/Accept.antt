@@ -17,7 +17,8 @@ use Rattle.molecule.proofs.ReadableLaws.{readable-option}
 use Rattle.lists.specs.Lists.{is_empty}
 use Rattle.transaction.specs.Ckb.{Transaction}
 use Rattle.transaction.specs.Tx.{Tx, tx_at}
-use Rattle.rules.specs.Cells.{Cell, cells, LentRecords, lent_at}
+use Rattle.transaction.specs.Cells.{Cell, cells}
+use Rattle.rules.specs.Records.{LentRecords, lent_at}
 use Rattle.rules.specs.Surplus.{total, first, added, capacities, cell_capacity, amount_of, token_of, is_of, has_amount, expected}
 use Rattle.rules.specs.Lines.{line, line_with, answer, verdict, followed, line_holds, ◌>>=◌, ◌>>◌}
 use Rattle.rules.specs.Judge.{Call, judge, judge_against, ruling, ruling_against, opening, closing, scripts, limits, comparison, spent, live, live_cells, counted, Names, of_records, of_outputs, tally, settled, growth, token_delta, funding_output_delta, covered, token_account, accounts, contribution}

@@ -8,7 +8,7 @@ use Rattle.molecule.specs.Layout.{span, item_count, item_of, entry_of}
 use Rattle.molecule.proofs.LayoutLaws.{entry_past}
 use Rattle.lists.proofs.SpanLaws.{span-on, span-whole, span-drop}
 use Rattle.transaction.specs.Tx.{tx_at, raw_field}
-use Rattle.rules.specs.Cells.{Cell, pair, cells}
+use Rattle.transaction.specs.Cells.{Cell, pair, cells}
 use Rattle.rules.specs.Surplus.{added}
 
 -- output i of a transaction with its data

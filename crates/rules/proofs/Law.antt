@@ -9,7 +9,7 @@ use Rattle.error.specs.Outcome.{Outcome, fine, refused}
 use Rattle.molecule.specs.Molecule.{option, readable}
 use Rattle.transaction.specs.Ckb.{Transaction}
 use Rattle.transaction.specs.Tx.{Tx, tx_at}
-use Rattle.rules.specs.Cells.{Cell, cells}
+use Rattle.transaction.specs.Cells.{Cell, cells}
 use Rattle.molecule.specs.Partial.{All}
 use Rattle.rules.specs.Surplus.{total, first, added, Measure, surplus}
 use Rattle.rules.specs.Run.{Entry, handed_back, keep, carried, sum_of, next, verdicts, in_force, forces, kept_records, spent_by, kept, inputs_of, spent_cells, steps, NotNegative, Exact, Returned, Ran, call}

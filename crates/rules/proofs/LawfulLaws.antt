@@ -9,7 +9,7 @@ use Rattle.molecule.specs.Partial.{All}
 use Rattle.molecule.specs.Molecule.{option, readable}
 use Rattle.transaction.specs.Ckb.{Transaction}
 use Rattle.transaction.specs.Tx.{Tx, tx_at}
-use Rattle.rules.specs.Cells.{Cell, cells}
+use Rattle.transaction.specs.Cells.{Cell, cells}
 use Rattle.rules.specs.Surplus.{Measure, added, nothing}
 use Rattle.rules.specs.Step.{Balanced, Step}
 use Rattle.rules.specs.Run.{Entry, Exact, verdicts, in_force, forces}

@@ -10,7 +10,7 @@ use lib.Seq.{drop-drop}
 use Rattle.lists.specs.Prefix.{Prefix, start, more}
 use Rattle.lists.proofs.PrefixLaws.{prefix_refl, prefix_trans, prefix_length, prefix_rest, prefix_tail}
 use Rattle.transaction.specs.Tx.{Tx}
-use Rattle.rules.specs.Cells.{Cell, pair, cells}
+use Rattle.transaction.specs.Cells.{Cell, pair, cells}
 use Rattle.molecule.specs.Partial.{All}
 use Rattle.rules.specs.Surplus.{total, first, added, Measure}
 use Rattle.rules.specs.Step.{with_data, Settled, Extends, Step}

@@ -7,7 +7,8 @@ use Rattle.molecule.specs.Molecule.{option, readable}
 use Rattle.transaction.specs.Ckb.{Script, Transaction}
 use Rattle.transaction.specs.Tx.{Tx, tx_at, lock_of}
 use Rattle.units.specs.{Fee.fee_shannons, Units.Figures}
-use Rattle.rules.specs.Cells.{Cell, cells, LentRecords, lent_at}
+use Rattle.transaction.specs.Cells.{Cell, cells}
+use Rattle.rules.specs.Records.{LentRecords, lent_at}
 use Rattle.rules.specs.Lines.{Name, Ruled, line, line_with, answer, verdict, ◌>>=◌, ◌>>◌}
 use Rattle.rules.specs.Surplus.{total, first, added, cell_capacity, amount_of, is_of, has_amount}
 

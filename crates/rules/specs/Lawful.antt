@@ -7,7 +7,7 @@ use Rattle.molecule.specs.Molecule.{option, readable}
 use Rattle.transaction.specs.Ckb.{Transaction}
 use Rattle.transaction.specs.Tx.{Tx, tx_at}
 use Rattle.units.specs.Units.{Figures}
-use Rattle.rules.specs.Cells.{Cell}
+use Rattle.transaction.specs.Cells.{Cell}
 use Rattle.rules.specs.Surplus.{Measure, capacities, expected}
 use Rattle.rules.specs.Step.{Extends, Balanced}
 use Rattle.rules.specs.Run.{Entry, Exact, verdicts, in_force, forces, next, kept, kept_records, inputs_of, spent_cells, Returned, Ran}

@@ -1,7 +1,7 @@
-pub mod Cells
 pub mod Judge
 pub mod Lawful
 pub mod Lines
+pub mod Records
 pub mod Run
 pub mod Step
 pub mod Surplus

@@ -3,7 +3,8 @@
 use Rattle.std.specs.Prelude.{ℕ, ◌+◌, ◌≡◌, List, [], ◌∷◌, ◌++◌, map, length, drop, ℤ, pos}
 use Rattle.error.specs.Outcome.{Outcome, fine, refused, leaves}
 use Rattle.transaction.specs.Tx.{tx_at}
-use Rattle.rules.specs.Cells.{Cell, lent_at}
+use Rattle.transaction.specs.Cells.{Cell}
+use Rattle.rules.specs.Records.{lent_at}
 use Rattle.molecule.specs.Partial.{All}
 use Rattle.rules.specs.Surplus.{Measure, surplus}
 use Rattle.units.specs.Units.{Figures}

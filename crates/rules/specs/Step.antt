@@ -3,7 +3,7 @@
 use Rattle.std.specs.Prelude.{◌≡◌, ℕ, ◌+◌, List, [], length, drop}
 use Rattle.lists.specs.Prefix.{Prefix}
 use Rattle.transaction.specs.Tx.{Tx}
-use Rattle.rules.specs.Cells.{Cell, cells}
+use Rattle.transaction.specs.Cells.{Cell, cells}
 use Rattle.molecule.specs.Partial.{All}
 use Rattle.rules.specs.Surplus.{total, first, added, Measure}
 

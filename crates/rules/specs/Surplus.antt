@@ -4,7 +4,7 @@ use Rattle.arithmetic.specs.LittleEndian.{le}
 use Rattle.lists.specs.Lists.{eq_bytes, is_empty}
 use Rattle.transaction.specs.Tx.{Tx, type_of}
 use Rattle.transaction.specs.Tx as tx
-use Rattle.rules.specs.Cells.{Cell, cells}
+use Rattle.transaction.specs.Cells.{Cell, cells}
 
 -- the sum of a figure over cells
 unfoldable pub total : (Cell → ℕ) → List Cell → ℕ
