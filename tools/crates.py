@@ -19,8 +19,8 @@ GROUPS = [
     ('exclusions', '''exclusion_entries exclusions exclusion_marks'''),
     ('our own side', '''funding_cell udt_cells cell_output cell_deps distinct_deps base_lists base_inputs base_writer funding_builder'''),
     ('outside', '''transaction_lists item_places verdict_line case_file answer_words capi check_update show_transaction'''),
-    ('laws and cases', '''transaction_theorems base_theorems base_steps table_laws table_steps case_parts known_cases known_orders known_outcomes known_holds
-        known_exclusions known_bases known_lines recorded_calls recorded_updates recorded_negotiations recorded_holds recorded_exclusions recorded_requests
+    ('laws and cases', '''transaction_theorems base_theorems base_compared base_steps table_laws table_steps case_parts known_cases known_orders known_outcomes
+        known_holds known_exclusions known_bases known_lines recorded_calls recorded_updates recorded_negotiations recorded_holds recorded_exclusions recorded_requests
         vector_parts molecule_vectors'''),
 ]
 STATIC = {'capi'}

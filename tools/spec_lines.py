@@ -16,7 +16,7 @@ PARTS = {
 INNER = '-- What the functions inside promise one another', '-- What functions of this crate answer inside', '-- What the functions of this crate answer inside'
 
 # statements of theorems that no code needs
-STATEMENTS = 'crates/table_laws/specs/*.antt crates/transaction_theorems/proofs/Claims.antt crates/base_theorems/proofs/Claims.antt crates/molecule/proofs/Valid.antt'
+STATEMENTS = 'crates/table_laws/specs/*.antt crates/transaction_theorems/proofs/Claims.antt crates/base_theorems/proofs/Claims.antt crates/base_compared/proofs/Claims.antt crates/molecule/proofs/Valid.antt'
 
 
 def lines(paths, inner=False):

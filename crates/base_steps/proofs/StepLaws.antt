@@ -11,8 +11,10 @@ use Rattle.error.specs.Outcome.{told}
 use Rattle.funding_cell.specs.declared.FundingRequest.{FundingRequest}
 use Rattle.transaction_writer.specs.Written.{written}
 use Rattle.funding_builder.specs.Base.{Lent, build_base}
-use Rattle.base_theorems.proofs.Claims.{ReadsBack, Encodes, Funds, Keeps, Passes, Tidy, Balanced, Based}
-use Rattle.base_theorems.proofs.Base.{is-readable, encoded, first-output, kept, compared, tidied, in_balance, of_calls}
+use Rattle.base_theorems.proofs.Claims.{ReadsBack, Encodes, Funds, Keeps, Tidy, Balanced}
+use Rattle.base_theorems.proofs.Base.{is-readable, encoded, first-output, kept, tidied, in_balance, of_calls}
+use Rattle.base_compared.proofs.Claims.{Passes, Based}
+use Rattle.base_compared.proofs.Compared.{compared}
 
 module _ (l : Lent) (request : FundingRequest) (out after : List ℕ) where
   wrote : (n : ℕ) → AllBytes l.ours → AllBytes after → (told (Ok n), after) ≡ written (build_base l request) out → Based l request (take n after)

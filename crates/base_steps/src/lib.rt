@@ -1,5 +1,5 @@
-// `build_base` with, beside its own contract, that what is proved of its definition (crates/base_theorems) holds of the bytes that it leaves in the lent
-// buffer.
+// `build_base` with, beside its own contract, that what is proved of its definition (crates base_theorems and base_compared) holds of the bytes that it leaves
+// in the lent buffer.
 #![tactic(auto)]
 
 ghost use Rattle.std.specs.Prelude.{◌≡◌, ℕ, take, Ok};
@@ -7,7 +7,7 @@ ghost use Rattle.error.specs.Outcome.{told};
 ghost use Rattle.transaction_writer.specs.Written.{written};
 ghost use Rattle.funding_builder.specs.Base.{build_base};
 ghost use Rattle.funding_builder.specs.Lent.{lent_in};
-ghost use Rattle.base_theorems.proofs.Claims.{Based};
+ghost use Rattle.base_compared.proofs.Claims.{Based};
 
 use funding_builder::Lent;
 use funding_cell::FundingRequest;

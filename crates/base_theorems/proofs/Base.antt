@@ -27,11 +27,11 @@ use Rattle.transaction.specs.Tx.{Tx, tx_at, raw_field, are_scripts}
 use Rattle.transaction_writer.specs.Written.{fits, in_room, written}
 use Rattle.transaction_writer.proofs.PutLaws.{tx_length}
 use Rattle.transaction.specs.Cells.{Cell, pair, cells}
-use Rattle.error.specs.Outcome.{Outcome, fine, refused, told, answer_by, putting, check, check_with, ◌>>◌}
+use Rattle.error.specs.Outcome.{Outcome, fine, refused, told, answer_by, putting, check, ◌>>◌}
 use Rattle.lists.specs.Lists.{is_empty}
 use Rattle.units.specs.Units.{Figures}
 use Rattle.lists.specs.Prefix.{Prefix}
-use Rattle.lists.proofs.PrefixLaws.{prefix_refl, prefix_trans, prefix_length}
+use Rattle.lists.proofs.PrefixLaws.{prefix_trans, prefix_length}
 use Rattle.error.proofs.Passed.{is_true, never, fine_inj, bound-fine, check-fine, check_last, then-fine}
 use Rattle.funding_cell.specs.declared.FundingRequest.{FundingRequest}
 use Rattle.funding_cell.specs.FundingCell.{funding_cell}
@@ -49,9 +49,9 @@ use Rattle.cell_deps.proofs.LongLaws.{long-append, cell-deps-long}
 use Rattle.transaction_theorems.proofs.FieldsDecoded.{transaction_fields}
 use Rattle.funding_builder.specs.Base.{Lent, Packed, packed, base_tx, change_output_capacity, supplied, lists, with_pick, with_cell, with_request, build_base}
 use Rattle.funding_builder.proofs.PresentLaws.{deps-readable, option-of}
-use Rattle.base_theorems.proofs.Claims.{Figured, ReadsBack, fields_of, Encodes, Funds, Keeps, Distinct, Passes, Readable, Encoded, FirstOutput, Kept, Compared, Tidy, Tidied, Changes, Balanced, InBalance, OfCalls}
+use Rattle.base_theorems.proofs.Claims.{Figured, ReadsBack, fields_of, Encodes, Funds, Keeps, Distinct, Built, Readable, Encoded, FirstOutput, Kept, Tidy, Tidied, Changes, Balanced, InBalance, OfCalls}
 use Rattle.base_theorems.proofs.PackedLaws.{Formed, ReadsAs, reads_as, item-readable, item-content}
-use Rattle.base_theorems.proofs.CompareLaws.{prefix_append, deps_begin, all_distinct, entries_begin, map-append, has-lock, has-type, has_data, passes}
+use Rattle.base_theorems.proofs.BeginLaws.{prefix_append, deps_begin, all_distinct, entries_begin, map-append}
 use Rattle.base_theorems.proofs.FormLaws.{Present, present, version_low, every_append, later-is, later-outputs, later_data, all_right, last_every, witnesses-readable, typed-within, picked-long}
 use Rattle.base_theorems.proofs.ChangeLaws.{spends, typed-amounts, change-count, change-cells, map-length, behind}
 
@@ -108,6 +108,13 @@ amount-readable n = item-readable (to_le 16 n) (omega (arith, length-to_le 16 n)
 first-content : (typed : Bool) (n : ℕ) → content (cond typed (amount_item n) (bytes_item [])) ≡ cond typed (to_le 16 n) []
 first-content true n = item-content (to_le 16 n)
 first-content false n = item-content []
+
+-- which lists of a base go on from those of the present transaction: cell deps, if none stands there twice; outputs; data entries, if no more than outputs
+pub record GoesOn (ours after : Tx) : Type 0 where
+  pub cell_deps : Distinct ours.cell_deps → Prefix ours.cell_deps after.cell_deps
+  pub outputs : length ours.outputs ≤ length after.outputs
+  pub as_many : length ours.outputs_data ≤ length ours.outputs → length ours.outputs_data ≤ length after.outputs_data
+  pub entries : length ours.outputs_data ≤ length ours.outputs → Prefix (drop 1 ours.outputs_data) (drop 1 after.outputs_data)
 
 module _ (l : Lent) (request : FundingRequest) (bytes : List ℕ) (b : AllBytes l.ours) (e : build_base l request ≡ fine bytes) (short : length bytes ≤ 133116) where
   abbrev m : Made l request bytes
@@ -287,7 +294,7 @@ module _ (l : Lent) (request : FundingRequest) (bytes : List ℕ) (b : AllBytes 
       later-outputs_are : drop 1 (tx_at bytes).outputs ≡ drop 1 (tx_at l.ours).outputs ++ changes
       later-outputs_are = ap (drop 1) all_outputs ∙ ap (λ (xs : List (List ℕ)). xs ++ changes) (later-is (raw_field l.ours 4) after refl)
 
-  -- ---- the comparison
+  -- ---- what goes on from the present one
 
   abbrev before : Tx
   before = tx_at l.ours
@@ -334,14 +341,8 @@ module _ (l : Lent) (request : FundingRequest) (bytes : List ℕ) (b : AllBytes 
           (let n : length before.outputs_data ≡ item_count entries = span-length (entry_of entries) 0 (item_count entries) in
           entries_begin entries 1 (item_count entries - 1) after (omega arith) (omega arith))
 
-  compares : Passes l request bytes
-  compares d n =
-      let f = funds in
-      let k = keeps in
-      sym (passes l.lock l.udt before (tx_at bytes) (sym k.version) (deps-kept d) (subst (λ (xs : List (List ℕ)). Prefix before.header_deps xs) (sym k.header_deps) (prefix_refl before.header_deps))
-      k.inputs outputs-count (has-lock l.lock l.udt f.is_first f.lock) (has-type l.lock l.udt f.is_first f.type_script)
-      (has_data l.lock l.udt f.is_first (to_le 16 f.cell.token) f.content) k.outputs (data_count n) (data_kept n))
-      ∙ (unfold check in unfold check_with in refl)
+  goes_on : GoesOn before (tx_at bytes)
+  goes_on = record { cell_deps = deps-kept; outputs = outputs-count; as_many = data_count; entries = data_kept }
 
   -- ---- deps and data of the base itself
 
@@ -393,9 +394,9 @@ first-output l request bytes b e short = funds l request bytes b e short
 pub kept : Kept
 kept l request bytes b e short = keeps l request bytes b e short
 
--- a peer that receives it with the same lock and type finds nothing of its own changed
-pub compared : Compared
-compared l request bytes b e short = compares l request bytes b e short
+-- the lists that go on, for what asks more of them (crates/base_compared)
+pub continued : Built (λ l _ bytes. GoesOn (tx_at l.ours) (tx_at bytes))
+continued l request bytes b e short = goes_on l request bytes b e short
 
 -- "first occurrence only"; "each output's data, empty if missing"
 pub tidied : Tidied

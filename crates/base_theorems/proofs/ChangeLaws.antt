@@ -26,7 +26,7 @@ use Rattle.base_inputs.specs.BaseInputs.{picked_input, picked}
 use Rattle.base_lists.specs.BaseLists.{amount_item}
 use Rattle.funding_builder.specs.Base.{Lent, change_output_capacity}
 use Rattle.base_theorems.proofs.Claims.{Changes}
-use Rattle.base_theorems.proofs.CompareLaws.{map-append}
+use Rattle.base_theorems.proofs.BeginLaws.{map-append}
 use Rattle.base_theorems.proofs.PackedLaws.{item-content}
 
 -- ---- the cells that are taken

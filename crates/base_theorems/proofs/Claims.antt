@@ -16,7 +16,6 @@ use Rattle.transaction.specs.Tx.{Tx, tx_at, capacity_of, lock_of, type_of}
 use Rattle.transaction.specs.Cells.{Cell, cells}
 use Rattle.error.specs.Outcome.{fine, told}
 use Rattle.units.specs.Units.{Figures}
-use Rattle.rules.specs.{Judge.comparison, Lines.verdict}
 use Rattle.lists.specs.Prefix.{Prefix}
 use Rattle.funding_cell.specs.declared.FundingRequest.{FundingRequest}
 use Rattle.funding_cell.specs.FundingCell.{funding_cell}
@@ -109,16 +108,8 @@ abbrev pub Distinct : List (List ℕ) → Type 0
 Distinct [] = Unit {0}
 Distinct (x ∷ xs) = (contains x xs ≡ false) × Distinct xs
 
--- a peer that receives it with the same lock and type finds nothing of its own changed (our base passes the rules' comparison against the present
--- transaction, but for the cases that DIFFERENCES.md names with their smallest inputs: repeated cell deps, and data entries beyond the outputs, both
--- dropped as in the Rust)
-abbrev pub Passes : Lent → FundingRequest → List ℕ → Type 0
-Passes l request bytes =
-    Distinct (tx_at l.ours).cell_deps → length (tx_at l.ours).outputs_data ≤ length (tx_at l.ours).outputs
-    → verdict (comparison l.lock l.udt (tx_at l.ours) (tx_at bytes)) ≡ fine tt
-
--- "first occurrence only"; "each output's data, empty if missing": so the premises of `Passes` hold of a base that is the present transaction of a
--- further one
+-- "first occurrence only"; "each output's data, empty if missing": so the premises of `Passes` (crates/base_compared) hold of a base that is
+-- the present transaction of a further one
 pub record Tidy (l : Lent) (request : FundingRequest) (bytes : List ℕ) : Type 0 where
   pub cell_deps : Distinct (tx_at bytes).cell_deps
   pub outputs_data : length (tx_at bytes).outputs_data ≡ length (tx_at bytes).outputs
@@ -158,9 +149,6 @@ FirstOutput = Built Funds
 abbrev pub Kept : Type 0
 Kept = Built Keeps
 
-abbrev pub Compared : Type 0
-Compared = Built Passes
-
 abbrev pub Tidied : Type 0
 Tidied = Built Tidy
 
@@ -169,13 +157,3 @@ InBalance = Built Balanced
 
 abbrev pub OfCalls : Type 1
 OfCalls = (P : Lent → FundingRequest → List ℕ → Type 0) → Built P → Called P
-
--- all that is claimed of the bytes that a call writes
-pub record Based (l : Lent) (request : FundingRequest) (bytes : List ℕ) : Type 0 where
-  pub reads_back_lem : ReadsBack l request bytes
-  pub is_encoded_lem : IsEncoded l request bytes
-  pub funds : Funds l request bytes
-  pub keeps : Keeps l request bytes
-  pub passes : Passes l request bytes
-  pub tidy : Tidy l request bytes
-  pub balanced : Balanced l request bytes

@@ -1,6 +1,6 @@
 pub mod Base
+pub mod BeginLaws
 pub mod ChangeLaws
 pub mod Claims
-pub mod CompareLaws
 pub mod FormLaws
 pub mod PackedLaws
