@@ -7,7 +7,8 @@ A crate's files are those of its src/, specs/ and proofs/. What they name is `Ra
 `use X as Y;`, with comments left out. `X::` is no crate where X is a module of the crate itself, or a name that a `use` of that file brings from elsewhere. The names of
 libraries of the toolchain that a line of crates.txt lists (`io`, but for `std`, which is never listed) count too. `rt` finds by itself what stands below those. GROUPS, which docs/CRATES.md has too,
 says which crate stands where, from the bottom up, and so do the crates of one group. Those of a group below `outside` may use the ground and their own group: where one uses
-another's, that is said, and it is wrong. With `--check` nothing is written: it says what is not up to date in crates.txt or in docs/CRATES.md.
+another's, that is said, and it is wrong; and so it is where one of APART stands, by whatever way, on a crate of a peer's update. With `--check` nothing is
+written: it says what is not up to date in crates.txt or in docs/CRATES.md.
 """
 import glob, os, re, sys
 
@@ -23,6 +24,9 @@ GROUPS = [
         known_holds known_exclusions known_bases known_lines recorded_calls recorded_updates recorded_negotiations recorded_holds recorded_exclusions recorded_requests
         vector_parts molecule_vectors'''),
 ]
+# those of the laws and cases that stand on no crate of a peer's update, so that none is proved again when a rule of it changes
+APART = '''transaction_theorems base_theorems table_laws table_steps case_parts known_holds known_exclusions known_bases
+    recorded_holds recorded_exclusions recorded_requests'''
 STATIC = {'capi'}
 # libraries of the toolchain that a crate may use, beside `std`
 LIBRARIES = {'io'}
@@ -81,6 +85,18 @@ def ordered(crates, uses):
     return done
 
 
+def way_down(crate, ends, uses):
+    """The crates on the shortest way from one down to one of `ends`, or none where it stands on none of them."""
+    ways, seen = [[crate]], {crate}
+    for way in ways:
+        if way[-1] in ends:
+            return way
+        for other in sorted(uses.get(way[-1], set()) - seen):
+            seen.add(other)
+            ways.append(way + [other])
+    return []
+
+
 def main():
     if sys.argv[1:] not in ([], ['--check']):
         sys.exit(__doc__.strip())
@@ -88,13 +104,16 @@ def main():
     known = [name for _, names in groups for name in names]
     folders = set(os.listdir(os.path.join(HERE, 'crates')))
     wrong = [f'crates/{c} stands in no group of tools/crates.py' for c in sorted(folders - set(known))]
-    wrong += [f'tools/crates.py: no folder crates/{c}' for c in known if c not in folders]
+    wrong += [f'tools/crates.py: no folder crates/{c}' for c in known + APART.split() if c not in folders]
     wrong += [f'tools/crates.py: {c} stands there twice' for c in sorted({c for c in known if known.count(c) > 1})]
     if wrong:
         sys.exit('\n'.join(wrong))
     uses = {crate: named(crate) & (folders | LIBRARIES) for crate in known}
     for title, names in groups[:[title for title, _ in groups].index('outside')]:
         wrong += [f'{crate}, of {title}, uses {other}' for crate in names for other in sorted(uses[crate] - set(names) - set(groups[0][1]))]
+    updates = set(dict(groups)["a peer's update"])
+    for way in filter(None, (way_down(crate, updates, uses) for crate in APART.split())):
+        wrong.append(f"{way[0]} stands on {way[-1]}, of a peer's update: {', '.join(way)}")
     lines = []
     for title, names in groups:
         lines.append(f'\n# {title}')
