@@ -35,6 +35,13 @@ class Function:
         self.path, self.name, self.lines, self.changes, self.calls = path, name, [], [], set()
 
 
+def implemented(line):
+    """What the prover calls the functions behind this line by: the type, and the trait with what it is of, where it is a trait's (`ListKindTryFromU32`)."""
+    trait, of = re.match(r'impl(?:<[^>]*>)? (?:(.+) for )?(.+) \{$', line).groups()
+    words = re.findall(r"(?<!')\b\w+", re.sub(r'\w+::', '', trait or ''))
+    return re.match(r'\w+', of)[0] + ''.join(w[0].upper() + w[1:] for w in words)
+
+
 def functions(path, text, module):
     """The functions with a body: from the line that ends in `{`, at the indentation of `fn`, to the `}` there."""
     found, at, now, inside, indent, of = [], 0, None, False, '', ''
@@ -42,7 +49,7 @@ def functions(path, text, module):
         bare = line.rstrip('\n')
         head = re.match(r'(\s*)(?:pub |pub\(crate\) |extern "C" )*fn (\w+)', bare)
         if re.match(r'impl\b.*\{$', bare):
-            of = re.search(r'(\w+)(?:<[^>]*>)? \{$', bare)[1]
+            of = implemented(bare)
         elif bare == '}':
             of = of if inside and indent else ''
         if not inside and head:

@@ -3,7 +3,7 @@ use Rattle.std.proofs.Common.{◌≡◌, [], ◌∷◌, refl}
 use mathlib.Core.List.{flatten}
 use Rattle.arithmetic.specs.LittleEndian.{to_le, num_at}
 use Rattle.molecule.specs.Layout.{span, word, fix_count}
-use Rattle.list_writer.specs.ListWriter.{fix_list}
+use Rattle.molecule.specs.Items.{fix_list}
 use Rattle.base_inputs.specs.BaseInputs.{input_list}
 
 -- of no present transaction and with nothing picked: an empty list

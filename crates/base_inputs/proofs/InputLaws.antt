@@ -13,7 +13,7 @@ use Rattle.list_writer.specs.Around.{fits_at, Room}
 use Rattle.list_writer.proofs.SpanLaws.{flatten_append, body, body_next}
 use Rattle.list_writer.proofs.LoopLaws.{Sizing, size-more, Writing, write-room, write_then}
 use Rattle.list_writer.proofs.AnswerLaws.{fit-room}
-use Rattle.list_writer.specs.ListWriter.{fix_list}
+use Rattle.molecule.specs.Items.{fix_list}
 use Rattle.base_inputs.specs.BaseInputs.{picked_input, picked, input_list, inputs_size}
 
 -- ---- the present ones: items without gaps are one run, of any bytes

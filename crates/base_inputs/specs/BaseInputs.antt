@@ -5,7 +5,7 @@ use mathlib.Core.List.{flatten}
 use Rattle.arithmetic.specs.LittleEndian.{to_le}
 use Rattle.molecule.specs.Layout.{span, item_of, fix_items}
 use Rattle.transaction.specs.Tx.{first_of}
-use Rattle.list_writer.specs.ListWriter.{fix_list}
+use Rattle.molecule.specs.Items.{fix_list}
 use Rattle.base_inputs.specs.declared.Inputs.{Inputs}
 
 -- the input that spends a picked cell: since 0, and its out point

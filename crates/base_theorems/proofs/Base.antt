@@ -12,7 +12,7 @@ use lib.Seq.{take_at}
 use Rattle.arithmetic.specs.LittleEndian.{to_le, AllBytes}
 use Rattle.arithmetic.proofs.LittleEndianLaws.{length-to_le}
 use Rattle.molecule.specs.Partial.{All}
-use Rattle.molecule.specs.Items.{join}
+use Rattle.molecule.specs.Items.{join, fix_list}
 use Rattle.molecule.specs.Layout.{span, item_of, items_of, item_count, fix_items, content, entry_of}
 use Rattle.molecule.specs.Molecule.{size, decode, readable, option}
 use Rattle.molecule.proofs.Valid.{fixed, has_bytes, valid}
@@ -39,7 +39,7 @@ use Rattle.funding_cell.proofs.FundingCellLaws.{capacity-low}
 use Rattle.cell_output.specs.CellOutput.{cell_output}
 use Rattle.udt_cells.proofs.OutputReads.{output-readable, output-lock, output-type, output-capacity}
 use Rattle.udt_cells.specs.Pick.{Pick, pick_typed}
-use Rattle.list_writer.specs.ListWriter.{fix_list, bytes_item, items_after_first, if_any, if_positive}
+use Rattle.list_writer.specs.ListWriter.{bytes_item, items_after_first, if_any, if_positive}
 use Rattle.list_writer.proofs.HeadLaws.{later-length}
 use Rattle.list_writer.proofs.AgainLaws.{if_readable}
 use Rattle.base_inputs.specs.BaseInputs.{picked, input_list}

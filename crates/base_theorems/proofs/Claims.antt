@@ -7,7 +7,7 @@ use Rattle.std.specs.Prelude.{Ok}
 use mathlib.Core.List.{List, [], ◌∷◌, ◌++◌, map}
 use lib.ListN.{length, take, drop}
 use Rattle.arithmetic.specs.LittleEndian.{to_le, AllBytes}
-use Rattle.molecule.specs.Items.{join}
+use Rattle.molecule.specs.Items.{join, fix_list}
 use Rattle.molecule.specs.Layout.{items_of, content}
 use Rattle.molecule.specs.Molecule.{Value, encode, readable, Good}
 use Rattle.lists.specs.Lists.{contains, is_empty}
@@ -23,7 +23,6 @@ use Rattle.udt_cells.specs.Pick.{Pick, pick_typed}
 use Rattle.udt_cells.specs.Change.{capacity_for}
 use Rattle.udt_cells.proofs.PickTheorems.{held}
 use Rattle.base_inputs.specs.BaseInputs.{picked_input}
-use Rattle.list_writer.specs.ListWriter.{fix_list}
 use Rattle.transaction_writer.specs.Written.{written}
 use Rattle.transaction_theorems.proofs.Claims.{value_tx}
 use Rattle.transaction_theorems.proofs.WrittenReads.{HasFields}

@@ -11,7 +11,7 @@ use lib.ListN.{length, take, drop, length-append}
 use lib.Seq.{take_at, drop_at, take_all}
 use Rattle.arithmetic.specs.LittleEndian.{le, to_le}
 use Rattle.arithmetic.proofs.LittleEndianLaws.{length-to_le, le-to_le}
-use Rattle.molecule.specs.Items.{join}
+use Rattle.molecule.specs.Items.{join, fix_list}
 use Rattle.molecule.specs.Layout.{part, span, item_of, items_of, fix_items, content, entry_of}
 use Rattle.molecule.specs.Molecule.{Ty, byte, fixvec, dynvec, size, readable, chunks}
 use Rattle.molecule.proofs.Valid.{fixed, all_fixed}
@@ -24,7 +24,7 @@ use Rattle.transaction.proofs.ListLaws.{hash-size, dep-size, input-size}
 use Rattle.transaction.specs.Tx.{tx_at}
 use Rattle.transaction_writer.specs.Written.{in_form}
 use Rattle.transaction_writer.proofs.PutLaws.{tx_length}
-use Rattle.list_writer.specs.ListWriter.{bytes_item, fix_list}
+use Rattle.list_writer.specs.ListWriter.{bytes_item}
 use Rattle.cell_deps.proofs.LongLaws.{list_long}
 use Rattle.transaction_theorems.proofs.WrittenReads.{HasFields, written-readable, written_fields}
 use Rattle.funding_builder.specs.Base.{Packed, packed}

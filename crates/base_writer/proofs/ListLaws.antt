@@ -12,7 +12,7 @@ use Rattle.lists.proofs.EqualLaws.{empty-is}
 use Rattle.arithmetic.specs.LittleEndian.{to_le}
 use Rattle.units.specs.declared.Tokens.{Tokens}
 use Rattle.units.specs.Units.{shannon_count, token_count}
-use Rattle.molecule.specs.Items.{join}
+use Rattle.molecule.specs.Items.{join, fix_list}
 use Rattle.molecule.specs.Layout.{item_count}
 use Rattle.lists.specs.Lists.{is_empty}
 use Rattle.base_inputs.specs.declared.Inputs.{Inputs}
@@ -20,7 +20,6 @@ use Rattle.base_inputs.specs.BaseInputs.{inputs_bytes}
 use Rattle.base_lists.specs.declared.{outputs.Outputs.Outputs, outputs_data.OutputsData.OutputsData, witnesses.Witnesses.Witnesses}
 use Rattle.base_lists.specs.BaseLists.{output_list, data_list}
 use Rattle.base_lists.specs.Parts.{data_bytes, tokens_of, witness_bytes}
-use Rattle.list_writer.specs.ListWriter.{fix_list}
 use Rattle.cell_deps.specs.CellDeps.{deps_at}
 use Rattle.base_writer.specs.declared.Base.{Base}
 use Rattle.base_writer.specs.Lists.{or_empty, lists_of, Capped}

@@ -9,7 +9,8 @@ use Rattle.molecule.proofs.WriteLaws.{then, and_put, as_bytes, length-kept}
 use Rattle.transaction_writer.specs.declared.Sizes.{Sizes}
 use Rattle.transaction_writer.specs.Written.{put_head, head_end}
 use Rattle.transaction_writer.proofs.PutLaws.{head_did, head_length, head_runs}
-use Rattle.list_writer.specs.ListWriter.{fix_list, put_list, put_list_end}
+use Rattle.molecule.specs.Items.{fix_list}
+use Rattle.list_writer.specs.ListWriter.{put_list, put_list_end}
 use Rattle.list_writer.proofs.AnswerLaws.{did_list, and_list}
 use Rattle.base_inputs.specs.declared.Inputs.{Inputs}
 use Rattle.base_inputs.specs.BaseInputs.{inputs_bytes}

@@ -2,13 +2,12 @@
 use Rattle.std.specs.Prelude.{◌≡◌, ℕ, ◌+◌, ◌-◌, ◌≤◌, min, not, List, [], ◌∷◌, ◌++◌, length}
 use Rattle.arithmetic.specs.LittleEndian.{to_le}
 use Rattle.units.specs.Units.{shannon_count, token_count}
-use Rattle.molecule.specs.Items.{join}
+use Rattle.molecule.specs.Items.{join, fix_list}
 use Rattle.molecule.specs.Layout.{item_count, fix_count}
 use Rattle.lists.specs.Lists.{is_empty}
 use Rattle.transaction_writer.specs.Written.{tx_bytes, tx_head}
 use Rattle.base_inputs.specs.BaseInputs.{input_list}
 use Rattle.base_lists.specs.BaseLists.{output_list, data_list, witness_list}
-use Rattle.list_writer.specs.ListWriter.{fix_list}
 use Rattle.cell_deps.specs.CellDeps.{deps_at}
 use Rattle.transaction_writer.specs.declared.Sizes.{Sizes}
 use Rattle.transaction_writer.specs.TxFields.{tx_len}

@@ -7,6 +7,7 @@ use native.Mathlib.Omega.{arith}
 use borrow.Author.Tests.{lt-ltb, le-ltb}
 use lib.ListN.{length, get_or, take}
 use Rattle.molecule.specs.Layout.{span, fix_count, fix_item, fix_items}
+use Rattle.lists.proofs.SpanLaws.{span-split}
 use Rattle.list_writer.specs.ListWriter.{if_any}
 use Rattle.cell_deps.specs.CellDeps.{before, any_count, last_dep_at, own_dep_at, dep_at, dep_count, all_deps}
 
@@ -48,17 +49,6 @@ span_shift g m i zero h = refl
 span_shift g m i (suc k) h =
     let e : suc i - m ≡ suc (i - m) = omega arith in
     ap (λ l. g (i - m) ∷ l) (span_shift g m (suc i) k (omega arith) ∙ ap (λ n. span g n k) e)
-
-pub span-split : {A : Type 0} (f : ℕ → A) (i m k : ℕ) → span f i (m + k) ≡ span f i m ++ span f (i + m) k
-unfolding span
-span-split f i zero k =
-    let e : i ≡ i + 0 = omega arith in
-    let z : 0 + k ≡ k = omega arith in
-    ap₂ (span f) e z
-span-split f i (suc m) k =
-    let e : suc i + m ≡ i + suc m = omega arith in
-    let z : suc m + k ≡ suc (m + k) = omega arith in
-    ap (span f i) z ∙ ap (λ l. f i ∷ l) (span-split f (suc i) m k ∙ ap (λ n. span f (suc i) m ++ span f n k) e)
 
 pub span-before : (m : ℕ) (f g : ℕ → List ℕ) (k : ℕ) → span (before m f g) 0 (m + k) ≡ span f 0 m ++ span g 0 k
 span-before m f g k =

@@ -18,7 +18,8 @@ use Rattle.molecule.proofs.ReadableLaws.{readable_fixed, by_length, of-option}
 use Rattle.transaction.specs.Ckb.{CellDep, CellDeps}
 use Rattle.transaction.proofs.ListLaws.{dep-size}
 use Rattle.lists.specs.Lists.{contains}
-use Rattle.list_writer.specs.ListWriter.{fix_list, if_any}
+use Rattle.molecule.specs.Items.{fix_list}
+use Rattle.list_writer.specs.ListWriter.{if_any}
 use Rattle.list_writer.proofs.AgainLaws.{items-long}
 use Rattle.cell_deps.specs.CellDeps.{dep_pushed, push_all, all_deps, cell_deps, dep_at, dep_count}
 use Rattle.cell_deps.proofs.DepLaws.{all_spans}

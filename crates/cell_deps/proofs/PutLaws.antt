@@ -12,7 +12,8 @@ use Rattle.arithmetic.proofs.LittleEndianLaws.{length-to_le, wrapped}
 use Rattle.molecule.specs.Layout.{span}
 use Rattle.molecule.specs.Write.{put_at, put_end, Put}
 use Rattle.molecule.proofs.WriteLaws.{did, then, length-kept}
-use Rattle.list_writer.specs.ListWriter.{fix_list, put_list, put_list_end}
+use Rattle.molecule.specs.Items.{fix_list}
+use Rattle.list_writer.specs.ListWriter.{put_list, put_list_end}
 use Rattle.list_writer.specs.Around.{fits_at}
 use Rattle.list_writer.proofs.AnswerLaws.{fit-room, list_in_lem, list_in_end}
 use Rattle.list_writer.proofs.LoopLaws.{Sizing, size-more, size-end, Writing, write-more}

@@ -4,7 +4,8 @@
 ghost use Rattle.std.specs.Prelude.{◌≡◌, ◌+◌, ◌≤◌, min, length};
 ghost use mathlib.Core.List.{flatten};
 ghost use Rattle.molecule.specs.Write.{Put};
-ghost use Rattle.list_writer.specs.ListWriter.{fix_list, put_list, put_list_end};
+ghost use Rattle.molecule.specs.Items.{fix_list};
+ghost use Rattle.list_writer.specs.ListWriter.{put_list, put_list_end};
 ghost use Rattle.cell_deps.specs.CellDeps.{any_count};
 ghost use Rattle.cell_deps.specs.DepLists.{dep_of, count_of, chosen_of};
 

@@ -10,7 +10,7 @@ use lib.ListN.{length, take, set, length-set, length-append}
 use Rattle.molecule.specs.Layout.{span, fix_count, fix_item}
 use Rattle.lists.specs.Lists.{eq_bytes, contains}
 use Rattle.lists.proofs.EqualLaws.{eq_refl, eq_true}
-use Rattle.lists.proofs.SpanLaws.{span-on, span-end, span-whole}
+use Rattle.lists.proofs.SpanLaws.{span-on, span-end, span-split, span-whole}
 use Rattle.std.specs.Prelude.{Option, Some, nat_eq}
 use Rattle.std.specs.Option.{option_eq}
 use Rattle.std.specs.List.{position}
@@ -24,7 +24,7 @@ use Rattle.item_index.proofs.FindLaws.{index_front, position_eq}
 use Rattle.distinct_deps.specs.Listed.{Listed}
 use Rattle.item_index.proofs.OrderLaws.{three}
 use Rattle.cell_deps.specs.CellDeps.{before, any_count, last_dep_at, own_dep_at, dep_at, dep_pushed, push_all, cell_deps, dep_count, deps_at, Chooses}
-use Rattle.cell_deps.proofs.DepLaws.{before_in, before_past, any_none, span_agree, span-split, span-before, all_spans}
+use Rattle.cell_deps.proofs.DepLaws.{before_in, before_past, any_none, span_agree, span-before, all_spans}
 use Rattle.distinct_deps.proofs.SortedLaws.{contains_last}
 use Rattle.distinct_deps.proofs.ChooseLaws.{there, new, all_grow, chosen-long}
 

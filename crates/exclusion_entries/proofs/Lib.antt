@@ -1,7 +1,6 @@
 pub mod EntryLaws
 pub mod LentLaws
 pub mod MapLaws
-pub mod SpliceLaws
 pub mod StayLaws
 pub mod SurveyLaws
 pub mod Ways

@@ -18,7 +18,7 @@ use Rattle.out_points.proofs.AgainLaws.{word_again, word_back, behind}
 use Rattle.exclusion_entries.specs.Exclusions.{MapEntry, excluded}
 use Rattle.exclusion_entries.specs.Entries.{entry_bytes, entries_bytes, map_bytes, FitEntry, map_entry_of, entry_size, entries_in, excluded_at, are_entries, map_size, is_map}
 use Rattle.exclusion_entries.proofs.EntryLaws.{length-entry, points-count, entries-long, entries_fit, entries-back, entries_are, first-room, rest_are, entries_again, entries-size, points_most}
-use Rattle.exclusion_entries.proofs.SpliceLaws.{splice-same}
+use Rattle.molecule.proofs.SpliceLaws.{splice-same}
 
 -- ---- what the form says
 

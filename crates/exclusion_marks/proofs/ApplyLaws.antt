@@ -18,7 +18,7 @@ use Rattle.exclusion_entries.specs.Exclusions.{excluded}
 use Rattle.exclusion_entries.specs.Entries.{map_entry_of, entry_size, entries_in, excluded_at, are_entries, map_size, is_map}
 use Rattle.exclusion_entries.proofs.EntryLaws.{from-here, points_again, first-room, rest_are}
 use Rattle.exclusion_entries.proofs.MapLaws.{map-long, map-few, map_are}
-use Rattle.exclusion_entries.proofs.SpliceLaws.{splice-none, splice-then}
+use Rattle.molecule.proofs.SpliceLaws.{splice-none, splice-then}
 
 bytes-append : (l r : List OutPoint) → points_bytes (l ++ r) ≡ points_bytes l ++ points_bytes r
 unfolding points_bytes

@@ -29,7 +29,7 @@ use Rattle.exclusion_entries.specs.Entries.{map_bytes, excluded_at, is_map}
 use Rattle.exclusion_entries.specs.Inner.{keeps, takes, stay, survey_of, hash_of}
 use Rattle.exclusion_entries.specs.Calls.{map_table, Applies}
 use Rattle.exclusion_entries.proofs.LentLaws.{lent_unread, lent-on, off_map, on_map, stay-keep, keep_all, hash_bad, hash_good}
-use Rattle.exclusion_entries.proofs.SpliceLaws.{splice-under}
+use Rattle.molecule.proofs.SpliceLaws.{splice-under}
 use Rattle.exclusion_entries.proofs.StayLaws.{told-points, told_good, points-few}
 
 -- ---- commit

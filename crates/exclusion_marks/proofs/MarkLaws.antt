@@ -25,7 +25,7 @@ use Rattle.exclusion_entries.specs.Exclusions.{MapEntry, has_hash, committed_at}
 use Rattle.exclusion_entries.specs.Entries.{state_kind, block_of, state_bytes, entry_bytes, entries_bytes, map_bytes, FitEntry, map_entry_of, entry_size, entries_in, excluded_at, are_entries, map_size, is_map}
 use Rattle.exclusion_entries.proofs.EntryLaws.{from-here, entry_again, points-count, length-entry, first-is, first-room, rest_are, entries-long, entries-size, points_most}
 use Rattle.exclusion_entries.proofs.MapLaws.{map-long, map-few, map_are, map-count, map-points, map-fits, splice-back}
-use Rattle.exclusion_entries.proofs.SpliceLaws.{splice-none, drop-splice, splice-same, splice-then}
+use Rattle.molecule.proofs.SpliceLaws.{splice-none, drop-splice, splice-same, splice-then}
 use Rattle.exclusion_marks.specs.Inner.{commit_one_bytes}
 
 -- ---- one entry

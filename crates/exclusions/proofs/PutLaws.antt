@@ -32,7 +32,7 @@ use Rattle.exclusion_entries.specs.Entries.{state_kind, block_of, state_bytes, e
 use Rattle.exclusion_entries.specs.Inner.{keeps, takes, stay, ahead, behind, survey_of}
 use Rattle.exclusion_entries.proofs.EntryLaws.{length-entry, entries-size, bytes-join}
 use Rattle.exclusion_entries.proofs.MapLaws.{map-long, map-few, map-count, map-points}
-use Rattle.exclusion_entries.proofs.SpliceLaws.{splice-none, splice-then, splice-under, splice-over, part-splice}
+use Rattle.molecule.proofs.SpliceLaws.{splice-none, splice-then, splice-under, splice-over, part-splice}
 use Rattle.exclusion_entries.proofs.StayLaws.{stay-split, stay-size, renew-split, told_good, told_stays, told-points, told-place}
 use Rattle.std.specs.List.{copy_within}
 use Rattle.exclusions.proofs.MoveLaws.{within-splice}

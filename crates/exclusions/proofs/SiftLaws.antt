@@ -19,7 +19,7 @@ use Rattle.exclusion_entries.specs.Entries.{entry_bytes, entries_bytes, map_entr
 use Rattle.exclusion_entries.specs.Inner.{keeps, takes, stay, leading, survey_of}
 use Rattle.exclusion_entries.proofs.EntryLaws.{from-here, entry_again, first-is, first-room, rest_are, entries-size, points_most, entries-long, bytes-join}
 use Rattle.exclusion_entries.proofs.MapLaws.{map-long, map-few, map_are, map_again, Cut, cut}
-use Rattle.exclusion_entries.proofs.SpliceLaws.{splice-none, drop-splice, splice-same, splice-then}
+use Rattle.molecule.proofs.SpliceLaws.{splice-none, drop-splice, splice-same, splice-then}
 use Rattle.exclusion_entries.proofs.StayLaws.{stay-leading, leading-is, stay-size, told_good, told-from, told-index}
 use Rattle.std.specs.List.{copy_within}
 use Rattle.exclusions.proofs.MoveLaws.{within-splice}

@@ -11,7 +11,7 @@ use Rattle.error.specs.declared.Refusal.{Refusal}
 use Rattle.error.specs.Refusal.{number, values}
 use Rattle.units.specs.declared.{Shannons.Shannons, Tokens.Tokens}
 use Rattle.units.specs.Units.{shannon_count, token_count, Figures}
-use Rattle.molecule.specs.Items.{join}
+use Rattle.molecule.specs.Items.{join, fix_list}
 use Rattle.molecule.specs.Layout.{item_count, item_of, fix_count, fix_item}
 use Rattle.molecule.proofs.Offsets.{span-length}
 use Rattle.transaction.specs.Ckb.{CellDep, CellDeps}
@@ -21,7 +21,7 @@ use Rattle.transaction_writer.specs.declared.TxFields.{TxFields}
 use Rattle.transaction_writer.specs.TxFields.{AreTxFields}
 use Rattle.transaction_writer.specs.Written.{fits, in_room, written}
 use Rattle.transaction_writer.proofs.PutLaws.{tx_length}
-use Rattle.list_writer.specs.ListWriter.{fix_list, if_positive}
+use Rattle.list_writer.specs.ListWriter.{if_positive}
 use Rattle.list_writer.proofs.AgainLaws.{if_readable}
 use Rattle.cell_deps.specs.CellDeps.{cell_deps, dep_count, deps_at, Chooses}
 use Rattle.cell_deps.specs.declared.DepLists.{DepLists}

@@ -17,7 +17,7 @@ use Rattle.transaction.proofs.ListLaws.{option-none, hash-size}
 use Rattle.transaction.proofs.FieldLaws.{bytes_raw, no_raw}
 use Rattle.transaction_writer.specs.Written.{in_form}
 use Rattle.transaction_writer.proofs.RewriteLaws.{lists_in_form}
-use Rattle.list_writer.specs.ListWriter.{fix_list}
+use Rattle.molecule.specs.Items.{fix_list}
 use Rattle.list_writer.proofs.AgainLaws.{again}
 use Rattle.base_writer.specs.Lists.{or_empty}
 

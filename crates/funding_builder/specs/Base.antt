@@ -2,7 +2,7 @@
 -- `assemble_base_tx`, `add_udt_lock_dep` and `with_extra_cell_deps`): what is refused, in the order of the rules' table, and the transaction that is written,
 -- list by list.
 use Rattle.std.specs.Prelude.{ℕ, zero, suc, ◌-◌, Bool, not, ◌||◌, List, length, eqb}
-use Rattle.molecule.specs.Items.{join}
+use Rattle.molecule.specs.Items.{join, fix_list}
 use Rattle.molecule.specs.Layout.{items_of}
 use Rattle.molecule.specs.Molecule.{readable, option}
 use Rattle.transaction.specs.Ckb.{TokenCells, CellDep, CellDeps, Transaction}
@@ -17,7 +17,7 @@ use Rattle.udt_cells.specs.Pick.{Pick, pick_typed}
 use Rattle.udt_cells.specs.Change.{capacity_for}
 use Rattle.base_inputs.specs.BaseInputs.{input_list}
 use Rattle.base_lists.specs.BaseLists.{output_list, data_list, witness_list}
-use Rattle.list_writer.specs.ListWriter.{fix_list, if_positive}
+use Rattle.list_writer.specs.ListWriter.{if_positive}
 use Rattle.cell_deps.specs.CellDeps.{cell_deps}
 
 -- what is lent: our transaction (empty for none), the funding lock, the type (empty for none), our source lock, token cells, the token's deps (empty: not

@@ -6,7 +6,8 @@ use Rattle.transaction.specs.Tx.{args_of}
 use Rattle.funding_cell.specs.FundingCell.{cell_of, cell_of_sums, funding_cell}
 use Rattle.cell_output.specs.CellOutput.{cell_output}
 use Rattle.udt_cells.specs.Pick.{plus_cell, enough_or, pick_from, pick_typed}
-use Rattle.list_writer.specs.ListWriter.{bytes_item, fix_list, item_or, items_after_first, if_any, if_positive}
+use Rattle.molecule.specs.Items.{fix_list}
+use Rattle.list_writer.specs.ListWriter.{bytes_item, item_or, items_after_first, if_any, if_positive}
 use Rattle.transaction_writer.specs.Written.{raw_bytes, tx_bytes, fits, in_room}
 use Rattle.base_inputs.specs.BaseInputs.{picked_input, picked, input_list}
 use Rattle.base_lists.specs.BaseLists.{placeholder, output_list, data_list, witness_list}

@@ -8,7 +8,7 @@ use borrow.Author.Tests.{le-leb, lt-leb}
 use lib.Dec.{T}
 use lib.ListN.{length, drop, replicate, length-append, length-replicate}
 use Rattle.arithmetic.proofs.LittleEndianLaws.{length-to_le}
-use Rattle.molecule.specs.Items.{join}
+use Rattle.molecule.specs.Items.{join, fix_list}
 use Rattle.molecule.specs.Molecule.{byte, Good, size, encode, readable}
 use Rattle.molecule.specs.Partial.{All, there}
 use Rattle.molecule.proofs.DecodedLaws.{encode-array-byte}
@@ -20,7 +20,6 @@ use Rattle.error.specs.Outcome.{Outcome, fine, refused, answer_by, check, check_
 use Rattle.units.specs.Units.{Figures}
 use Rattle.cell_output.specs.CellOutput.{cell_output}
 use Rattle.cell_output.proofs.CellOutputLaws.{output-length}
-use Rattle.list_writer.specs.ListWriter.{fix_list}
 use Rattle.transaction_writer.specs.Written.{fits, in_room, written}
 use Rattle.transaction_writer.proofs.PutLaws.{tx_length}
 use Rattle.udt_cells.specs.Pick.{Pick}

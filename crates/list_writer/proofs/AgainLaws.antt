@@ -15,7 +15,8 @@ use Rattle.molecule.proofs.ItemsLaws.{word_back}
 use Rattle.molecule.proofs.ChunksLaws.{Long, length-chunks, chunks_long, flatten_chunks}
 use Rattle.molecule.proofs.ReadableLaws.{readable-fixvec, readable-option}
 use Rattle.molecule.proofs.DecodedLaws.{items-few, fix_chunks}
-use Rattle.list_writer.specs.ListWriter.{fix_list, if_positive}
+use Rattle.molecule.specs.Items.{fix_list}
+use Rattle.list_writer.specs.ListWriter.{if_positive}
 
 module _ (t : Ty) (ok : T (fixed t)) (one : 1 ≤ size t) (s : List ℕ) (h : readable (fixvec t) s ≡ true) where
   tests : (leb 4 (length s) ≡ true) × (eqb (length s) (4 + le (take 4 s) * size t) ≡ true)

@@ -14,10 +14,6 @@ joined parts = flat_map (λ p. p.now) parts
 unfoldable pub bytes_item : List ℕ → List ℕ
 bytes_item s = to_le 4 (length s) ++ s
 
--- a list of sized items: how many there are, and the items
-unfoldable pub fix_list : List (List ℕ) → List ℕ
-fix_list xs = to_le 4 (length xs) ++ flatten xs
-
 -- item i of a list of unsized ones; empty bytes where it has fewer
 unfoldable pub item_or : List ℕ → ℕ → List ℕ
 item_or s i = cond (ltb i (item_count s)) (item_of s i) (bytes_item [])

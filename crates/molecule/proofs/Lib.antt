@@ -7,6 +7,7 @@ pub mod MoleculeLaws
 pub mod Offsets
 pub mod PartialLaws
 pub mod ReadableLaws
+pub mod SpliceLaws
 pub mod TestLaws
 pub mod Valid
 pub mod Ways

@@ -29,6 +29,10 @@ join xs =
     let h = header (length xs) in
     unwords ((h + length (flatten xs)) ∷ offsets h xs) ++ flatten xs
 
+-- items of one size need no offsets (a fixvec): how many there are, and the items
+unfoldable pub fix_list : List (List ℕ) → List ℕ
+fix_list xs = to_le 4 (length xs) ++ flatten xs
+
 -- body, which begins at o, cut at each of the offsets ps: none may be before the one in front of it, or past the end
 unfoldable pub cuts : ℕ → List ℕ → List ℕ → Option (List (List ℕ))
 cuts o [] body = some (body ∷ [])

@@ -8,10 +8,10 @@ use Rattle.molecule.specs.Layout.{span, word, fix_count, fix_item}
 use Rattle.molecule.specs.Write.{splice}
 use Rattle.molecule.proofs.Offsets.{span-length}
 use Rattle.molecule.proofs.LayoutLaws.{fix_count-word}
+use Rattle.molecule.proofs.SpliceLaws.{drop-splice}
 use Rattle.molecule.proofs.WriteLaws.{splice_zero, splice-length}
 use Rattle.lists.proofs.RunLaws.{item_run}
-use Rattle.lists.proofs.SpanLaws.{span-drop}
-use Rattle.rows.proofs.StretchLaws.{drop-splice, span-split}
+use Rattle.lists.proofs.SpanLaws.{span-drop, span-split}
 use Rattle.rows.specs.Rows.{is_table}
 use Rattle.rows.proofs.RowLaws.{ends-within}
 

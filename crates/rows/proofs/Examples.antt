@@ -5,7 +5,8 @@ use Rattle.arithmetic.specs.LittleEndian.{le, to_le, num_at}
 use Rattle.molecule.specs.Layout.{part, span, word, fix_count, fix_item}
 use Rattle.molecule.specs.Write.{splice, put_at}
 use Rattle.lists.specs.Lists.{eq_bytes}
-use Rattle.rows.specs.Rows.{is_table, row_count, row_at, rows_of, rows_bytes, has_key, first_with, find, room_for, with_row, with_count, pushed, replaced, rows_behind, removed}
+use Rattle.molecule.specs.Items.{fix_list}
+use Rattle.rows.specs.Rows.{is_table, row_count, row_at, rows_of, has_key, first_with, find, room_for, with_row, with_count, pushed, replaced, rows_behind, removed}
 
 -- no row, two rows with two bytes behind them, and as many as there is room for
 abbrev none : List ℕ
@@ -65,8 +66,8 @@ pub claimed : row_count (255 ∷ 255 ∷ 255 ∷ 255 ∷ 1 ∷ 2 ∷ []) ≡ 6
 unfolding fix_count word num_at le
 claimed = refl
 
-pub written : rows_bytes ((10 ∷ 11 ∷ []) ∷ (20 ∷ 11 ∷ []) ∷ []) ≡ 2 ∷ 0 ∷ 0 ∷ 0 ∷ 10 ∷ 11 ∷ 20 ∷ 11 ∷ []
-unfolding rows_bytes to_le flatten
+pub written : fix_list ((10 ∷ 11 ∷ []) ∷ (20 ∷ 11 ∷ []) ∷ []) ≡ 2 ∷ 0 ∷ 0 ∷ 0 ∷ 10 ∷ 11 ∷ 20 ∷ 11 ∷ []
+unfolding fix_list to_le flatten
 written = refl
 
 -- ---- find

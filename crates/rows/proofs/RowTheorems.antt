@@ -5,7 +5,8 @@ use mathlib.Core.Bool.{false≢true}
 use Rattle.arithmetic.specs.LittleEndian.{AllBytes}
 use Rattle.lists.specs.Lists.{eq_bytes}
 use Rattle.lists.proofs.EqualLaws.{eq_true, eq_refl}
-use Rattle.rows.specs.Rows.{is_table, row_count, row_at, rows_of, rows_bytes, has_key, find, pushed, replaced, removed}
+use Rattle.molecule.specs.Items.{fix_list}
+use Rattle.rows.specs.Rows.{is_table, row_count, row_at, rows_of, has_key, find, pushed, replaced, removed}
 use Rattle.rows.proofs.TableLaws as laws
 
 -- s is a table with room for n rows of k bytes: a row has a byte at least, and the count of n rows fits its four bytes
@@ -33,7 +34,7 @@ module _ {k n : ℕ} {s : List ℕ} (t : Table k n s) where
   row_length = laws.row_length k n s t.wide t.form
 
   -- with the bytes behind them they are the bytes lent
-  pub rows_again : AllBytes s → rows_bytes (rows_of k s) ++ drop (4 + k * row_count s) s ≡ s
+  pub rows_again : AllBytes s → fix_list (rows_of k s) ++ drop (4 + k * row_count s) s ≡ s
   rows_again = laws.rows_again k n s t.wide t.form
 
   -- ---- push: the row stands behind all others; a full table stays as it was

@@ -1,5 +1,5 @@
 -- What a table means after push, replace and remove, what `find` answers, and rows as bytes: the proofs of what RowTheorems.antt states.
-use Rattle.std.proofs.Common.{Option, Some, None, ◌≡◌, ℕ, zero, suc, ◌+◌, ◌-◌, ◌*◌, ◌^◌, ◌<◌, ◌≤◌, Bool, true, false, cond, ◌&&◌, eqb, ltb, leb, List, [], ◌∷◌, ◌++◌, length, take, drop, set, replicate, sym, refl, ap, ◌∙◌, ap₂, append_assoc, append-nil, mul-zero, mul-suc, mul-add, add-one, arith, length-append, take-append-drop, drop_of_length-le, length-take-le, take_all, take_at, take-add, drop_at, ltb-false, ltb-true, eqb-true, leb-true}
+use Rattle.std.proofs.Common.{Option, Some, None, ◌≡◌, ℕ, zero, suc, ◌+◌, ◌-◌, ◌*◌, ◌^◌, ◌<◌, ◌≤◌, Bool, true, false, cond, ◌&&◌, eqb, ltb, leb, List, [], ◌∷◌, ◌++◌, length, take, drop, set, replicate, sym, refl, ap, ◌∙◌, ap₂, append_assoc, append-nil, mul-zero, mul-suc, mul-add, add-one, arith, length-append, length-drop, take-append-drop, drop_of_length-le, length-take-le, take_all, take_at, take-add, drop_at, ltb-false, ltb-true, eqb-true, leb-true}
 use mathlib.Core.Bool.{and-eq-true_iff}
 use mathlib.Core.List.{flatten}
 use native.Mathlib.Nat.{le_of_mul-le-mul_left}
@@ -7,18 +7,23 @@ use lib.ListN.{length-replicate, replicate-append-replicate}
 use lib.Seq.{set_split, set_out}
 use Rattle.arithmetic.specs.LittleEndian.{le, to_le, AllBytes}
 use Rattle.arithmetic.proofs.LittleEndianLaws.{length-to_le, le-to_le, to_le-le, num_some}
+use Rattle.molecule.specs.Items.{fix_list}
 use Rattle.molecule.specs.Layout.{span, word, fix_count, fix_item}
 use Rattle.molecule.specs.Partial.{All}
 use Rattle.molecule.specs.Write.{splice}
 use Rattle.molecule.proofs.Offsets.{span-length}
 use Rattle.molecule.proofs.ItemsLaws.{bytes_take}
 use Rattle.molecule.proofs.LayoutLaws.{fix_count-word, fix_count_said}
+use Rattle.molecule.proofs.SpliceLaws.{drop-splice}
 use Rattle.molecule.proofs.WriteLaws.{put_yes}
 use Rattle.lists.proofs.RunLaws.{item_run, next_run}
-use Rattle.rows.proofs.StretchLaws.{drop-splice, length_part, span-split}
-use Rattle.rows.specs.Rows.{is_table, row_count, row_at, rows_of, rows_bytes, has_key, first_with, find, room_for, pushed, replaced, removed}
+use Rattle.lists.proofs.SpanLaws.{span-split}
+use Rattle.rows.specs.Rows.{is_table, row_count, row_at, rows_of, has_key, first_with, find, room_for, pushed, replaced, removed}
 use Rattle.rows.proofs.RowLaws.{next_place, place-order, ends-within, table_is, push_is, push_full, replace_is, replace_past, remove-is, remove_past}
 use Rattle.rows.proofs.ChangeLaws.{inside-write, part-within, span_same, span-take, span-behind, span-first, table-length, table-word, rows-below, count_word, put_long, put_word, put_before, counted-long, counted-word, counted_row}
+
+length_part : (s : List ℕ) (from n : ℕ) → from + n ≤ length s → length (take n (drop from s)) ≡ n
+length_part s from n h = length-take-le n (drop from s) (rw (length-drop from s) (omega arith))
 
 below_or_not : (i n : ℕ) (P : Type 0) → (i < n → P) → (n ≤ i → P) → P
 below_or_not i n P f g = by (ltb i n) refl
@@ -401,8 +406,8 @@ flatten_length k (row ∷ rows) a =
     length-append row (flatten rows) ∙ ap₂ ◌+◌ a.0 (flatten_length k rows a.1) ∙ omega (arith, mul-suc k (length rows))
 
 -- rows written are read, whatever bytes follow
-pub rows_back : (k : ℕ) (rows : List (List ℕ)) (z : List ℕ) → 0 < k → length rows < 2 ^ 32 → All (λ row. length row ≡ k) rows → rows_of k (rows_bytes rows ++ z) ≡ rows
-unfolding rows_bytes word
+pub rows_back : (k : ℕ) (rows : List (List ℕ)) (z : List ℕ) → 0 < k → length rows < 2 ^ 32 → All (λ row. length row ≡ k) rows → rows_of k (fix_list rows ++ z) ≡ rows
+unfolding fix_list word
 rows_back k rows z p h a =
     let C = to_le 4 (length rows) in
     let s = C ++ flatten rows ++ z in
@@ -425,8 +430,8 @@ items_again k s i (suc m) h =
     ∙ sym (ap (λ (n : ℕ). take n (drop (4 + k * i) s)) e ∙ take-add k (k * m) (drop (4 + k * i) s))
 
 -- a table is its rows, written, and the bytes behind them
-pub rows_again : (k n : ℕ) (s : List ℕ) → 0 < k → is_table k n s ≡ true → AllBytes s → rows_bytes (rows_of k s) ++ drop (4 + k * row_count s) s ≡ s
-unfolding rows_bytes word
+pub rows_again : (k n : ℕ) (s : List ℕ) → 0 < k → is_table k n s ≡ true → AllBytes s → fix_list (rows_of k s) ++ drop (4 + k * row_count s) s ≡ s
+unfolding fix_list word
 rows_again k n s p t b =
     let c = row_count s in
     let ls = table-length k n s t in

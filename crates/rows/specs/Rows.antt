@@ -30,10 +30,6 @@ row_start k s i = fix_start s k i
 abbrev pub rows_of : ℕ → List ℕ → List (List ℕ)
 rows_of k s = fix_items k s
 
--- rows as bytes
-unfoldable pub rows_bytes : List (List ℕ) → List ℕ
-rows_bytes rows = to_le 4 (length rows) ++ flatten rows
-
 -- ---- a row looked for by some of its bytes
 
 -- its bytes from `at` on begin with the key

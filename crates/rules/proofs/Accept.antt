@@ -85,7 +85,7 @@ unfolding is_of has_amount
 read_settled type c h gone d = by_type (is_of type c) h
   where
     none-there : T (has_amount c) → ⊥
-    none-there t = subst (λ (l : List ℕ). T (leb 16 (length l))) gone t
+    none-there t = subst (λ (l : List ℕ). T (has_amount (with_data c.output l))) gone t
 
     by_type : (b : Bool) → T (not b || has_amount c) → cond b (amount_of (with_data c.output d)) 0 ≡ cond b (amount_of c) 0
     by_type true h = absurd (none-there h)
