@@ -15,7 +15,8 @@ use error::{Answer, Refusal};
 use hold_records::{Held, Rule, Taker};
 use units::Millis;
 
-// Writes the table that a call returned, if the call is done.
+// Writes the table that a call returned, if the call is done. Within its callers, as `on_table` is.
+#[inline(always)]
 fn leave(s: &mut [u8], r: Result<Held, Refusal>) -> Answer
     requires { length s.old ≡ held_size }
     ensures { Leaves held_table s.old (answered result) s.new (told r) }

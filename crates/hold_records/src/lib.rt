@@ -137,7 +137,9 @@ fn cell_of(r: Hold) -> OutPoint
 }
 
 // Puts the cells of the records from `from` on, one after the other from `at` on. This list and the two of picks (`unavailable_picks`, `picks`) each have a
-// loop of their own: one loop for all would be a public function over a closure that gives the points, and such a one needs a `requires`.
+// loop of their own: one loop for all would be a public function over a closure that gives the points, and such a one needs a `requires`. Within its
+// callers, as `put_cells` is: in calls of their own each would copy the table, of 14 KB.
+#[inline(always)]
 fn put_points(h: Held, from: usize, out: &mut [u8], at: usize) -> usize
     requires { at + 36 * (min h.count 256 - from) ≤ length out.old }
     ensures put { Put out.old at (points_bytes (cells_of (drop from (records_of h)))) out.new result }
@@ -152,6 +154,7 @@ fn put_points(h: Held, from: usize, out: &mut [u8], at: usize) -> usize
 }
 
 // Puts the list of the cells of the records from `from` on at the start of out, and answers whether there is room for all of it: else it puts nothing.
+#[inline(always)]
 pub fn put_cells(h: Held, from: usize, out: &mut [u8]) -> bool
     ensures value { result ≡ has_room (cells_of (drop from (records_of h))) out.old }
     ensures out_after { out.new ≡ put_if (cells_of (drop from (records_of h))) out.old }
