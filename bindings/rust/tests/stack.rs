@@ -182,12 +182,12 @@ mod too_little {
         false
     }
 
-    /// `check_case` needs more than 192 KB and less than 224, `take` more than 160 and less than 192, and no other call as much as `take`.
+    /// `check_case` needs more than 208 KB and less than 224, `take` more than 176 and less than 208, and no other call as much as `take`.
     #[test]
     fn the_largest_calls() {
         for (call, _) in LARGE.into_iter().chain(SMALL) {
-            assert_eq!(returns(call, 192 * 1024), call != "check_case", "{call}");
-            assert_eq!(returns(call, 160 * 1024), call != "check_case" && call != "take", "{call}");
+            assert_eq!(returns(call, 208 * 1024), call != "check_case", "{call}");
+            assert_eq!(returns(call, 176 * 1024), call != "check_case" && call != "take", "{call}");
         }
         assert!(returns("check_case", 224 * 1024));
     }
