@@ -255,6 +255,9 @@ fn main() {
     let picks = list(&points(1000..1064));
     let (mut held, mut taken, mut refused) = (filled(&fewer_list), room(), room());
     let of_take = stack_use(|| assert_eq!(library::take(&mut held, &picks, &none, false, 2, 5, &mut taken, &mut refused), 0));
+    // as many picks as are indexed; two lists have no room for them: 13
+    let most = list(&points(1000..8394));
+    let of_most = stack_use(|| assert_eq!(library::take(&mut held, &most, &none, false, 2, 5, &mut taken, &mut refused), 13));
     let of_migrate = stack_use(|| assert_eq!(library::exclusions_migrate_funding_tx(&mut map, hash, &[99; 32], tx), 0));
-    println!("stack: take {of_take} bytes, exclusions_migrate_funding_tx {of_migrate} bytes");
+    println!("stack: take {of_take} bytes, of 7,394 picks {of_most}, exclusions_migrate_funding_tx {of_migrate} bytes");
 }

@@ -14,7 +14,7 @@
    the refusal carries (6 and 8, below, and no other), and all others keep their value.
    `places_len` and `answers_len` count words of 64 bits; every other length counts bytes.
 
-   A thread that calls needs half a megabyte of stack; measured were up to 212 KB (basinpantry_check_case) and 194 KB (basinpantry_take). Calls may run at once
+   A thread that calls needs half a megabyte of stack; measured were up to 212 KB (basinpantry_check_case) and 195 KB (basinpantry_take). Calls may run at once
    unless one of them writes to a table or buffer that another is lent: two that only read a table may. */
 #ifndef BASINPANTRY_H
 #define BASINPANTRY_H

@@ -7,7 +7,7 @@
 //! - the functions keep no pointer, have no state of their own, call nothing back and don't unwind; it is proved of them that on any content they
 //!   return, and read and write nothing outside the lent slices;
 //! - the stack is enough: half a megabyte is asked for, and a thread of the standard library has two unless another size is asked for. Of the calls that were
-//!   measured the largest used up to 212 KB (`check_case`) and 194 KB (`take`); tests/stack.rs makes them all with half a megabyte, and sees that these two need
+//!   measured the largest used up to 212 KB (`check_case`) and 195 KB (`take`); tests/stack.rs makes them all with half a megabyte, and sees that these two need
 //!   the most. With too little a call ends the process: the archive touches a frame of many pages page by page, so that it meets the guard page below the
 //!   stack, which tests/stack.rs sees of each call that has such a frame;
 //! - the types are those of the header (tests/header.rs compares them): `size_t` is `usize`, `bool` is `bool`, and a call answers 0 or 1 for one.

@@ -36,11 +36,16 @@ fn call_check_case() {
     assert_eq!(check_case(&bytes), "3\n");
 }
 
-/// A full table.
+/// As many picks as are indexed.
+const MOST_PICKS: u32 = 7_394;
+
+/// A full table, and as many picks as are indexed: two lists have no room for them.
 fn call_take() {
     let mut held = HeldCells::new();
     assert_eq!(held.take(&points(256), &[], Taker::Funding(1), 0).expect("room").taken.len(), 256);
     assert_eq!(held.take(&points(256), &[], Taker::Watchtower, 0).expect("a table").refused.len(), 256);
+    assert!(held.take(&points(MOST_PICKS), &points(256), Taker::Watchtower, 0).is_err());
+    assert_eq!(held.len(), 256);
 }
 
 /// As many cell deps as fit a transaction.
@@ -90,6 +95,7 @@ fn call_lock_held() {
 
 fn call_unavailable() {
     assert_eq!(HeldCells::new().unavailable(&points(256), &points(256), 5).expect("a table").len(), 256);
+    assert!(HeldCells::new().unavailable(&points(MOST_PICKS), &points(256), 5).is_ok_and(|cells| cells.len() == 256));
 }
 
 /// The same three on full tables.
