@@ -16,12 +16,14 @@ PARTS = {
 INNER = '-- What the functions inside promise one another', '-- What functions of this crate answer inside', '-- What the functions of this crate answer inside'
 
 # statements of theorems that no code needs
-STATEMENTS = 'crates/table_laws/specs/*.antt crates/transaction_theorems/proofs/Claims.antt crates/base_theorems/proofs/Claims.antt crates/base_compared/proofs/Claims.antt crates/molecule/proofs/Valid.antt'
+STATEMENTS = 'crates/table_laws/specs/*.antt crates/transaction_theorems/proofs/Claims.antt crates/base_theorems/proofs/Claims.antt crates/base_compared/proofs/Claims.antt crates/molecule/proofs/Valid.antt crates/arithmetic/specs/Bits.antt'
 
 
-def lines(paths, inner=False):
+def lines(paths, inner=False, without=()):
     count = 0
     for path in glob.glob(paths):
+        if path in without:
+            continue
         if open(path).readline().startswith(INNER) != inner:
             continue
         for line in open(path):
@@ -33,7 +35,7 @@ def lines(paths, inner=False):
 
 def main():
     for part, crates in PARTS.items():
-        print('%4d  %s' % (sum(lines('crates/%s/specs/*.antt' % c) for c in crates.split()), part))
+        print('%4d  %s' % (sum(lines('crates/%s/specs/*.antt' % c, without=STATEMENTS.split()) for c in crates.split()), part))
     print('%4d  %s' % (sum(map(lines, STATEMENTS.split())), 'statements of the theorems that no code needs'))
     print('%4d  %s' % (lines('crates/*/specs/*.antt', True), 'not to be believed: what functions inside promise one another'))
 

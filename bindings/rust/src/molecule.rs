@@ -79,8 +79,8 @@ pub(crate) fn each_part(s: &[u8]) -> Option<impl ExactSizeIterator<Item = Option
     if number_at(s, 0)? != s.len() {
         return None;
     }
-    let head = if s.len() == 4 { 4 } else { number_at(s, 4).filter(|head| head % 4 == 0 && (8..=s.len()).contains(head))? };
-    let count = head / 4 - 1;
+    let head = if s.len() == 4 { 4 } else { number_at(s, 4).filter(|head| head & 3 == 0 && (8..=s.len()).contains(head))? };
+    let count = (head >> 2) - 1;
     Some((1..count + 1).map(move |i| {
         let end = if i == count { s.len() } else { number_at(s, 4 * (i + 1))? };
         s.get(number_at(s, 4 * i)?..end)

@@ -1,5 +1,6 @@
-// Amounts of 128 bits, and numbers as bytes.
+// Amounts of 128 bits, bits of a number, and numbers as bytes.
 #![tactic(auto, using(crate::proofs::Ways::ways))]
 
 pub mod amount;
+pub mod bits;
 pub mod little_endian;

@@ -11,7 +11,7 @@ ghost use Rattle.molecule.specs.Molecule.{Ty, readable, fixvec, dynvec, array, b
 ghost use Rattle.molecule.specs.Layout.{part, part_start, inside, word, start, has_header, has_items, field_of, field_start, item_count, item_of, item_start};
 ghost use Rattle.molecule.specs.Layout.{fix_count, fix_item, fix_start, content, content_start, entry_of, entry_start};
 
-use arithmetic::little_endian;
+use arithmetic::{bits, little_endian};
 
 // The bytes from `from` up to `to`, as many of them as there are.
 pub fn part(s: &[u8], from: usize, to: usize) -> &[u8]
@@ -41,11 +41,20 @@ pub fn start(s: &[u8], n: usize, i: usize) -> usize
     }
 }
 
-// Whether s has a header of n items: its size, and n starts, of which the first follows the header.
+// Whether s has a header of n items: its size, and n starts, of which the first follows the header, so that it is a multiple of four, and a quarter of it is
+// n + 1.
 pub fn has_header(s: &[u8], n: usize) -> bool
     ensures { result ≡ has_header s.now n }
 {
-    n < s.len() / 4 && word(s, 0) as usize == s.len() && start(s, n, 0) == 4 + 4 * n
+    if s.len() / 4 <= n || word(s, 0) as usize != s.len() {
+        return false;
+    }
+    // with no items the size is all of the header
+    if n == 0 {
+        return s.len() == 4;
+    }
+    let first = word(s, 1);
+    bits::is_multiple_of_four(first) && bits::quarter(first) as usize == n + 1
 }
 
 // Whether s is a header and n items without gaps: a table of n fields, or a dynvec of n items. (`is_dynvec_of` goes over items and tests each as it comes: one
@@ -92,7 +101,7 @@ pub fn field_len(s: &[u8], n: usize, i: usize) -> usize
 pub fn item_count(s: &[u8]) -> u32
     ensures { result ≡ item_count s.now }
 {
-    let said = (word(s, 1) / 4).saturating_sub(1) as usize;
+    let said = bits::quarter(word(s, 1)).saturating_sub(1) as usize;
     said.min(s.len() / 4) as u32
 }
 
