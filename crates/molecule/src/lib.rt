@@ -6,7 +6,7 @@
 
 pub mod write;
 
-ghost use Rattle.std.specs.Prelude.{◌≡◌, ◌+◌, min, Bool, length};
+ghost use Rattle.std.specs.Prelude.{◌≡◌, ◌+◌, min, Bool, cond, length, Some, None};
 ghost use Rattle.molecule.specs.Molecule.{Ty, readable, fixvec, dynvec, array, byte, table, option, end, ◌&◌};
 ghost use Rattle.molecule.specs.Layout.{part, part_start, inside, word, start, has_header, has_items, field_of, field_start, item_count, item_of, item_start};
 ghost use Rattle.molecule.specs.Layout.{fix_count, fix_item, fix_start, content, content_start, entry_of, entry_start};
@@ -41,20 +41,11 @@ pub fn start(s: &[u8], n: usize, i: usize) -> usize
     }
 }
 
-// Whether s has a header of n items: its size, and n starts, of which the first follows the header, so that it is a multiple of four, and a quarter of it is
-// n + 1.
+// Whether s has a header of n items: its size, and n starts, of which the first follows the header.
 pub fn has_header(s: &[u8], n: usize) -> bool
     ensures { result ≡ has_header s.now n }
 {
-    if s.len() / 4 <= n || word(s, 0) as usize != s.len() {
-        return false;
-    }
-    // with no items the size is all of the header
-    if n == 0 {
-        return s.len() == 4;
-    }
-    let first = word(s, 1);
-    bits::is_multiple_of_four(first) && bits::quarter(first) as usize == n + 1
+    n < s.len() / 4 && word(s, 0) as usize == s.len() && start(s, n, 0) == 4 + 4 * n
 }
 
 // Whether s is a header and n items without gaps: a table of n fields, or a dynvec of n items. (`is_dynvec_of` goes over items and tests each as it comes: one
@@ -103,6 +94,24 @@ pub fn item_count(s: &[u8]) -> u32
 {
     let said = bits::quarter(word(s, 1)).saturating_sub(1) as usize;
     said.min(s.len() / 4) as u32
+}
+
+// How many items a dynvec has, if its header is right: its size, and as many starts as it says, of which the first follows the header. The count is a
+// quarter of that offset, less one, so that what is left to ask of it is the remainder.
+pub fn list_header(s: &[u8]) -> Option<u32>
+    ensures { result ≡ cond (has_header s.now (item_count s.now)) (Some (item_count s.now)) None }
+{
+    let count = item_count(s);
+    if s.len() / 4 <= count as usize || word(s, 0) as usize != s.len() {
+        return None;
+    }
+    // with no items the size is all of the header
+    let right = if count == 0 {
+        s.len() == 4
+    } else {
+        bits::is_multiple_of_four(word(s, 1))
+    };
+    if right { Some(count) } else { None }
 }
 
 // Item i of a dynvec.
@@ -170,11 +179,11 @@ pub trait Entity {
 pub fn is_dynvec_of<T: Entity>(s: &[u8]) -> bool
     ensures { result ≡ readable (dynvec T.ty) s.now }
 {
-    let n = item_count(s) as usize;
-    if !has_header(s, n) {
+    let Some(count) = list_header(s) else {
         return false;
-    }
-    let mut from = start(s, n, 0);
+    };
+    let n = count as usize;
+    let mut from = 4 + 4 * n;
     for i in 0..n {
         let to = start(s, n, i + 1);
         // the order alone says that nothing starts past the end: tested here too, it spares a part its clamps, a third of the time

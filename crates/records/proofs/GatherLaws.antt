@@ -1,5 +1,5 @@
 -- Laws of the walk over the records, one for each way out of it.
-use Rattle.std.proofs.Common.{Result, Ok}
+use Rattle.std.proofs.Common.{Result, Ok, Some, None}
 use mathlib.Core.Path.{◌≡◌, refl, sym, ap, ap₂, ◌∙◌}
 use Prim.Native.Nat.{ℕ, zero, suc, ◌+◌, ◌-◌, ◌^◌, ◌≤◌, ◌<◌}
 use mathlib.Core.List.{List, [], ◌∷◌}
@@ -120,6 +120,15 @@ module _ (source type s : List ℕ) (first : ℕ) where
           sums = record { rest = rw (← e) (zero-add _ ∙ ap (total cell_capacity) (sym (span-whole (record_cell_at s) n))); far = omega arith };
           paid = rw (← e) (ap (λ (cs : List Cell). verdict (tally of_records type 0 cs)) (span-whole (record_cell_at s) n));
         }
+
+  -- the same, where the header told how many there are
+  pub gather_counted : {n a : ℕ} → cond (has_header s (item_count s)) (Some (item_count s)) None ≡ Some n → a ≡ start s n 0
+      → Gathering source type s first n 0 a (in_shannons 0) (Ok (in_tokens 0))
+  gather_counted {n} {a} h ea = by (has_header s (item_count s)) refl h
+    where
+      by : (b : Bool) → has_header s (item_count s) ≡ b → cond b (Some (item_count s)) None ≡ Some n → Gathering source type s first n 0 a (in_shannons 0) (Ok (in_tokens 0))
+      by true q f = let e : n ≡ item_count s = cc in gather_start {r = true} e (rw e (sym q)) refl ea
+      by false q f = let z : ◌≡◌ {A = ℕ} 0 1 = cc in absurd (omega arith)
 
 module _ {source type s : List ℕ} {first n i from : ℕ} {capacity : Shannons} {token : Result Tokens Refusal} (g : Gathering source type s first n i from capacity token) where
   pub gather_falls : {to : ℕ} → i < n → to ≡ start s n (i + 1) → to < from

@@ -52,10 +52,10 @@ fn unless_unreadable(records: &[u8], why: Refusal) -> Refusal
 fn gather(source: &[u8], udt: &[u8], first: u32, records: &[u8]) -> Result<Brought, Refusal>
     ensures { told_by brought_by result ≡ gathered source.now udt.now first (lent_at records.now) }
 {
-    let n = molecule::item_count(records) as usize;
-    if !molecule::has_header(records, n) {
+    let Some(count) = molecule::list_header(records) else {
         return Err(Refusal::LentBytesUnreadable);
-    }
+    };
+    let n = count as usize;
     let base = first as usize;
     let mut capacity = Shannons::ZERO;
     let mut token = Ok(Tokens::ZERO);

@@ -1,10 +1,10 @@
-use Rattle.std.proofs.Common.{◌≡◌, length, ap, not, arith}
+use Rattle.std.proofs.Common.{◌≡◌, length, ap, sym, ◌∙◌, not, arith}
 use Rattle.records.proofs.Ways.{ways}
-use Rattle.records.proofs.GatherLaws.{gather_dead, gather_unread, gather_ours, gather_more}
+use Rattle.records.proofs.GatherLaws.{gather_counted, gather_dead, gather_unread, gather_ours, gather_more}
 use Rattle.records.proofs.gather.Goals as goal
 
 pub loop-i-init : goal.loop-i-init
-loop-i-init c = search ways
+loop-i-init c = gather_counted _ _ _ _ (sym c.list_header.ensures ∙ c.in-Some.is) c.start-from.ensures
 
 pub returns-then-to-from : goal.returns-then-to-from
 returns-then-to-from c = search ways
