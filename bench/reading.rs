@@ -3,6 +3,7 @@ mod library;
 
 use library::is_transaction;
 use std::hint::black_box;
+use std::process::Command;
 use std::time::Instant;
 
 // ---- transactions, written by this file alone
@@ -53,8 +54,6 @@ struct Case {
 }
 
 fn case(shape: &'static str, count: usize, tx: Vec<u8>) -> Case {
-    assert!(is_transaction(&tx));
-    assert!(!is_transaction(&tx[..tx.len() - 1]));
     Case { shape, count, tx, calls: 1, best: f64::MAX }
 }
 
@@ -66,7 +65,7 @@ fn time(tx: &[u8], calls: u32) -> f64 {
     t.elapsed().as_secs_f64()
 }
 
-fn main() {
+fn cases() -> Vec<Case> {
     let sizes = [1_000, 10_000, 100_000];
     let mut cases = Vec::new();
     // An output takes 77 bytes, its data 4 and their offsets 8; a witness of 3 bytes takes 7 and its offset 4.
@@ -80,6 +79,16 @@ fn main() {
     }
     for size in sizes {
         cases.push(case("one witness", 1, transaction(0, &[bytes(&vec![7; size - 120])])));
+    }
+    cases
+}
+
+/// The best time of a call for each case.
+fn measure() {
+    let mut cases = cases();
+    for c in &cases {
+        assert!(is_transaction(&c.tx));
+        assert!(!is_transaction(&c.tx[..c.tx.len() - 1]));
     }
     // Calls enough for a measurement of a millisecond, and 300 rounds in which the cases take turns.
     for c in &mut cases {
@@ -95,5 +104,31 @@ fn main() {
     println!("{:14} {:>8} {:>8} {:>14} {:>12}", "shape", "bytes", "items", "ns per call", "ns per byte");
     for c in &cases {
         println!("{:14} {:8} {:8} {:14.1} {:12.4}", c.shape, c.tx.len(), c.count, c.best, c.best / c.tx.len() as f64);
+    }
+}
+
+/// The instructions of one call for each case: this program is run under valgrind, which counts those of `basinpantry_is_transaction` and what it calls.
+fn count() {
+    println!("{:14} {:>8} {:>8} {:>14} {:>12}", "shape", "bytes", "items", "instructions", "for a byte");
+    for (i, c) in cases().iter().enumerate() {
+        let output = Command::new("valgrind")
+            .args(["--tool=callgrind", "--toggle-collect=basinpantry_is_transaction", "--callgrind-out-file=/dev/null"])
+            .arg(std::env::current_exe().unwrap())
+            .arg(i.to_string())
+            .output()
+            .expect("valgrind");
+        let said = String::from_utf8_lossy(&output.stderr);
+        assert!(output.status.success(), "{said}");
+        let (_, number) = said.split_once("Collected : ").expect("no count");
+        let n: u64 = number.split_whitespace().next().unwrap().parse().unwrap();
+        println!("{:14} {:8} {:8} {n:14} {:12.4}", c.shape, c.tx.len(), c.count, n as f64 / c.tx.len() as f64);
+    }
+}
+
+fn main() {
+    match std::env::args().nth(1).as_deref() {
+        None => measure(),
+        Some("--instructions") => count(),
+        Some(i) => assert!(is_transaction(&cases()[i.parse::<usize>().expect("a case's number")].tx)),
     }
 }
