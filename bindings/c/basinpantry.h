@@ -60,7 +60,7 @@ static inline const char *basinpantry_refusal_sentence(uint32_t number)
     case 3:
         return "a lent script, list, record, hash or table is unreadable, the records are not one for each added input, or there is no such list or item";
     case 4:
-        return "the peer's transaction is over the size limit, or adds too many inputs, outputs or cell deps";
+        return "the peer's transaction is over the size limit, or adds too many inputs, outputs, cell deps or header deps";
     case 5:
         return "the peer's funding transaction is invalid";
     case 6:

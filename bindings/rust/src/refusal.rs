@@ -27,7 +27,7 @@ pub enum Refusal {
     PeerTransactionUnreadable,
     /// 3: a lent script, list, record, hash or table is unreadable, the records are not one for each added input, or there is no such list or item.
     LentBytesUnreadable,
-    /// 4: the peer's transaction is over the size limit, or adds too many inputs, outputs or cell deps.
+    /// 4: the peer's transaction is over the size limit, or adds too many inputs, outputs, cell deps or header deps.
     PeerFundingTxExceedsLimit,
     /// 5: the peer's funding transaction is invalid.
     InvalidPeerFundingTx,
@@ -178,7 +178,7 @@ impl Refusal {
                  or there is no such list or item"
             }
             Refusal::PeerFundingTxExceedsLimit => {
-                "the peer's transaction is over the size limit, or adds too many inputs, outputs or cell deps"
+                "the peer's transaction is over the size limit, or adds too many inputs, outputs, cell deps or header deps"
             }
             Refusal::InvalidPeerFundingTx => "the peer's funding transaction is invalid",
             Refusal::PeerInputUsesOurFundingLock { .. } => "an input that the peer added spends a cell under our own source lock",

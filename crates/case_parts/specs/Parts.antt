@@ -43,6 +43,9 @@ inputs k = span input 0 k
 abbrev pub deps : ℕ → List (Value CellDep)
 deps k = span dep 0 k
 
+abbrev pub headers : ℕ → List (Value Byte32)
+headers k = span header 0 k
+
 abbrev pub output : ℕ → Value (option Script) → ℕ → Value CellOutput
 output lock type shannons = (to_le 8 shannons, (plain_script lock, (type, tt)))
 

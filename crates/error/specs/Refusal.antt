@@ -9,7 +9,7 @@ number Refusal.OurTransactionUnreadable = 1
 number Refusal.PeerTransactionUnreadable = 2
 -- entry, records: a script, a lent list, a record, a hash or a table unreadable, the records not one per added input, or no such list or item
 number Refusal.LentBytesUnreadable = 3
--- limits: size, added inputs, added outputs, added cell deps
+-- limits: size, added inputs, added outputs, added cell deps, added header deps
 number Refusal.PeerFundingTxExceedsLimit = 4
 -- comparison, a record not live, contribution
 number Refusal.InvalidPeerFundingTx = 5
@@ -64,7 +64,7 @@ sentence Refusal.OurTransactionUnreadable = codes "our own transaction's bytes a
 sentence Refusal.PeerTransactionUnreadable = codes "the peer's bytes are no transaction"
 sentence Refusal.LentBytesUnreadable =
     codes "a lent script, list, record, hash or table is unreadable, the records are not one for each added input, or there is no such list or item"
-sentence Refusal.PeerFundingTxExceedsLimit = codes "the peer's transaction is over the size limit, or adds too many inputs, outputs or cell deps"
+sentence Refusal.PeerFundingTxExceedsLimit = codes "the peer's transaction is over the size limit, or adds too many inputs, outputs, cell deps or header deps"
 sentence Refusal.InvalidPeerFundingTx = codes "the peer's funding transaction is invalid"
 sentence (Refusal.PeerInputUsesOurFundingLock index) = codes "an input that the peer added spends a cell under our own source lock"
 sentence Refusal.OverflowError = codes "a figure, or a sum of figures, is too wide"

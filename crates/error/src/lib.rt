@@ -102,7 +102,7 @@ impl Refusal {
                 "a lent script, list, record, hash or table is unreadable, the records are not one for each added input, or there is no such list or item"
             }
             Refusal::PeerFundingTxExceedsLimit => {
-                "the peer's transaction is over the size limit, or adds too many inputs, outputs or cell deps"
+                "the peer's transaction is over the size limit, or adds too many inputs, outputs, cell deps or header deps"
             }
             Refusal::InvalidPeerFundingTx => "the peer's funding transaction is invalid",
             Refusal::PeerInputUsesOurFundingLock { .. } => {

@@ -37,7 +37,7 @@ pub fn judge_against(
     if !transaction::are_scripts(lock, udt, source) {
         return Err(Refusal::LentBytesUnreadable);
     }
-    if !limits::validate_peer_funding_tx_complexity(ours, peer) {
+    if !limits::validate_peer_funding_tx_complexity(limits::TODAY, ours, peer) {
         return Err(Refusal::PeerFundingTxExceedsLimit);
     }
     if !comparison::keeps_ours(ours, peer, lock, udt) {

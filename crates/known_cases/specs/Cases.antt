@@ -5,7 +5,7 @@ use Rattle.transaction.specs.Ckb.{Record, Records}
 use Rattle.error.specs.Outcome.{Outcome}
 use Rattle.units.specs.Units.{Figures}
 use Rattle.rules.specs.Judge.{Call, judge}
-use Rattle.case_parts.specs.Parts.{expected_lock, our_lock, token_type, inputs, deps, plain, transaction, cell, numbers}
+use Rattle.case_parts.specs.Parts.{expected_lock, our_lock, token_type, inputs, deps, headers, plain, transaction, cell, numbers}
 
 -- ---- calls, at a fee rate of 1,000 shannons for 1,000 bytes
 
@@ -15,10 +15,10 @@ at_rate rate peer records = record { peer = peer; records = encode Records recor
 abbrev pub offer : List ℕ → List (Value (option Record)) → Call
 offer peer records = at_rate 1000 peer records
 
--- so many inputs, each worth 200,000 shannons; outputs of 100 each; cell deps; and bytes in its one witness
-abbrev pub crowd : ℕ → ℕ → ℕ → ℕ → Call
-crowd ins outs ds bytes =
-    offer (transaction 0 (deps ds) [] (inputs ins) (replicate outs (plain 100)) (replicate outs []) (replicate bytes 0 ∷ [])) (replicate ins
+-- so many inputs, each worth 200,000 shannons; outputs of 100 each; cell deps; header deps; and bytes in its one witness
+abbrev pub crowd : ℕ → ℕ → ℕ → ℕ → ℕ → Call
+crowd ins outs ds hs bytes =
+    offer (transaction 0 (deps ds) (headers hs) (inputs ins) (replicate outs (plain 100)) (replicate outs []) (replicate bytes 0 ∷ [])) (replicate ins
     (cell (plain 200000) []))
 
 -- everything that a verdict is made of

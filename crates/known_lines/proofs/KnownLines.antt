@@ -21,7 +21,7 @@ abbrev stated : Row → List String × List ℕ
 stated r = (r.fails, r.answer)
 
 -- the largest transaction by itself
-bytes_fail : failing_in (untyped [] (crowd 1 1 0 132908)) ≡ "size over 133,120" ∷ []
+bytes_fail : failing_in (untyped [] (crowd 1 1 0 0 132908)) ≡ "size over 133,120" ∷ []
 unfolding computing_lines
 bytes_fail = refl
 
@@ -29,7 +29,7 @@ pub known_lines : All (All (λ r. found r ≡ stated r)) groups
 unfolding computing_lines
 known_lines =
     (refl and refl and refl and refl and refl and done)
-    and ((λ i. (bytes_fail i, bytes-over i)) and refl and refl and refl and done)
+    and ((λ i. (bytes_fail i, bytes-over i)) and refl and refl and refl and refl and done)
     and (refl and refl and refl and refl and refl and refl and refl and refl and refl and refl and refl and refl and refl and refl and done)
     and (refl and refl and refl and refl and done)
     and (refl and refl and refl and refl and refl and refl and refl and refl and done)

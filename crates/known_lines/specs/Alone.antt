@@ -51,10 +51,11 @@ entry =
 -- from none
 abbrev pub limits : List Row
 limits =
-    alone "size over 133,120" (4 ∷ []) (untyped [] (crowd 1 1 0 132908))
-    ∷ alone "added inputs over 64" (4 ∷ []) (untyped [] (crowd 65 1 0 0))
-    ∷ alone "added outputs over 3" (4 ∷ []) (untyped [] (crowd 1 4 0 0))
-    ∷ alone "added cell deps over 8" (4 ∷ []) (untyped [] (crowd 1 1 9 0))
+    alone "size over 133,120" (4 ∷ []) (untyped [] (crowd 1 1 0 0 132908))
+    ∷ alone "too many added inputs" (4 ∷ []) (untyped [] (crowd 65 1 0 0 0))
+    ∷ alone "too many added outputs" (4 ∷ []) (untyped [] (crowd 1 4 0 0 0))
+    ∷ alone "too many added cell deps" (4 ∷ []) (untyped [] (crowd 1 1 9 0 0))
+    ∷ alone "too many added header deps" (4 ∷ []) (untyped [] (crowd 1 1 0 3 0))
     ∷ []
 
 abbrev pub comparison : List Row

@@ -1,1 +1,2 @@
+pub mod KnownHeaderDeps
 pub mod KnownOrders

@@ -1,1 +1,2 @@
+pub mod HeaderDeps
 pub mod Orders

@@ -11,5 +11,5 @@ pub known_outcomes : AllRight outcomes
 unfolding computing
 known_outcomes =
     refl and refl and refl and refl and refl and refl and refl and refl and refl and refl and refl and refl and refl
-    and refl and refl and refl and refl and refl and refl and refl and refl and bytes_pass and bytes-over and refl
+    and refl and refl and refl and refl and refl and refl and refl and refl and refl and refl and bytes_pass and bytes-over and refl
     and refl and refl and refl and refl and refl and refl and refl and refl and refl and refl and refl and refl and refl and refl and refl and refl and refl and kept-at_99 and kept-at_112 and dropped_at_113 and done

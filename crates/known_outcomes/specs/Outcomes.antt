@@ -121,9 +121,9 @@ buffer_left wanted = (pick wanted).1
 abbrev with_args : ℕ → List ℕ
 with_args n = encode Script (replicate 32 1, (0, (replicate n 0, tt)))
 
--- the file of so many inputs and cell deps
-abbrev crowded : ℕ → ℕ → List ℕ
-crowded ins ds = file [] [] (crowd ins 1 ds 0).peer (replicate ins (cell (plain 200000) []))
+-- the file of so many inputs, cell deps and header deps
+abbrev crowded : ℕ → ℕ → ℕ → List ℕ
+crowded ins ds hs = file [] [] (crowd ins 1 ds hs 0).peer (replicate ins (cell (plain 200000) []))
 
 abbrev pub outcomes : List (Row (List ℕ))
 outcomes =
@@ -150,13 +150,15 @@ outcomes =
     -- from none, 3 outputs pass the limits, 4 get 4
     ∷ (case_line (file [] [] (outputs_tx 3) (cell (plain 200000) [] ∷ [])) gives ascii "0 00000000000000000000000000030c14\n")
     ∷ (case_line (file [] [] (outputs_tx 4) (cell (plain 200000) [] ∷ [])) gives ascii "4\n")
-    -- inputs 64 and 65, deps 8 and 9, bytes 133,116 and 133,117 (209 and the witness) likewise
-    ∷ (case_line (crowded 64 0) gives ascii "0 00000000000000000000000000c34f9c\n")
-    ∷ (case_line (crowded 65 0) gives ascii "4\n")
-    ∷ (case_line (crowded 1 8) gives ascii "0 00000000000000000000000000030cdc\n")
-    ∷ (case_line (crowded 1 9) gives ascii "4\n")
-    ∷ (answer (untyped [] (crowd 1 1 0 132907)) gives 0 ∷ 199900 ∷ 0 ∷ [])
-    ∷ (answer (untyped [] (crowd 1 1 0 132908)) gives 4 ∷ [])
+    -- inputs 64 and 65, deps 8 and 9, header deps 2 and 3, bytes 133,116 and 133,117 (209 and the witness) likewise
+    ∷ (case_line (crowded 64 0 0) gives ascii "0 00000000000000000000000000c34f9c\n")
+    ∷ (case_line (crowded 65 0 0) gives ascii "4\n")
+    ∷ (case_line (crowded 1 8 0) gives ascii "0 00000000000000000000000000030cdc\n")
+    ∷ (case_line (crowded 1 9 0) gives ascii "4\n")
+    ∷ (case_line (crowded 1 0 2) gives ascii "0 00000000000000000000000000030cdc\n")
+    ∷ (case_line (crowded 1 0 3) gives ascii "4\n")
+    ∷ (answer (untyped [] (crowd 1 1 0 0 132907)) gives 0 ∷ 199900 ∷ 0 ∷ [])
+    ∷ (answer (untyped [] (crowd 1 1 0 0 132908)) gives 4 ∷ [])
     -- ours 2 inputs, added record 0 under our lock, record 1 not live: 6 2
     ∷ (case_line (file (with_inputs (inputs 2)) [] (with_inputs (inputs 4)) (cell (output 1 none 5) [] ∷ not_live ∷ [])) gives ascii "6 2\n")
     -- token records 2^128 - 1 and 1: 7

@@ -7,6 +7,7 @@ ghost use Rattle.error.specs.Outcome.{check};
 ghost use Rattle.rules.specs.Judge.{limits};
 ghost use Rattle.rules.specs.Lines.{verdict};
 
+use rules::Limits;
 use transaction::fields;
 
 // The greatest size of a peer's funding transaction, in a block.
@@ -20,6 +21,17 @@ pub const MAX_PEER_ADDED_FUNDING_OUTPUTS: u32 = 3;
 
 // How many cell deps a peer may add.
 pub const MAX_PEER_ADDED_CELL_DEPS: u32 = 8;
+
+// How many header deps a peer may add; the Rust has no such bound.
+pub const MAX_PEER_ADDED_HEADER_DEPS: u32 = 2;
+
+// Today's limits on what a peer may add.
+pub const TODAY: Limits = Limits {
+    inputs: MAX_PEER_ADDED_FUNDING_INPUTS,
+    outputs: MAX_PEER_ADDED_FUNDING_OUTPUTS,
+    cell_deps: MAX_PEER_ADDED_CELL_DEPS,
+    header_deps: MAX_PEER_ADDED_HEADER_DEPS,
+};
 
 // The size of a transaction in a block: its bytes, and the offset that the block's list holds for it.
 pub fn serialized_size_in_block(tx: &[u8]) -> u64
@@ -59,19 +71,29 @@ fn added_cell_deps(ours: &[u8], peer: &[u8]) -> u32
     added(ours, peer, fields::cell_dep_count)
 }
 
-// Whether the peer's transaction keeps within the limits; the refusal is 4. A bool is plainer than an `Answer`, which would name the one
-// refusal at each of the four exits.
-pub fn validate_peer_funding_tx_complexity(ours: &[u8], peer: &[u8]) -> bool
-    ensures { check 4 result ≡ verdict (limits (length peer.now + 4) (tx_at ours.now) (tx_at peer.now)) }
+// And for header deps.
+fn added_header_deps(ours: &[u8], peer: &[u8]) -> u32
+    ensures { result ≡ length (tx_at peer.now).header_deps - length (tx_at ours.now).header_deps }
+{
+    added(ours, peer, fields::header_dep_count)
+}
+
+// Whether the peer's transaction keeps within the size and these limits; the refusal is 4. A bool is plainer than an `Answer`, which would name the one
+// refusal at each of the five exits.
+pub fn validate_peer_funding_tx_complexity(most: Limits, ours: &[u8], peer: &[u8]) -> bool
+    ensures { check 4 result ≡ verdict (limits most (length peer.now + 4) (tx_at ours.now) (tx_at peer.now)) }
 {
     if MAX_PEER_FUNDING_TX_SERIALIZED_SIZE < serialized_size_in_block(peer) {
         return false;
     }
-    if MAX_PEER_ADDED_FUNDING_INPUTS < added_inputs(ours, peer) {
+    if most.inputs < added_inputs(ours, peer) {
         return false;
     }
-    if MAX_PEER_ADDED_FUNDING_OUTPUTS < added_outputs(ours, peer) {
+    if most.outputs < added_outputs(ours, peer) {
         return false;
     }
-    added_cell_deps(ours, peer) <= MAX_PEER_ADDED_CELL_DEPS
+    if most.cell_deps < added_cell_deps(ours, peer) {
+        return false;
+    }
+    added_header_deps(ours, peer) <= most.header_deps
 }

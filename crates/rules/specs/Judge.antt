@@ -8,6 +8,7 @@ use Rattle.transaction.specs.Ckb.{Script, Transaction}
 use Rattle.transaction.specs.Tx.{Tx, tx_at, lock_of}
 use Rattle.units.specs.{Fee.fee_shannons, Units.Figures}
 use Rattle.transaction.specs.Cells.{Cell, cells}
+use Rattle.rules.specs.declared.Limits.{Limits}
 use Rattle.rules.specs.Records.{LentRecords, lent_at}
 use Rattle.rules.specs.Lines.{Name, Ruled, line, line_with, answer, verdict, ◌>>=◌, ◌>>◌}
 use Rattle.rules.specs.Surplus.{total, first, added, cell_capacity, amount_of, is_of, has_amount}
@@ -30,13 +31,18 @@ scripts lock type source = do
 
 -- ---- limits
 
+-- today's
+abbrev pub today : Limits
+today = record { inputs = 64; outputs = 3; cell_deps = 8; header_deps = 2 }
+
 -- the size is that of the bytes and 4
-unfoldable pub limits : ℕ → Tx → Tx → Ruled (Unit {0})
-limits size ours peer = do
+unfoldable pub limits : Limits → ℕ → Tx → Tx → Ruled (Unit {0})
+limits most size ours peer = do
   line 4 "size over 133,120" (leb size 133120)
-  line 4 "added inputs over 64" (leb (length peer.inputs - length ours.inputs) 64)
-  line 4 "added outputs over 3" (leb (length peer.outputs - length ours.outputs) 3)
-  line 4 "added cell deps over 8" (leb (length peer.cell_deps - length ours.cell_deps) 8)
+  line 4 "too many added inputs" (leb (length peer.inputs - length ours.inputs) most.inputs)
+  line 4 "too many added outputs" (leb (length peer.outputs - length ours.outputs) most.outputs)
+  line 4 "too many added cell deps" (leb (length peer.cell_deps - length ours.cell_deps) most.cell_deps)
+  line 4 "too many added header deps" (leb (length peer.header_deps - length ours.header_deps) most.header_deps)
 
 -- ---- comparison
 
@@ -197,7 +203,7 @@ unfoldable pub opening : List ℕ → List ℕ → List ℕ → Tx → List ℕ 
 opening lock type source ours bytes = do
   line 2 "the peer's bytes unreadable" (readable Transaction bytes)
   scripts lock type source
-  limits (length bytes + 4) ours (tx_at bytes)
+  limits today (length bytes + 4) ours (tx_at bytes)
   comparison lock type ours (tx_at bytes)
 
 -- the records, and what follows them

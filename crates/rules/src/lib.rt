@@ -11,5 +11,14 @@ pub struct Surplus {
     pub token: Tokens,
 }
 
+// The greatest number that a peer may add to our transaction, of each of four lists.
+#[derive(Clone, Copy, Debug, PartialEq, Eq, Hash)]
+pub struct Limits {
+    pub inputs: u32,
+    pub outputs: u32,
+    pub cell_deps: u32,
+    pub header_deps: u32,
+}
+
 // A refusal carries its number and values.
 pub type Update = Result<Surplus, Refusal>;
