@@ -44,6 +44,7 @@ def dep(n): return point(n) + b'\0'
 def header(n): return bytes([n] * 32)
 def inputs(k): return [input_(n) for n in range(k)]
 def deps(k): return [dep(n) for n in range(k)]
+def headers(k): return [header(n) for n in range(k)]
 def amount(n): return le(n, 16)
 
 
@@ -84,8 +85,8 @@ def inputs_tx(n): return spending(inputs(n), [plain(100)], [b''])
 def tokens_tx(): return spending(inputs(2), [token(100)], [amount(5)])
 
 
-def crowd(ins, outs, ds):
-    return case(transaction(0, deps(ds), [], inputs(ins), [plain(100)] * outs, [b''] * outs, [b'']), [cell(plain(200000))] * ins)
+def crowd(ins, outs, ds, hs):
+    return case(transaction(0, deps(ds), headers(hs), inputs(ins), [plain(100)] * outs, [b''] * outs, [b'']), [cell(plain(200000))] * ins)
 
 
 KNOWN = [
@@ -95,10 +96,12 @@ KNOWN = [
     ('itself', accepted(0), case(PEER, ours=PEER)),
     ('outputs_3', accepted(199700), case(outputs_tx(3), [cell(plain(200000))])),
     ('outputs_4', '4', case(outputs_tx(4), [cell(plain(200000))])),
-    ('inputs_64', accepted(12799900), crowd(64, 1, 0)),
-    ('inputs_65', '4', crowd(65, 1, 0)),
-    ('deps_8', accepted(199900), crowd(1, 1, 8)),
-    ('deps_9', '4', crowd(1, 1, 9)),
+    ('inputs_64', accepted(12799900), crowd(64, 1, 0, 0)),
+    ('inputs_65', '4', crowd(65, 1, 0, 0)),
+    ('deps_8', accepted(199900), crowd(1, 1, 8, 0)),
+    ('deps_9', '4', crowd(1, 1, 9, 0)),
+    ('headers_2', accepted(199900), crowd(1, 1, 0, 2)),
+    ('headers_3', '4', crowd(1, 1, 0, 3)),
     ('our_lock', '6 2', case(inputs_tx(4), [cell(output(1, b'', 5)), NOT_LIVE], ours=inputs_tx(2))),
     ('token_total', '7', case(tokens_tx(), [cell(token(1000), amount(TOP)), cell(token(1000), amount(1))], udt=TYPE)),
 ]

@@ -12,6 +12,9 @@ bytes, and prints the line of each, with a tab and `panic` behind it where the R
 acceptance the token surplus as 32 hex digits, ` | ` and the bytes then in force. Where its answer is not that of tools/update_model.py,
 nothing is written.
 
+A request that changed the rules since is none of the Rust's: the updates that REQUESTS of the model names are left out of the comparison and counted apart.
+Of them the answer that is recorded is the model's; the Rust's has to be that of the model without the requests.
+
 Of the answers only 0 and 4 to 8 are the Rust's. 1, 2 and 3 are the oracle's own, by its strict reader and its count of records, since the Rust is
 handed what was read already; and 5 is the rules' where the Rust panics.
 
@@ -37,7 +40,7 @@ import cases as proved
 import replayed
 import update_cases as cases
 from molecule_vectors import join, u32
-from update_model import PLACES, Case, amount, judge, judge_file, read_case, read_records, read_tx, surplus, u64, Shape, Tx
+from update_model import PLACES, REQUESTS, Case, amount, judge, judge_file, left_out, left_out_file, read_case, read_records, read_tx, surplus, u64, Shape, Tx
 
 SEED = 20_240_607
 
@@ -221,19 +224,32 @@ def files_of(family, rng, seen):
             yield f
 
 
+PANICS = 'contribution: our amount missing'  # where the Rust panics
+
+
 def compared(files, answers):
-    """Stops where the Rust and the model differ; of each file the model's answer and whether it is typed."""
+    """Stops where the Rust and the model without the requests differ, or where a request changes the answer to an update that it does not leave out. Of each
+    file the model's answer, whether it is typed, and the request by which it is left out, or None."""
     out, wrong = [], 0
     for f, (line, panic) in zip(files, answers):
+        before, _ = judge_file(f, REQUESTS)
         a, typed = judge_file(f)
-        out.append((a, typed))
-        if a.line() != line or panic != (a.place == 'contribution: our amount missing'):
+        request = left_out_file(f)
+        out.append((a, typed, request))
+        if before.line() != line or panic != (before.place == PANICS) or request is None and (a.line(), a.place) != (before.line(), before.place):
             wrong += 1
             if wrong < 10:
-                print('DIFFERS: the Rust says %s%s, the model %s (%s): %s' % (line, ' (panic)' if panic else '', a.line(), a.place, f.hex()))
+                print('DIFFERS: the Rust says %s%s, the model %s (%s), without the requests %s (%s): %s'
+                      % (line, ' (panic)' if panic else '', a.line(), a.place, before.line(), before.place, f.hex()))
     if wrong:
         sys.exit('%d of %d answers differ' % (wrong, len(files)))
     return out
+
+
+def apart(requests):
+    """How many were left out by each request, in words; `requests` has one or None of each update."""
+    counts = ['%s, %s: %d' % (r, REQUESTS[r], requests.count(r)) for r in REQUESTS if r in requests]
+    return 'left out of the comparison: ' + ('; '.join(counts) or 'none')
 
 
 def table(found):
@@ -255,23 +271,26 @@ def by_number(numbers):
 
 
 def record_updates(oracle):
-    rng, seen, pairs, whole, found, panics, numbers = cases.Rng(SEED), set(), [], 0, {}, 0, []
+    rng, seen, pairs, whole, found, panics, numbers, requests = cases.Rng(SEED), set(), [], 0, {}, 0, [], []
     for (what, f, line), (said, _) in zip(named(), ask(oracle, [f for _, f, _ in named()])):
+        said = said if left_out_file(f) is None else judge_file(f)[0].line()
         if said != line:
-            sys.exit('%s: the Rust says %s, not %s' % (what, said, line))
+            sys.exit('%s: the answer is %s, not %s' % (what, said, line))
     for name, family in FAMILIES:
         files = list(files_of(family, rng, seen))
-        answers = ask(oracle, files)
-        for a, typed in compared(files, answers):
+        judged = compared(files, ask(oracle, files))
+        for a, typed, request in judged:
             found[a.place, a.number, typed] = found.get((a.place, a.number, typed), 0) + 1
             numbers.append(a.number)
-        panics += sum(p for _, p in answers)
+            requests.append(request)
         whole = whole or len(files)
-        pairs += [(f,) + answer for f, answer in zip(files, answers)]
+        pairs += [(f, a.line(), a.place == PANICS) for f, (a, _, _) in zip(files, judged)]
         print('%-28s %5d cases' % (name, len(files)))
+    panics = sum(p for _, _, p in pairs)
     missing = table(found)
     print('by number: ' + ', '.join(by_number(numbers)))
     print('%d cases, %d of them where the Rust panics and 5 is recorded; places without a case: %d' % (len(numbers), panics, missing))
+    print(apart(requests))
     parts = grouped(pairs, whole)
     data = recorded(parts)
     assert sorted(expanded(data)) == sorted(pairs)
@@ -308,6 +327,10 @@ def run_negotiation(start, lock, type_, count, following):
     return calls, answers, sums, at
 
 
+def without_requests(ours, call, lock, type_):
+    return judge(ours, call.peer, lock, type_, call.source, call.rate, read_records(call.records), REQUESTS)
+
+
 def misfits(a):
     """Records that can't be read or are too few or many: the oracle finds that itself, after it ran the Rust without them. So the Rust may have taken
     the update, and the transaction in force is set back."""
@@ -324,7 +347,8 @@ def record_negotiations(oracle):
             for n in (133_116, 133_117):
                 start, lock, type_, count, following = cases.large_negotiation(typed, kind, n)
                 all_of.append((start, lock, type_) + run_negotiation(start, lock, type_, count, following))
-    # the Rust: one run over each negotiation; and each update once more by itself, where it fits a case file
+    # the Rust: one run over each negotiation; and each update once more by itself, where it fits a case file. Behind an answer that is not the model's, and
+    # behind records that only the oracle found wanting, the transaction in force is set again
     lines, alone = [], []
     for start, lock, type_, calls, answers, sums, at in all_of:
         readable = not start or read_tx(start) is not None
@@ -334,14 +358,14 @@ def record_negotiations(oracle):
             c = call.case(lock, type_)
             if readable:
                 lines.append('n_update ' + c.file().hex())
-                if misfits(a):
+                if misfits(without_requests(ours, call, lock, type_)) or left_out(ours, call.peer):
                     lines.append('n_start ' + (ours.hex() or '-'))
             c.ours = ours
             if len(c.file()) <= 65536:
                 alone.append(c.file())
     said = iter(asked(oracle, '--calls', ('\n'.join(lines) + '\n').encode()))
     by_itself = iter(ask(oracle, alone))
-    parts, updates, accepted, numbers, panics = [], 0, 0, [], 0
+    parts, updates, accepted, numbers, panics, requests = [], 0, 0, [], 0, []
     for start, lock, type_, calls, answers, sums, at in all_of:
         readable = not start or read_tx(start) is not None
         if readable:
@@ -351,21 +375,27 @@ def record_negotiations(oracle):
             assert ours == in_force
             if a.number == 0:
                 in_force = call.peer
-            want = a.line() + (' %032x' % a.values[1] if a.number == 0 else '')
+            requests.append(left_out(ours, call.peer))
+            before = without_requests(ours, call, lock, type_)
+            assert requests[-1] or (before.line(), before.place) == (a.line(), a.place), (before.line(), before.place, a.line(), a.place)
+            want = before.line() + (' %032x' % before.values[1] if before.number == 0 else '')
+            then = call.peer if before.number == 0 else ours
             c = call.case(lock, type_)
             if readable:
                 got = next(said)
-                if misfits(a):
-                    got = got.split(' | ')[0] + ' | ' + (ours.hex() or '-')
+                if misfits(before) or requests[-1]:
                     assert next(said) == 'ok'
-                if got != '%s | %s' % (want, in_force.hex() or '-'):
-                    sys.exit('DIFFERS: the Rust says %s, the model %s (%s), of %s against %s' % (got, want, a.place, c.file().hex(), ours.hex()))
+                if misfits(before):
+                    got = got.split(' | ')[0] + ' | ' + (ours.hex() or '-')
+                if got != '%s | %s' % (want, then.hex() or '-'):
+                    sys.exit('DIFFERS: the Rust says %s, the model %s (%s), of %s against %s' % (got, want, before.place, c.file().hex(), ours.hex()))
             c.ours = ours
-            marks.append(False)
+            marks.append(a.place == PANICS)
             if len(c.file()) <= 65536:
-                line, marks[-1] = next(by_itself)
-                assert line == a.line(), (line, a.line(), a.place)
-                assert marks[-1] == (a.place == 'contribution: our amount missing')
+                line, panic = next(by_itself)
+                assert line == before.line() and panic == (before.place == PANICS), (line, panic, before.line(), before.place)
+            else:
+                marks[-1] = False
             found[a.place, a.number, bool(type_)] = found.get((a.place, a.number, bool(type_)), 0) + 1
             numbers.append(a.number)
         assert in_force == (calls[at - 1][1].peer if at else start)
@@ -388,6 +418,7 @@ def record_negotiations(oracle):
     mixed = sum(1 for t in taken if any(not x and any(t[:i]) and any(t[i + 1:]) for i, x in enumerate(t)))
     several = sum(1 for t in taken if sum(t) > 1)
     print('%d with several acceptances, %d with a refusal between acceptances; the Rust panics at %d updates' % (several, mixed, panics))
+    print(apart(requests))
     data = recorded(parts)
     longest = max(len(p) for p in parts)
     print('%d negotiations, %d updates, %d accepted; the longest part of %d bytes; %d bytes' % (len(parts), updates, accepted, longest, len(data)))
@@ -461,8 +492,8 @@ def shrunk(oracle, program, f):
     """A smaller file on which the two still differ."""
     while True:
         tried = sorted({g for g in smaller(f) if len(g) < len(f) or (len(g) == len(f) and g < f)}, key=lambda g: (len(g), g))
-        for g, (line, _) in zip(tried, ask(oracle, tried)):
-            if line_of(program, g) != line:
+        for g, (a, _, _) in zip(tried, compared(tried, ask(oracle, tried))):
+            if line_of(program, g) != a.line():
                 f = g
                 break
         else:
@@ -470,25 +501,26 @@ def shrunk(oracle, program, f):
 
 
 def fresh(oracle, n, seed, program, out):
-    rng, done, wrong, least, found = cases.Rng(seed), 0, 0, None, {}
+    rng, done, wrong, least, found, requests = cases.Rng(seed), 0, 0, None, {}, []
     everything = []
     while done < n:
         files = [cases.any_case(rng) for _ in range(min(2000, n - done))]
-        answers = ask(oracle, files)
-        for a, typed in compared(files, answers):
+        judged = compared(files, ask(oracle, files))
+        for f, (a, typed, request) in zip(files, judged):
             found[a.place, a.number, typed] = found.get((a.place, a.number, typed), 0) + 1
-        for f, (line, _) in zip(files, answers):
+            requests.append(request)
             if program:
                 said = line_of(program, f)
-                if said != line:
+                if said != a.line():
                     wrong += 1
                     if wrong <= 5:
-                        print('DIFFERS: the Rust says %s, the program %s: %s' % (line, said, f.hex()))
+                        print('DIFFERS: %s says %s, the program %s: %s' % ('the model' if request else 'the Rust', a.line(), said, f.hex()))
                     if least is None or len(f) < len(least):
                         least = f
-        everything += [(f,) + answer for f, answer in zip(files, answers)]
+        everything += [(f, a.line(), a.place == PANICS) for f, (a, _, _) in zip(files, judged)]
         done += len(files)
     table(found)
+    print(apart(requests))
     if out:
         data = recorded(grouped(everything))
         open(out, 'wb').write(data)
@@ -496,7 +528,7 @@ def fresh(oracle, n, seed, program, out):
     print('%d fresh cases of seed %d, %d differ' % (n, seed, wrong) if program else '%d fresh cases of seed %d' % (n, seed))
     if least is not None:
         f = shrunk(oracle, program, least)
-        print('smallest found: %d bytes, the Rust says %s, the program %s: %s' % (len(f), ask(oracle, [f])[0][0], line_of(program, f), f.hex()))
+        print('smallest found: %d bytes, it is %s, the program says %s: %s' % (len(f), judge_file(f)[0].line(), line_of(program, f), f.hex()))
         sys.exit(1)
 
 

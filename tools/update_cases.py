@@ -230,6 +230,15 @@ def deps_9(c):
 
 
 @change
+def headers_3(c):
+    n = len(ours_of(c).headers) + 3
+    c.peer.headers = (c.peer.headers + [header(7)] * n)[:n]
+
+
+LIMITS = [inputs_65, outputs_4, deps_9, headers_3]
+
+
+@change
 def version(c):
     c.peer.version ^= 1
 
@@ -590,6 +599,7 @@ def named():
             yield 'outputs', filled('none', typed, inputs=1, outputs=n).file(), line
             yield 'inputs', filled('none', typed, inputs=61 + n, outputs=1).file(), line
             yield 'deps', filled('none', typed, inputs=1, outputs=1, deps=5 + n).file(), line
+            yield 'headers', filled('none', typed, inputs=1, outputs=1, headers=n - 1).file(), line
         two = base('rich', typed)
         two.records = [(output(1, SOURCE), b''), None]
         yield 'our lock, then not live', two.file(), '6 2'
@@ -681,14 +691,15 @@ def pairs():
                     yield changed(c, g, f)
 
 
-def filled(kind, typed, inputs=0, outputs=0, deps=0):
-    """So many inputs, outputs and deps added, each input with its record."""
+def filled(kind, typed, inputs=0, outputs=0, deps=0, headers=0):
+    """So many inputs, outputs, deps and header deps added, each input with its record."""
     c = base(kind, typed)
     ours, t = ours_of(c), c.type
     c.peer.inputs = ours.inputs + [cell_input(i % 250) for i in range(inputs)]
     c.peer.outputs = (c.peer.outputs[:max(1, len(ours.outputs))] + [output(1, PEER)] * 9)[:max(1, len(ours.outputs) + outputs)]
     c.peer.data = (c.peer.data[:max(1, len(ours.outputs))] + [b''] * 9)[:len(c.peer.outputs)]
     c.peer.deps = ours.deps + [dep(i) for i in range(deps)]
+    c.peer.headers = ours.headers + [header(i) for i in range(headers)]
     c.peer.witnesses = []
     c.records = [(output(CKB, PEER), b'')] * inputs
     if c.records:
@@ -700,26 +711,30 @@ def filled(kind, typed, inputs=0, outputs=0, deps=0):
 def limits():
     for typed in (True, False):
         for kind in ('none', 'rich'):
-            whole = filled(kind, typed, inputs=64, outputs=3, deps=8)
+            whole = filled(kind, typed, inputs=64, outputs=3, deps=8, headers=2)
             yield whole
-            for f in (last_dead, last_is_ours, record_missing, record_more, inputs_65, outputs_4, deps_9, capacity_short, fee_short):
+            for f in (last_dead, last_is_ours, record_missing, record_more, inputs_65, outputs_4, deps_9, headers_3, capacity_short, fee_short):
                 yield changed(whole, f)
             # each input entry counts by itself, and each dep
             c = whole.copy()
             c.peer.inputs = ours_of(c).inputs + [cell_input(1)] * 64
             c.peer.deps = ours_of(c).deps + [dep(1)] * 8
+            c.peer.headers = ours_of(c).headers + [header(1)] * 2
             yield c
-            for f in (inputs_65, deps_9):
+            for f in (inputs_65, deps_9, headers_3):
                 yield changed(c, f)
-            for inputs, outputs, deps in ((65, 4, 9), (64, 4, 9), (64, 3, 9), (65, 3, 8), (64, 4, 8), (63, 2, 7), (66, 5, 10), (65, 0, 0)):
-                yield filled(kind, typed, inputs, outputs, deps)
+            for inputs, outputs, deps, headers in ((65, 4, 9, 3), (64, 4, 9, 2), (64, 3, 9, 3), (64, 3, 8, 3), (65, 3, 8, 2), (64, 4, 8, 2), (63, 2, 7, 1),
+                                                   (66, 5, 10, 4), (65, 0, 0, 0), (0, 0, 0, 3)):
+                yield filled(kind, typed, inputs, outputs, deps, headers)
             for n in (0, 1, 2, 3, 4, 5):
                 yield filled(kind, typed, inputs=1, outputs=n)
             for n in (7, 8, 9, 10):
                 yield filled(kind, typed, inputs=1, outputs=1, deps=n)
+            for n in (1, 2, 3, 4):
+                yield filled(kind, typed, inputs=1, outputs=1, headers=n)
         # fewer of one thing is none added, and the others still count
-        for f in (deps_fewer, inputs_fewer, outputs_fewer):
-            for g in (inputs_65, outputs_4, deps_9):
+        for f in (deps_fewer, headers_fewer, inputs_fewer, outputs_fewer):
+            for g in (inputs_65, outputs_4, deps_9, headers_3):
                 yield changed(base('rich', typed), g, f)
                 yield changed(base('rich', typed), f, g)
 
@@ -1211,7 +1226,7 @@ def extend(rng, ours, lock, type_, most=3):
     peer = ours.copy()
     typed = bool(type_)
     peer.deps = rng.mixed(ours.deps + [dep(rng.below(20), rng.below(2)) for _ in range(rng.pick([0, 0, 1, 2]))])
-    peer.headers += [header(rng.below(20)) for _ in range(rng.pick([0, 0, 0, 1]))]
+    peer.headers += [header(rng.below(20)) for _ in range(rng.pick([0, 0, 0, 0, 1, 2]))]
     k = rng.pick([1, 1, 2, 3, 0])
     k = max(k, 1) if not ours.outputs else k
     k = min(k, most)
@@ -1284,7 +1299,7 @@ def broken(rng, c):
     if kind < 2:
         return changed(c, rng.pick(ENTRY)) or c
     if kind == 2:
-        return changed(c, rng.pick(CHANGES[:3])) or c
+        return changed(c, rng.pick(LIMITS)) or c
     if kind == 3:
         d = c.copy()
         i = rng.below(3)
@@ -1295,7 +1310,7 @@ def broken(rng, c):
         elif c.records and c.records[0] and reads(CellOutput, c.records[0][0]):
             d.source = rng.pick([lock_of(c.records[0][0])] + near(lock_of(c.records[0][0])))
         return d
-    return changed(c, rng.pick(CHANGES[3:])) or c
+    return changed(c, rng.pick(CHANGES[len(LIMITS):])) or c
 
 
 def misshapen(rng, c):

@@ -1,6 +1,7 @@
 """A peer's update as docs/RULES.md rules it, written a second time and sharing nothing with the library: transactions as values, the case file, the
 checks of the table in its order, each with the name of its place, and the surplus in whole numbers. tools/recorded_updates.py makes its cases with it,
-counts by it which places they reach, and stops where it and the Rust say different things."""
+counts by it which places they reach, and stops where it and the Rust say different things; tools/model_calls.py compares the library with it. Without the
+requests that changed the rules, of which the Rust knows nothing, it is the rules as the Rust has them."""
 from molecule_vectors import CellOutput, Record, Script, Transaction, dynvec, join, number, option, reads, split, u32
 
 LIMIT = 65536  # bytes of a case file
@@ -239,12 +240,23 @@ def tally(type_, cells, what):
     return total
 
 
-def judge_readable(ours, peer, size, lock, type_, source, rate, records):
+HEADER_DEPS = 'W6'  # at most 2 header deps are added
+REQUESTS = {HEADER_DEPS: 'three or more added header deps'}  # that changed the rules, with the updates that a run against the Rust leaves out
+
+
+def request_of(ours, peer):
+    """Of two readable transactions: the request by which a run against the Rust leaves the update out, or None."""
+    return HEADER_DEPS if len(peer.headers) - len(ours.headers) > 2 else None
+
+
+def judge_readable(ours, peer, size, lock, type_, source, rate, records, without):
     typed = bool(type_)
     check(4, size <= 133120, 'limits: size')
     check(4, len(peer.inputs) - len(ours.inputs) <= 64, 'limits: inputs')
     check(4, len(peer.outputs) - len(ours.outputs) <= 3, 'limits: outputs')
     check(4, len(peer.deps) - len(ours.deps) <= 8, 'limits: cell deps')
+    if HEADER_DEPS not in without:
+        check(4, len(peer.headers) - len(ours.headers) <= 2, 'limits: header deps')
 
     check(5, peer.version == ours.version, 'comparison: version')
     check(5, len(peer.deps) >= len(ours.deps), 'comparison: fewer cell deps')
@@ -299,8 +311,8 @@ def judge_readable(ours, peer, size, lock, type_, source, rate, records):
     return Answer(0, [left, tokens_left], 'accepted')
 
 
-def judge(ours, peer, lock, type_, source, rate, records):
-    """The answer to an update; all is bytes but the rate and the records (see Case; None: a list that can't be read)."""
+def judge(ours, peer, lock, type_, source, rate, records, without=()):
+    """The answer to an update; all is bytes but the rate and the records (see Case; None: a list that can't be read). Without these requests."""
     try:
         our_tx, peer_tx = read_tx(ours) if ours else Tx(), read_tx(peer)
         check(1, our_tx is not None, 'entry: our bytes')
@@ -308,18 +320,32 @@ def judge(ours, peer, lock, type_, source, rate, records):
         check(3, reads(Script, lock), 'entry: the lock')
         check(3, not type_ or reads(Script, type_), 'entry: the type')
         check(3, reads(Script, source), 'entry: our source lock')
-        return judge_readable(our_tx, peer_tx, len(peer) + 4, lock, type_, source, rate, records)
+        return judge_readable(our_tx, peer_tx, len(peer) + 4, lock, type_, source, rate, records, without)
     except Answer as a:
         return a
 
 
-def judge_file(f):
+def left_out(ours, peer):
+    """The same of bytes; None where they can't be read."""
+    our_tx, peer_tx = read_tx(ours) if ours else Tx(), read_tx(peer)
+    return request_of(our_tx, peer_tx) if our_tx and peer_tx else None
+
+
+def judge_file(f, without=()):
     """The answer, and whether the update is typed (None: no case file)."""
     try:
         c = read_case(f)
     except Shape as s:
         return Answer(3, [], 'file: ' + str(s)), None
-    return judge(c.ours, c.peer, c.lock, c.type, c.source, c.rate, c.records), bool(c.type)
+    return judge(c.ours, c.peer, c.lock, c.type, c.source, c.rate, c.records, without), bool(c.type)
+
+
+def left_out_file(f):
+    try:
+        c = read_case(f)
+    except Shape:
+        return None
+    return left_out(c.ours, c.peer)
 
 
 def surplus(earlier, later, type_, records):
@@ -345,6 +371,7 @@ PLACES = [
     ('entry: our bytes', 1, 'tu'), ("entry: the peer's bytes", 2, 'tu'), ('entry: the lock', 3, 'tu'), ('entry: the type', 3, 't'),
     ('entry: our source lock', 3, 'tu'),
     ('limits: size', 4, 'l'), ('limits: inputs', 4, 'tu'), ('limits: outputs', 4, 'tu'), ('limits: cell deps', 4, 'tu'),
+    ('limits: header deps', 4, 'tu'),
     ('comparison: version', 5, 'tu'), ('comparison: fewer cell deps', 5, 'tu'), ('comparison: a cell dep missing', 5, 'tu'),
     ('comparison: fewer header deps', 5, 'tu'), ('comparison: a header dep differs', 5, 'tu'), ('comparison: fewer inputs', 5, 'tu'),
     ('comparison: an input differs', 5, 'tu'), ('comparison: fewer outputs', 5, 'tu'), ('comparison: lock of output 0', 5, 'tu'),
