@@ -1,7 +1,7 @@
 //! An update as it is lent, judged here and by the original.
 use crate::library;
 use oracle::original::parsed::Parsed;
-use oracle::original::update::{judge, read_records, Lent, Verdict};
+use oracle::original::update::{judge_as_requested, read_records, Lent, Verdict};
 
 #[derive(Clone)]
 pub struct Update {
@@ -34,14 +34,14 @@ impl Update {
     pub fn bytes(&self) -> usize {
         self.ours.len() + self.peer.len() + self.records.len()
     }
-    /// The answer's number, which is also the original's, with the same surpluses.
+    /// The answer's number, which is also the original's, with the same surpluses, or that of a request which changed the rules since.
     pub fn agrees(&self, name: &str) -> u32 {
         let mut values = [0; 4];
         let number = self.call(&mut values);
-        let (expected, told) = match judge(&self.ours, self.lent()) {
+        let (expected, told) = match judge_as_requested(&self.ours, self.lent()) {
             Verdict::Accept(capacity, token) => (0, vec![capacity as u64, (capacity >> 64) as u64, token as u64, (token >> 64) as u64]),
             Verdict::Refuse(refusal) => (refusal.0, refusal.1),
-            Verdict::Unreadable(number) => (number, vec![]),
+            Verdict::Unreadable(number) | Verdict::Requested(_, number) => (number, vec![]),
             Verdict::Panic => panic!("{name}: the original panics"),
         };
         assert_eq!((number, &values[..told.len()]), (expected.into(), &told[..]), "{name}");

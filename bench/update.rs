@@ -3,7 +3,7 @@ mod judged;
 mod library;
 
 use judged::Update;
-use oracle::selftest::{data, output, script, tx};
+use oracle::selftest::{data, output, script, tx, tx_with_headers};
 use oracle::standins::molecule::write_table;
 use oracle::standins::packed::{Bytes, CellOutput, Script};
 use std::hint::black_box;
@@ -46,7 +46,7 @@ fn filled(make: impl Fn(&[Bytes]) -> Vec<u8>) -> Vec<u8> {
     make(&[data(&vec![0; room])])
 }
 
-fn updates() -> [(&'static str, Update); 5] {
+fn updates() -> [(&'static str, Update); 6] {
     let s = scripts();
     let (lock, udt, source, peer) = (&s.lock, &s.udt, &s.source, &s.peer);
     let none = || data(b"");
@@ -61,12 +61,11 @@ fn updates() -> [(&'static str, Update); 5] {
         records: write_table(records),
     };
     let plain = output(100_0000_0000, peer, None);
-    let untyped = update(
-        vec![],
-        tx(2, &[output(100_0000_0000, lock, None), output(61_0000_0000, peer, None)], &[none(), none()], 1, &[placeholder.clone()]),
-        &[],
-        &[record(plain.clone(), b""), record(plain, b"")],
-    );
+    let from_none = |headers| {
+        let outputs = [output(100_0000_0000, lock, None), output(61_0000_0000, peer, None)];
+        let first = tx_with_headers(headers, 2, &outputs, &[none(), none()], 1, &[placeholder.clone()]);
+        update(vec![], first, &[], &[record(plain.clone(), b""), record(plain.clone(), b"")])
+    };
     let change = output(61_0000_0000, source, None);
     let kept = output(142_0000_0000, peer, Some(udt));
     let rest = output(61_0000_0000, peer, None);
@@ -86,7 +85,7 @@ fn updates() -> [(&'static str, Update); 5] {
     let three = [output(100_0000_0000, lock, Some(udt)), kept.clone(), rest.clone()];
     let opening = |witnesses: &[Bytes]| tx(64, &three, &[tokens(50), tokens(7), none()], 8, witnesses);
     let sixty_four = vec![brought; 64];
-    let most_inputs = update(vec![], opening(&vec![placeholder; 64]), udt.as_slice(), &sixty_four);
+    let most_inputs = update(vec![], opening(&vec![placeholder.clone(); 64]), udt.as_slice(), &sixty_four);
     let witness = update(vec![], filled(opening), udt.as_slice(), &sixty_four);
     let ours = [output(100_0000_0000, lock, Some(udt)), change.clone(), change];
     let theirs = [ours.to_vec(), vec![kept, rest.clone(), rest]].concat();
@@ -94,7 +93,8 @@ fn updates() -> [(&'static str, Update); 5] {
     let shared =
         update(tx(2_900, &ours, &entries[..3], 0, &[]), filled(|witnesses| tx(2_964, &theirs, &entries, 8, witnesses)), udt.as_slice(), &sixty_four);
     [
-        ("504 bytes, untyped, from none", untyped),
+        ("504 bytes, untyped, from none", from_none(0)),
+        ("568 bytes, with 2 header deps", from_none(2)),
         ("1,042 bytes, typed", typed),
         ("9,661 bytes, 64 added inputs", most_inputs),
         ("133,116 bytes by a witness", witness),

@@ -33,10 +33,10 @@ fn here(update: &Rc<Update>, answer: u32) -> Clock {
     let update = update.clone();
     Clock::steady(move || assert_eq!(black_box(&*update).call(&mut [0; 4]), answer))
 }
-/// The original from the same bytes.
-fn there(update: &Rc<Update>, answer: u32) -> Clock {
-    let update = update.clone();
-    Clock::steady(move || assert_eq!(black_box(&*update).read().passes(), answer == 0))
+/// The original from the same bytes. It accepts what a request refuses since.
+fn there(update: &Rc<Update>) -> Clock {
+    let (update, accepted) = (update.clone(), update.read().passes());
+    Clock::steady(move || assert_eq!(black_box(&*update).read().passes(), accepted))
 }
 /// The original's judgement of what was read before.
 fn parsed(update: Update, answer: u32) -> Clock {
@@ -48,7 +48,7 @@ fn beside(count: usize, worst: Update, honest: Update) -> Size {
     let size = Size::new(count, worst.bytes(), here(&honest, honest.agrees("the honest")), here(&worst, answer));
     match answer {
         1..=3 => size,
-        _ => size.beside(there(&worst, answer)),
+        _ => size.beside(there(&worst)),
     }
 }
 
@@ -89,6 +89,10 @@ fn headers(size: usize) -> Update {
     let header = |i| Hashes::LastTwo.point(i)[..32].try_into().expect("32 bytes");
     sharing(Tx { headers: (0..small().room(size, 32)).map(header).collect(), ..small() }, size)
 }
+fn added_headers(size: usize) -> Update {
+    let headers = vec![[0; 32]; small().room(size, 32)];
+    adding(&small(), Tx { headers, ..small() }, size)
+}
 fn least_outputs(size: usize) -> Update {
     let (mut tx, least) = (small(), output(1, &peers_lock(), None));
     let count = tx.room(size, least.len() + 12);
@@ -126,6 +130,7 @@ fn too_many_records(size: usize) -> Update {
 const SHAPES: &[(&str, fn(usize) -> Update)] = &[
     ("inputs, the last one another (5)", another_input),
     ("header deps, all but bytes 30, 31 alike", headers),
+    ("header deps, all of them added (4)", added_headers),
     ("outputs of the least size, data of no bytes", least_outputs),
     ("data entries of no bytes, without outputs", lone_data),
     ("witnesses of no bytes", empty_witnesses),

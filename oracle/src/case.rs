@@ -97,6 +97,10 @@ impl Case {
     pub fn judge(&self) -> Verdict {
         update::judge(&self.ours, self.lent())
     }
+    /// The same by the rules as the requests left them.
+    pub fn judge_as_requested(&self) -> Verdict {
+        update::judge_as_requested(&self.ours, self.lent())
+    }
     /// The same against a transaction in force, which the peer's replaces on acceptance (demand 3).
     pub fn judge_in(&self, in_force: &mut InForce) -> Verdict {
         in_force.update(self.lent())
@@ -107,4 +111,7 @@ pub fn run(b: &[u8]) -> Verdict {
         Some(c) => c.judge(),
         None => Verdict::Unreadable(3),
     }
+}
+pub fn run_as_requested(b: &[u8]) -> Verdict {
+    Case::parse(b).map_or(Verdict::Unreadable(3), |c| c.judge_as_requested())
 }

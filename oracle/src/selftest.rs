@@ -34,10 +34,24 @@ pub fn output(cap: u64, lock: &Script, t: Option<&Script>) -> CellOutput {
 pub fn data(b: &[u8]) -> packed::Bytes {
     b.pack()
 }
+pub fn header(n: u8) -> Byte32 {
+    Byte32::read(&[n; 32]).unwrap()
+}
 pub fn tx(inputs: usize, outputs: &[CellOutput], d: &[packed::Bytes], deps: usize, witnesses: &[packed::Bytes]) -> Vec<u8> {
+    tx_with_headers(0, inputs, outputs, d, deps, witnesses)
+}
+pub fn tx_with_headers(
+    headers: usize,
+    inputs: usize,
+    outputs: &[CellOutput],
+    d: &[packed::Bytes],
+    deps: usize,
+    witnesses: &[packed::Bytes],
+) -> Vec<u8> {
     let i: Vec<_> = (0..inputs).map(|n| CellInput::new(point(n as u32), 0)).collect();
     let c: Vec<_> = (0..deps).map(|n| dep(n as u8)).collect();
-    Transaction::assemble(0, &c, &[], &i, outputs, d, witnesses).as_slice().to_vec()
+    let h: Vec<_> = (0..headers).map(|n| header(n as u8)).collect();
+    Transaction::assemble(0, &c, &h, &i, outputs, d, witnesses).as_slice().to_vec()
 }
 fn rec(o: &CellOutput, d: &[u8]) -> Option<(Vec<u8>, Vec<u8>)> {
     Some((o.as_slice().to_vec(), d.to_vec()))
@@ -119,6 +133,13 @@ pub fn run() {
         let big = tx(1, std::slice::from_ref(&o), &[data(b"")], 0, &[data(&vec![0; 133_116 - 201 - 8 + (n - 3)])]);
         t.eq("bytes", big.len(), 133_113 + n);
         four(&mut t, "bytes", big, n == 4);
+    }
+    // The original has no limit on header deps; by the request W6 two may be added.
+    for (n, number) in [(2, "0"), (3, "4")] {
+        let peer = tx_with_headers(n, 1, &[output(100, &l, None)], &[data(b"")], 0, &[]);
+        let d = Case { peer, records: vec![rec(&output(1000, &l, None), b"")], ..c.clone() };
+        t.eq("header deps", d.judge(), Verdict::Accept(900, 0));
+        t.eq("header deps as requested", d.judge_as_requested().to_string().split(' ').next(), Some(number));
     }
     let ours = tx(2, std::slice::from_ref(&o), &[data(b"")], 0, &[]);
     let d =

@@ -7,11 +7,12 @@ use crate::total::Total;
 use crate::transaction::{Transaction, is_script};
 use crate::update::PeerUpdate;
 
-/// The limits, by their names in the original.
+/// The limits, by their names in the original, which has none on header deps.
 const MAX_PEER_FUNDING_TX_SERIALIZED_SIZE: usize = 133_120;
 const MAX_PEER_ADDED_FUNDING_INPUTS: usize = 64;
 const MAX_PEER_ADDED_FUNDING_OUTPUTS: usize = 3;
 const MAX_PEER_ADDED_CELL_DEPS: usize = 8;
+const MAX_PEER_ADDED_HEADER_DEPS: usize = 2;
 
 /// Which of the checks under its number refused an update, in words for people; none where the number says it all (1, 2, 6, 8), and where these checks, which are
 /// plain Rust and not proved, come to another number than the library.
@@ -101,6 +102,7 @@ fn limits(case: &Case) -> Result<(), Reason> {
         ("inputs", ours.inputs.len(), peer.inputs.len(), MAX_PEER_ADDED_FUNDING_INPUTS),
         ("outputs", ours.outputs.len(), peer.outputs.len(), MAX_PEER_ADDED_FUNDING_OUTPUTS),
         ("cell deps", ours.cell_deps.len(), peer.cell_deps.len(), MAX_PEER_ADDED_CELL_DEPS),
+        ("header deps", ours.header_deps.len(), peer.header_deps.len(), MAX_PEER_ADDED_HEADER_DEPS),
     ] {
         let added = peer.saturating_sub(ours);
         check(4, added <= most, || format!("it adds {}, and {most} are allowed", count(added, what)))?;

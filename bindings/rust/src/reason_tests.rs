@@ -130,6 +130,7 @@ fn lines() -> Vec<(&'static str, CaseFile, &'static str)> {
             "4: it adds 4 outputs, and 3 are allowed",
         ),
         ("deps_9", case(None, deps(&[0, 1, 2, 3, 4, 5, 6, 7, 8]), vec![brings(200_000)]), "4: it adds 9 cell deps, and 8 are allowed"),
+        ("headers_3", case(None, headers(&[0, 1, 2]), vec![brings(200_000)]), "4: it adds 3 header deps, and 2 are allowed"),
         ("version", case(Some(usual()), Transaction { version: 1, ..usual() }, vec![]), "5: its version is 1, and ours is 0"),
         ("fewer_deps", case(Some(deps(&[0, 0])), deps(&[0]), vec![]), "5: it has 1 cell dep, and ours has 2"),
         ("dep_missing", case(Some(deps(&[0])), deps(&[1]), vec![]), "5: our cell dep 0 is missing"),

@@ -128,6 +128,7 @@ fn sentences() {
         ),
         ("our_lock", "refused (6): an input that the peer added spends a cell under our own source lock: input 2\n"),
         ("outputs_4", "refused (4): the peer's transaction is over a limit: it adds 4 outputs, and 3 are allowed\n"),
+        ("headers_3", "refused (4): the peer's transaction is over a limit: it adds 3 header deps, and 2 are allowed\n"),
         ("token_total", "refused (7): a sum is too wide: the tokens of the added inputs come to 2^128 or more\n"),
     ] {
         assert_eq!(run(&["check", &format!("cases/{name}.case")]).out, sentence);

@@ -13,6 +13,8 @@ pub enum Verdict {
     Unreadable(u8),
     /// The original panics since our output 0 has no data in a typed update; the rules say 5 here. A panic for another cause is no verdict.
     Panic,
+    /// Decided by a request that changed the rules since, of which the original knows nothing: which updates it concerns, and the number.
+    Requested(&'static str, u8),
 }
 impl std::fmt::Display for Verdict {
     fn fmt(&self, f: &mut std::fmt::Formatter<'_>) -> std::fmt::Result {
@@ -21,9 +23,13 @@ impl std::fmt::Display for Verdict {
             Verdict::Refuse(r) => r.fmt(f),
             Verdict::Unreadable(n) => n.fmt(f),
             Verdict::Panic => f.write_str("5"),
+            Verdict::Requested(_, n) => n.fmt(f),
         }
     }
 }
+
+/// The request W6, and the updates that a comparison with the original leaves out for it: all of them are refused with 4, unless what is lent can't be read.
+pub const HEADER_DEPS: &str = "W6: three or more added header deps, 4";
 
 /// A cell that an added input spends, as it is lent; none where it is not live.
 pub type Record = Option<(CellOutput, Bytes)>;
@@ -74,14 +80,23 @@ impl InForce {
     pub fn view(&self) -> TransactionView {
         self.0.as_ref().cloned().unwrap_or_else(|| Transaction::default().into_view())
     }
-    /// Judges an update against this transaction, which the peer's replaces on acceptance.
+    /// Judges an update against this transaction, which the peer's replaces on acceptance, by the original's rules.
     pub fn update(&mut self, lent: Lent) -> Verdict {
-        let Some(peer) = Transaction::read(lent.peer) else { return Verdict::Unreadable(2) };
-        let udt = (!lent.udt.is_empty()).then(|| Script::read(lent.udt));
-        let (Some(lock), false, Some(source)) = (Script::read(lent.lock), udt == Some(None), Script::read(lent.source)) else {
-            return Verdict::Unreadable(3);
-        };
-        let (before, ours, peer) = (self.0.clone(), self.view(), peer.into_view());
+        match Read::of(&lent) {
+            Ok(read) => self.update_read(read, lent),
+            Err(unreadable) => unreadable,
+        }
+    }
+    /// The same by the rules as the requests left them. Where one of them decides, the original is not asked.
+    pub fn update_as_requested(&mut self, lent: Lent) -> Verdict {
+        match Read::of(&lent) {
+            Ok(read) if read.peer.header_deps().len() > self.view().header_deps().len() + 2 => Verdict::Requested(HEADER_DEPS, 4),
+            Ok(read) => self.update_read(read, lent),
+            Err(unreadable) => unreadable,
+        }
+    }
+    fn update_read(&mut self, Read { peer, lock, udt, source }: Read, lent: Lent) -> Verdict {
+        let (before, ours) = (self.0.clone(), self.view());
         let added = peer.inputs().len().saturating_sub(ours.inputs().len());
         let records = lent.records.filter(|r| r.len() == added);
         DESK.with_borrow_mut(|d| {
@@ -89,7 +104,6 @@ impl InForce {
             d.asked = 0;
             d.opened = false;
         });
-        let udt = udt.flatten();
         let without_data = udt.is_some() && ours.output(0).is_some() && ours.outputs_data().is_empty();
         let context = probe::context(lock, udt, source, vec![]);
         let result = panics::caught(|| block_on(self.0.update_for_peer(peer.clone(), context, lent.rate)));
@@ -120,10 +134,28 @@ impl InForce {
     }
 }
 
-/// The entry's first check, then the update.
-pub fn judge(ours: &[u8], lent: Lent) -> Verdict {
-    match InForce::read(ours) {
-        Some(mut in_force) => in_force.update(lent),
-        None => Verdict::Unreadable(1),
+/// What is read before the original is asked.
+struct Read {
+    peer: TransactionView,
+    lock: Script,
+    udt: Option<Script>,
+    source: Script,
+}
+impl Read {
+    fn of(lent: &Lent) -> Result<Read, Verdict> {
+        let peer = Transaction::read(lent.peer).ok_or(Verdict::Unreadable(2))?.into_view();
+        let script = |b| Script::read(b).ok_or(Verdict::Unreadable(3));
+        let udt = (!lent.udt.is_empty()).then_some(lent.udt).map(script).transpose()?;
+        Ok(Read { peer, lock: script(lent.lock)?, udt, source: script(lent.source)? })
     }
+}
+
+/// The entry's first check, then the update, by the original's rules.
+pub fn judge(ours: &[u8], lent: Lent) -> Verdict {
+    InForce::read(ours).map_or(Verdict::Unreadable(1), |mut in_force| in_force.update(lent))
+}
+
+/// The same by the rules as the requests left them.
+pub fn judge_as_requested(ours: &[u8], lent: Lent) -> Verdict {
+    InForce::read(ours).map_or(Verdict::Unreadable(1), |mut in_force| in_force.update_as_requested(lent))
 }

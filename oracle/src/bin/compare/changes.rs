@@ -48,7 +48,7 @@ fn another_length(rng: &mut Rng, d: &mut Vec<u8>) {
 /// A change after which the update may be refused.
 pub fn change(rng: &mut Rng, p: &mut Plan) {
     let record = p.records.len();
-    match rng.below(40) {
+    match rng.below(41) {
         0 => p.peer.version ^= 1 << rng.below(32),
         1 => remove_any(rng, &mut p.peer.deps),
         2 => any(rng, &mut p.peer.deps).into_iter().for_each(|d| d[36] ^= 1),
@@ -151,6 +151,10 @@ pub fn change(rng: &mut Rng, p: &mut Plan) {
         38 => {
             let ours = p.ours.get_or_insert_with(Tx::default);
             ours.inputs.extend(p.peer.inputs.first().copied());
+        }
+        39 => {
+            let n = rng.between(1, 4);
+            p.peer.headers.extend((0..n).map(|i| [210 + i as u8; 32]));
         }
         _ => {
             // at the size limit, or one over; seldom, since it is long

@@ -63,6 +63,8 @@ fn source_of(verdicts: &[Verdict]) -> Source {
     let has = |kind: fn(&Verdict) -> bool| verdicts.iter().any(kind);
     if has(|v| *v == Verdict::Panic) {
         Source::Intended(PANICS)
+    } else if let Some(name) = verdicts.iter().find_map(|v| if let Verdict::Requested(name, _) = v { Some(*name) } else { None }) {
+        Source::Requested(name)
     } else if has(|v| matches!(v, Verdict::Unreadable(_))) {
         Source::Reader
     } else if has(|v| matches!(v, Verdict::Accept(..))) {
@@ -101,7 +103,7 @@ impl Input {
         let mut in_force = InForce::read(&self.start);
         let judge = |u: &Update| {
             let call = Update { lock: self.lock.clone(), udt: self.udt.clone(), ..u.clone() };
-            in_force.as_mut().map_or(Verdict::Unreadable(1), |o| o.update(call.lent()))
+            in_force.as_mut().map_or(Verdict::Unreadable(1), |o| o.update_as_requested(call.lent()))
         };
         let verdicts: Vec<Verdict> = updates.iter().map(judge).collect();
         let at = verdicts.iter().rposition(|v| matches!(v, Verdict::Accept(..))).map_or(0, |k| k + 1);
@@ -141,7 +143,7 @@ impl Input {
         let (mut out, mut accepted) = (vec![], vec![]);
         for (k, u) in self.updates.iter().enumerate() {
             let call = Update { ours: here.clone(), lock: self.lock.clone(), udt: self.udt.clone(), ..u.clone() };
-            let verdict = original.as_mut().map_or(Verdict::Unreadable(1), |o| o.update(call.lent()));
+            let verdict = original.as_mut().map_or(Verdict::Unreadable(1), |o| o.update_as_requested(call.lent()));
             let (number, told, source) = expected(&verdict);
             let (said, values) = library::with_values(|values| call.call(values));
             let mut wrong = None;
@@ -193,7 +195,7 @@ impl Kind for Negotiation {
             if rng.once_in(20) {
                 update.peer = damaged(rng, &update.peer);
             }
-            if let Verdict::Accept(..) = now.update(update.lent()) {
+            if let Verdict::Accept(..) = now.update_as_requested(update.lent()) {
                 older = ours;
             }
             updates.push(update);

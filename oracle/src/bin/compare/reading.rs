@@ -201,8 +201,7 @@ impl Kind for CaseFile {
         }
     }
     fn compare(file: &Vec<u8>) -> Vec<Outcome> {
-        use oracle::original::update::Verdict;
-        let verdict = case::run(file);
+        let verdict = case::run_as_requested(file);
         // the line ends in a line feed
         let expected = format!("{verdict}\n");
         let long = expected.len();
@@ -212,12 +211,7 @@ impl Kind for CaseFile {
         let (answer, values) = library::with_values(|values| library::check_case(file, &mut line[..room], values));
         let right = (answer, values) == (0, library::values(&[long as u64]));
         let right = right && &line[..long] == expected.as_bytes() && line[long..].iter().all(|b| *b == BYTE);
-        let source = match verdict {
-            Verdict::Panic => Source::Intended(crate::update::PANICS),
-            Verdict::Unreadable(_) => Source::Reader,
-            Verdict::Accept(..) => Source::Acceptance,
-            Verdict::Refuse(_) => Source::Original,
-        };
+        let (_, _, source) = crate::update::expected(&verdict);
         let number = line.iter().take_while(|b| b.is_ascii_digit()).fold(0, |k, d| 10 * k + (d - b'0') as u32);
         let said = String::from_utf8_lossy(&line[..long]).to_string();
         let mut out = vec![Outcome { number, source, wrong: (!right).then(|| format!("expected {expected:?}, the library says {answer} {said:?}")) }];

@@ -13,6 +13,8 @@ pub enum Source {
     Reader,
     /// The original says something else, or panics, and a rule of docs/DIFFERENCES.md says what is expected instead.
     Intended(&'static str),
+    /// A request changed the rules since the original: the call is left out of the comparison with it, and what is expected is the request's answer.
+    Requested(&'static str),
     /// Nobody can be asked what the answer is: only that a refusal changes nothing is looked at.
     Unknown(&'static str),
 }
@@ -36,6 +38,7 @@ pub struct Tally {
     reader: u64,
     numbers: BTreeMap<u32, u64>,
     intended: BTreeMap<&'static str, u64>,
+    requested: BTreeMap<&'static str, u64>,
     unknown: BTreeMap<&'static str, u64>,
 }
 
@@ -52,6 +55,7 @@ impl Tally {
             Source::Acceptance => self.acceptance += 1,
             Source::Reader => self.reader += 1,
             Source::Intended(name) => *self.intended.entry(name).or_default() += 1,
+            Source::Requested(name) => *self.requested.entry(name).or_default() += 1,
             Source::Unknown(name) => *self.unknown.entry(name).or_default() += 1,
         }
     }
@@ -64,18 +68,20 @@ impl Tally {
         self.reader += other.reader;
         other.numbers.iter().for_each(|(k, n)| *self.numbers.entry(*k).or_default() += n);
         other.intended.iter().for_each(|(k, n)| *self.intended.entry(k).or_default() += n);
+        other.requested.iter().for_each(|(k, n)| *self.requested.entry(k).or_default() += n);
         other.unknown.iter().for_each(|(k, n)| *self.unknown.entry(k).or_default() += n);
     }
     pub fn head() {
-        let of = ["calls", "agree", "original", "accepted", "reader", "intended", "unknown", "disagree"];
+        let of = ["calls", "agree", "original", "accepted", "reader", "intended", "requested", "unknown", "disagree"];
         print!("{:<17}", "kind");
         of.iter().for_each(|name| print!(" {name:>9}"));
         println!();
     }
     pub fn line(&self, kind: &str) {
-        let (intended, unknown) = (self.intended.values().sum(), self.unknown.values().sum());
+        let sum = |counts: &BTreeMap<&str, u64>| counts.values().sum();
+        let (intended, requested, unknown) = (sum(&self.intended), sum(&self.requested), sum(&self.unknown));
         let agree = self.original + self.acceptance + self.reader;
-        let counts = [self.calls, agree, self.original, self.acceptance, self.reader, intended, unknown, self.wrong];
+        let counts = [self.calls, agree, self.original, self.acceptance, self.reader, intended, requested, unknown, self.wrong];
         print!("{kind:<17}");
         counts.iter().for_each(|n: &u64| print!(" {n:>9}"));
         println!();
@@ -86,6 +92,7 @@ impl Tally {
     }
     pub fn others(&self) {
         self.intended.iter().for_each(|(name, n)| println!("{n:>9}  intended: {name}"));
+        self.requested.iter().for_each(|(name, n)| println!("{n:>9}  left out, by request: {name}"));
         self.unknown.iter().for_each(|(name, n)| println!("{n:>9}  not compared: {name}"));
     }
 }

@@ -6,7 +6,7 @@ use crate::random::Rng;
 use crate::report::{Outcome, Source};
 use crate::updates::{any_update, Plan, Update};
 use oracle::calls::hex;
-use oracle::original::update::{judge, read_records, Lent, Verdict};
+use oracle::original::update::{judge_as_requested, read_records, Lent, Verdict};
 
 pub const PANICS: &str = "5 where the original panics: typed, and our output 0 has no data";
 
@@ -18,6 +18,7 @@ pub fn expected(v: &Verdict) -> (u32, Vec<u64>, Source) {
         Verdict::Refuse(r) => (r.0 as u32, r.1.to_vec(), Source::Original),
         Verdict::Unreadable(n) => (*n as u32, vec![], Source::Reader),
         Verdict::Panic => (5, vec![], Source::Intended(PANICS)),
+        Verdict::Requested(name, n) => (*n as u32, vec![], Source::Requested(name)),
     }
 }
 impl Update {
@@ -30,7 +31,7 @@ impl Update {
         library::update_for_peer(&self.ours, &self.peer, &self.lock, &self.udt, &self.source, self.rate, &self.records, values)
     }
     pub fn compare(&self) -> Outcome {
-        let (number, told, source) = expected(&judge(&self.ours, self.lent()));
+        let (number, told, source) = expected(&judge_as_requested(&self.ours, self.lent()));
         let (said, values) = library::with_values(|values| self.call(values));
         let differs = (said, values) != (number, library::values(&told));
         Outcome {

@@ -157,7 +157,7 @@ pub fn good(rng: &mut Rng, c: &Channel, ours: Option<Tx>) -> Plan {
     if rng.once_in(4) {
         rng.shuffle(&mut peer.deps);
     }
-    peer.headers.extend((0..rng.below(3)).map(|i| [200 + i as u8; 32]));
+    peer.headers.extend((0..how_many(rng, 2, 2)).map(|i| [200 + i as u8; 32]));
     peer.witnesses = (0..rng.below(4)).map(|i| vec![i as u8; 5 * i]).collect();
     // output 0 and what is added behind it
     let (mut growth, mut grown) = (rng.shannons(), rng.tokens());
