@@ -25,7 +25,7 @@ fn verdicts() {
         (
             "outputs_4",
             1,
-            r#"{"accepted":false,"number":4,"name":"PeerFundingTxExceedsLimit","sentence":"the peer's transaction is over the size limit, or adds too many inputs, outputs or cell deps","reason":"it adds 4 outputs, and 3 are allowed","values":{},"surplus":null}"#,
+            r#"{"accepted":false,"number":4,"name":"PeerFundingTxExceedsLimit","sentence":"the peer's transaction is over the size limit, or adds too many inputs, outputs, cell deps or header deps","reason":"it adds 4 outputs, and 3 are allowed","values":{},"surplus":null}"#,
         ),
     ] {
         let ran = run(&["check", "--json", &format!("cases/{name}.case")]);
