@@ -10,7 +10,7 @@ use Rattle.molecule.specs.Molecule.{decode, readable}
 use Rattle.molecule.specs.Layout.{part}
 use Rattle.error.specs.Outcome.{check_with}
 use Rattle.error.specs.Outcome as outcome
-use Rattle.rules.specs.Judge.{judge, ruling, ruling_against, opening, closing, scripts, limits, comparison}
+use Rattle.rules.specs.Judge.{judge, ruling, ruling_against, opening, closing, scripts, within, comparison}
 use Rattle.rules.specs.Lines.{verdict, first_failing, followed, line_with}
 use Rattle.rules.specs.Lines as lines
 use Rattle.verdict_line.specs.VerdictLine.{digit, digits, decimal, spaced, refused_with, line_of}
@@ -30,7 +30,7 @@ shortest_case = refl
 
 -- its line is "2": the peer's bytes are no transaction
 shortest_line : case_line (no_scripts ++ rate) ≡ 50 ∷ 10 ∷ []
-unfolding case_line verdict_of case_of read_case only pick optional_at item_at rate_at ◌>>=◌ kind_at length_at num_at le part all_zero records_from judge ruling verdict first_failing followed lines.◌>>◌ lines.◌>>=◌ line_with outcome.◌>>◌ check_with ruling_against opening closing scripts limits comparison readable there decode bind split line_of refused_with decimal digits digit spaced
+unfolding case_line verdict_of case_of read_case only pick optional_at item_at rate_at ◌>>=◌ kind_at length_at num_at le part all_zero records_from judge ruling verdict first_failing followed lines.◌>>◌ lines.◌>>=◌ line_with outcome.◌>>◌ check_with ruling_against opening closing scripts within comparison readable there decode bind split line_of refused_with decimal digits digit spaced
 shortest_line = refl
 
 -- the empty file is no case: "3"

@@ -17,7 +17,7 @@ use Rattle.rules.specs.Records.{LentRecords, lent_at}
 use Rattle.rules.specs.Surplus.{total, cell_capacity}
 use Rattle.rules.specs.Lines.{Name, line, line_with, followed, known, verdict, first_failing}
 use Rattle.rules.specs.Lines as lines
-use Rattle.rules.specs.Judge.{Call, of_records, tally, scripts, today, limits, comparison, spent, contribution, opening, closing, ruling, ruling_against, judge, judge_against}
+use Rattle.rules.specs.Judge.{Call, of_records, tally, scripts, limits, comparison, spent, contribution, opening, closing, ruling, ruling_against, judge, judge_against}
 use Rattle.rules.specs.Told.{Update, told, in_force_of}
 use Rattle.rules.specs.Run.{handed_back, next, update_for_peer}
 use Rattle.rules.proofs.LinesLaws.{line-then, verdict-then, verdict-bind}
@@ -41,15 +41,15 @@ module _ (lock type source o p : List ℕ) where
   scripts_steps = three_lines _ _ _ (readable Script lock) (readable (option Script) type) (readable Script source)
 
   pub opening_steps : verdict (opening lock type source (tx_at o) p) ≡ (check 2 (readable Transaction p)
-      >> (check 3 (are_scripts lock type source) >> (verdict (limits today (length p + 4) (tx_at o) (tx_at p)) >> verdict (comparison lock type (tx_at o) (tx_at p)))))
+      >> (check 3 (are_scripts lock type source) >> (verdict (limits (length p + 4) (tx_at o) (tx_at p)) >> verdict (comparison lock type (tx_at o) (tx_at p)))))
   unfolding opening check
   opening_steps =
-      let within : Outcome (Unit {0}) = verdict (limits today (length p + 4) (tx_at o) (tx_at p)) in
+      let within : Outcome (Unit {0}) = verdict (limits (length p + 4) (tx_at o) (tx_at p)) in
       let alike : Outcome (Unit {0}) = verdict (comparison lock type (tx_at o) (tx_at p)) in
       line-then _ _ _ _ _
       ∙ ap (λ (v : Outcome (Unit {0})). check 2 (readable Transaction p) >> v)
       (verdict-then (scripts lock type source) _
-      ∙ ap (λ (v : Outcome (Unit {0})). verdict (scripts lock type source) >> v) (verdict-then (limits today (length p + 4) (tx_at o) (tx_at p)) (comparison lock type (tx_at o) (tx_at p)))
+      ∙ ap (λ (v : Outcome (Unit {0})). verdict (scripts lock type source) >> v) (verdict-then (limits (length p + 4) (tx_at o) (tx_at p)) (comparison lock type (tx_at o) (tx_at p)))
       ∙ ap (λ (v : Outcome (Unit {0})). v >> (within >> alike)) scripts_steps)
 
 -- what the records bring in decides the rest

@@ -13,11 +13,10 @@ use Rattle.units.specs.Units.{Figures}
 use Rattle.lists.specs.Lists.{is_empty}
 use Rattle.transaction.specs.Tx.{Tx, tx_at}
 use Rattle.transaction.specs.Cells.{Cell}
-use Rattle.rules.specs.declared.Limits.{Limits}
 use Rattle.rules.specs.Records.{LentRecords, lent_at}
 use Rattle.rules.specs.Surplus.{total, added, cell_capacity, amount_of, token_of, is_of, has_amount}
 use Rattle.rules.specs.Lines.{Ruled, first_failing, verdict, followed, answer, line_with, ◌>>=◌, ◌>>◌}
-use Rattle.rules.specs.Judge.{Call, Names, of_records, of_outputs, scripts, today, limits, comparison, live, live_cells, spent, growth, unfunded, token_delta, funding_output_delta, covered, counted, tally, settled, token_account, accounts, contribution, opening, closing, ruling, ruling_against, judge}
+use Rattle.rules.specs.Judge.{Call, Names, of_records, of_outputs, scripts, within, limits, comparison, live, live_cells, spent, growth, unfunded, token_delta, funding_output_delta, covered, counted, tally, settled, token_account, accounts, contribution, opening, closing, ruling, ruling_against, judge}
 use Rattle.rules.specs.Run.{lent_cells}
 use Rattle.known_lines.specs.Lines.{lines, surpluses}
 
@@ -36,9 +35,9 @@ scripts-answer : (lock type source : List ℕ) → (scripts lock type source).an
 unfolding scripts line_with followed ◌>>◌
 scripts-answer lock type source = refl
 
-limits-answer : (most : Limits) (size : ℕ) (ours peer : Tx) → (limits most size ours peer).answer ≡ fine tt
-unfolding limits line_with followed ◌>>◌
-limits-answer most size ours peer = refl
+limits-answer : (size : ℕ) (ours peer : Tx) → (limits size ours peer).answer ≡ fine tt
+unfolding within line_with followed ◌>>◌
+limits-answer size ours peer = refl
 
 comparison-answer : (lock type : List ℕ) (ours peer : Tx) → (comparison lock type ours peer).answer ≡ fine tt
 unfolding comparison line_with followed ◌>>◌
@@ -126,7 +125,7 @@ closing-answer type source ours peer rate size lent =
 
 opening-answer : (lock type source : List ℕ) (ours : Tx) (bytes : List ℕ) → (opening lock type source ours bytes).answer ≡ fine tt
 unfolding opening line_with followed ◌>>◌
-opening-answer lock type source ours bytes = rw (scripts-answer lock type source, limits-answer today (length bytes + 4) ours (tx_at bytes), comparison-answer lock type ours (tx_at bytes))
+opening-answer lock type source ours bytes = rw (scripts-answer lock type source, limits-answer (length bytes + 4) ours (tx_at bytes), comparison-answer lock type ours (tx_at bytes))
 
 ruling-answer : (lock type ours : List ℕ) (call : Call)
     → (ruling lock type ours call).answer ≡ fine (surpluses type (tx_at ours) (tx_at call.peer) (lent_cells call.records))

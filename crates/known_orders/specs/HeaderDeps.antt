@@ -4,7 +4,7 @@ use Rattle.std.specs.Prelude.{ℕ, List, [], ◌∷◌, ◌++◌}
 use Rattle.transaction.specs.Tx.{tx_at}
 use Rattle.error.specs.Outcome.{Outcome, fine, refused}
 use Rattle.rules.specs.Lines.{verdict}
-use Rattle.rules.specs.Judge.{today, limits}
+use Rattle.rules.specs.Judge.{limits}
 use Rattle.case_parts.specs.Rows.{Row, ◌gives◌}
 use Rattle.case_parts.specs.Parts.{header, headers, deps, input, inputs, plain, transaction, cell}
 use Rattle.known_cases.specs.Cases.{offer, Case, untyped, typed, answer}
@@ -23,7 +23,7 @@ later ours peer = untyped ours (offer peer [])
 
 -- what the limits say by themselves, of a transaction of any size
 abbrev limited : ℕ → List ℕ → List ℕ → List ℕ
-limited size ours peer = by (verdict (limits today size (tx_at ours) (tx_at peer)))
+limited size ours peer = by (verdict (limits size (tx_at ours) (tx_at peer)))
   where
     by : Outcome (Unit {0}) → List ℕ
     by (fine u) = 0 ∷ []

@@ -4,7 +4,7 @@
 ghost use Rattle.std.specs.Prelude.{◌≡◌, ◌+◌, ◌-◌, ℕ, List, length};
 ghost use Rattle.transaction.specs.Tx.{tx_at};
 ghost use Rattle.error.specs.Outcome.{check};
-ghost use Rattle.rules.specs.Judge.{limits};
+ghost use Rattle.rules.specs.Judge.{within};
 ghost use Rattle.rules.specs.Lines.{verdict};
 
 use rules::Limits;
@@ -81,7 +81,7 @@ fn added_header_deps(ours: &[u8], peer: &[u8]) -> u32
 // Whether the peer's transaction keeps within the size and these limits; the refusal is 4. A bool is plainer than an `Answer`, which would name the one
 // refusal at each of the five exits.
 pub fn validate_peer_funding_tx_complexity(most: Limits, ours: &[u8], peer: &[u8]) -> bool
-    ensures { check 4 result ≡ verdict (limits most (length peer.now + 4) (tx_at ours.now) (tx_at peer.now)) }
+    ensures { check 4 result ≡ verdict (within most (length peer.now + 4) (tx_at ours.now) (tx_at peer.now)) }
 {
     if MAX_PEER_FUNDING_TX_SERIALIZED_SIZE < serialized_size_in_block(peer) {
         return false;

@@ -13,11 +13,10 @@ use Rattle.molecule.specs.Partial.{All}
 use Rattle.lists.specs.Lists.{is_empty}
 use Rattle.transaction.specs.Tx.{Tx, tx_at}
 use Rattle.transaction.specs.Cells.{Cell}
-use Rattle.rules.specs.declared.Limits.{Limits}
 use Rattle.rules.specs.Records.{LentRecords, lent_at}
 use Rattle.rules.specs.Surplus.{is_of, added}
 use Rattle.rules.specs.Lines.{Name, Line, Ruled, first_failing, verdict, followed, answer, line_with, ◌>>=◌, ◌>>◌}
-use Rattle.rules.specs.Judge.{Call, Names, limits, comparison, live, live_cells, spent, token_delta, funding_output_delta, covered, counted, tally, settled, token_account, accounts, contribution, scripts, opening, closing, ruling, ruling_against, judge}
+use Rattle.rules.specs.Judge.{Call, Names, within, limits, comparison, live, live_cells, spent, token_delta, funding_output_delta, covered, counted, tally, settled, token_account, accounts, contribution, scripts, opening, closing, ruling, ruling_against, judge}
 use Rattle.rules.specs.Run.{next, verdicts, update_for_peer}
 
 pub record Numbered {A : Type 0} (o : Outcome A) : Type 0 where
@@ -91,9 +90,9 @@ scripts_lined : (lock type source : List ℕ) → Lined (scripts lock type sourc
 unfolding scripts
 scripts_lined lock type source = on 3 _ _ _ _ (omega arith) (on 3 _ _ _ _ (omega arith) (of 3 _ _ _ (omega arith)))
 
-limits_lined : (most : Limits) (size : ℕ) (ours peer : Tx) → Lined (limits most size ours peer)
-unfolding limits
-limits_lined most size ours peer = on 4 _ _ _ _ (omega arith) (on 4 _ _ _ _ (omega arith) (on 4 _ _ _ _ (omega arith) (on 4 _ _ _ _ (omega arith) (of 4 _ _ _ (omega arith)))))
+limits_lined : (size : ℕ) (ours peer : Tx) → Lined (limits size ours peer)
+unfolding within
+limits_lined size ours peer = on 4 _ _ _ _ (omega arith) (on 4 _ _ _ _ (omega arith) (on 4 _ _ _ _ (omega arith) (on 4 _ _ _ _ (omega arith) (of 4 _ _ _ (omega arith)))))
 
 comparison_lined : (lock type : List ℕ) (ours peer : Tx) → Lined (comparison lock type ours peer)
 unfolding comparison
@@ -155,7 +154,7 @@ opening_lined : (lock type source : List ℕ) (ours : Tx) (bytes : List ℕ) →
 unfolding opening
 opening_lined lock type source ours bytes =
     on _ _ _ _ _ (omega arith) (and_then (scripts lock type source) _ (scripts_lined lock type source)
-    (and_then (limits _ _ ours (tx_at bytes)) _ (limits_lined _ _ ours (tx_at bytes)) (comparison_lined lock type ours (tx_at bytes))))
+    (and_then (limits _ ours (tx_at bytes)) _ (limits_lined _ ours (tx_at bytes)) (comparison_lined lock type ours (tx_at bytes))))
 
 closing_lined : (type source : List ℕ) (ours peer : Tx) (rate size : ℕ) (lent : LentRecords) → Lined (closing type source ours peer rate size lent)
 unfolding closing

@@ -21,7 +21,7 @@ use Rattle.transaction.specs.Cells.{Cell, cells}
 use Rattle.rules.specs.Records.{LentRecords, lent_at}
 use Rattle.rules.specs.Surplus.{total, first, added, capacities, cell_capacity, amount_of, token_of, is_of, has_amount, expected}
 use Rattle.rules.specs.Lines.{line, line_with, answer, verdict, followed, line_holds, ◌>>=◌, ◌>>◌}
-use Rattle.rules.specs.Judge.{Call, judge, judge_against, ruling, ruling_against, opening, closing, scripts, today, limits, comparison, spent, live, live_cells, counted, Names, of_records, of_outputs, tally, settled, growth, token_delta, funding_output_delta, covered, token_account, accounts, contribution}
+use Rattle.rules.specs.Judge.{Call, judge, judge_against, ruling, ruling_against, opening, closing, scripts, limits, comparison, spent, live, live_cells, counted, Names, of_records, of_outputs, tally, settled, growth, token_delta, funding_output_delta, covered, token_account, accounts, contribution}
 use Rattle.rules.specs.Run.{handed_back, lent_cells, next, update_for_peer}
 use Rattle.rules.specs.Step.{Settled, with_data, Extends, Balanced}
 use Rattle.rules.specs.Lawful.{Owed, Owes, two_figures}
@@ -254,7 +254,7 @@ accepted lock type oursBytes call s e =
     let (before, e₂) = then-accepted (opening lock type call.source ours call.peer) _ _ e₁ in
     let (p, f₁) = line-accepted _ _ _ _ _ _ before in
     let (_, f₂) = then-accepted (scripts lock type call.source) _ _ f₁ in
-    let (_, f₃) = then-accepted (limits today (length call.peer + 4) ours peer) _ _ f₂ in
+    let (_, f₃) = then-accepted (limits (length call.peer + 4) ours peer) _ _ f₂ in
     let (cs, x, e₃) = bind-accepted (spent call.source ours peer (lent_at call.records)) _ _ e₂ in
     let (capacity, token) = contributed type ours peer cs call.rate _ s e₃ in
     let c : Extends ours peer = compared lock type ours peer f₃ in

@@ -31,18 +31,21 @@ scripts lock type source = do
 
 -- ---- limits
 
--- today's
-abbrev pub today : Limits
-today = record { inputs = 64; outputs = 3; cell_deps = 8; header_deps = 2 }
-
 -- the size is that of the bytes and 4
-unfoldable pub limits : Limits → ℕ → Tx → Tx → Ruled (Unit {0})
-limits most size ours peer = do
+unfoldable pub within : Limits → ℕ → Tx → Tx → Ruled (Unit {0})
+within most size ours peer = do
   line 4 "size over 133,120" (leb size 133120)
   line 4 "too many added inputs" (leb (length peer.inputs - length ours.inputs) most.inputs)
   line 4 "too many added outputs" (leb (length peer.outputs - length ours.outputs) most.outputs)
   line 4 "too many added cell deps" (leb (length peer.cell_deps - length ours.cell_deps) most.cell_deps)
   line 4 "too many added header deps" (leb (length peer.header_deps - length ours.header_deps) most.header_deps)
+
+-- today's
+abbrev pub today : Limits
+today = record { inputs = 64; outputs = 3; cell_deps = 8; header_deps = 2 }
+
+abbrev pub limits : ℕ → Tx → Tx → Ruled (Unit {0})
+limits size ours peer = within today size ours peer
 
 -- ---- comparison
 
@@ -203,7 +206,7 @@ unfoldable pub opening : List ℕ → List ℕ → List ℕ → Tx → List ℕ 
 opening lock type source ours bytes = do
   line 2 "the peer's bytes unreadable" (readable Transaction bytes)
   scripts lock type source
-  limits today (length bytes + 4) ours (tx_at bytes)
+  limits (length bytes + 4) ours (tx_at bytes)
   comparison lock type ours (tx_at bytes)
 
 -- the records, and what follows them
