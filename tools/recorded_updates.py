@@ -40,7 +40,7 @@ import cases as proved
 import replayed
 import update_cases as cases
 from molecule_vectors import join, u32
-from update_model import PLACES, REQUESTS, Case, amount, judge, judge_file, left_out, left_out_file, read_case, read_records, read_tx, surplus, u64, Shape, Tx
+from update_model import HEADER_DEPS, PLACES, REQUESTS, Case, amount, judge, judge_file, left_out, left_out_file, read_case, read_records, read_tx, surplus, u64, Shape, Tx
 
 SEED = 20_240_607
 
@@ -227,16 +227,24 @@ def files_of(family, rng, seen):
 PANICS = 'contribution: our amount missing'  # where the Rust panics
 
 
+def explained(a, before, request):
+    """Whether an answer is that without the requests, or differs from it by the request that leaves the update out, and none is left out that it can't concern."""
+    same = (a.line(), a.place) == (before.line(), before.place)
+    if request == HEADER_DEPS:
+        return a.place == 'limits: header deps' or same and a.place.startswith(('entry', 'limits'))
+    return same
+
+
 def compared(files, answers):
-    """Stops where the Rust and the model without the requests differ, or where a request changes the answer to an update that it does not leave out. Of each
-    file the model's answer, whether it is typed, and the request by which it is left out, or None."""
+    """Stops where the Rust and the model without the requests differ, or where what the requests changed is not what is left out for them. Of each file the
+    model's answer, whether it is typed, and the request by which it is left out, or None."""
     out, wrong = [], 0
     for f, (line, panic) in zip(files, answers):
         before, _ = judge_file(f, REQUESTS)
         a, typed = judge_file(f)
         request = left_out_file(f)
         out.append((a, typed, request))
-        if before.line() != line or panic != (before.place == PANICS) or request is None and (a.line(), a.place) != (before.line(), before.place):
+        if before.line() != line or panic != (before.place == PANICS) or not explained(a, before, request):
             wrong += 1
             if wrong < 10:
                 print('DIFFERS: the Rust says %s%s, the model %s (%s), without the requests %s (%s): %s'
@@ -271,7 +279,7 @@ def by_number(numbers):
 
 
 def record_updates(oracle):
-    rng, seen, pairs, whole, found, panics, numbers, requests = cases.Rng(SEED), set(), [], 0, {}, 0, [], []
+    rng, seen, pairs, whole, found, numbers, requests = cases.Rng(SEED), set(), [], 0, {}, [], []
     for (what, f, line), (said, _) in zip(named(), ask(oracle, [f for _, f, _ in named()])):
         said = said if left_out_file(f) is None else judge_file(f)[0].line()
         if said != line:
@@ -354,7 +362,7 @@ def record_negotiations(oracle):
         readable = not start or read_tx(start) is not None
         if readable:
             lines.append('n_start ' + (start.hex() or '-'))
-        for (ours, call), a in zip(calls, answers):
+        for ours, call in calls:
             c = call.case(lock, type_)
             if readable:
                 lines.append('n_update ' + c.file().hex())
@@ -377,7 +385,7 @@ def record_negotiations(oracle):
                 in_force = call.peer
             requests.append(left_out(ours, call.peer))
             before = without_requests(ours, call, lock, type_)
-            assert requests[-1] or (before.line(), before.place) == (a.line(), a.place), (before.line(), before.place, a.line(), a.place)
+            assert explained(a, before, requests[-1]), (before.line(), before.place, a.line(), a.place, requests[-1])
             want = before.line() + (' %032x' % before.values[1] if before.number == 0 else '')
             then = call.peer if before.number == 0 else ours
             c = call.case(lock, type_)
@@ -390,12 +398,11 @@ def record_negotiations(oracle):
                 if got != '%s | %s' % (want, then.hex() or '-'):
                     sys.exit('DIFFERS: the Rust says %s, the model %s (%s), of %s against %s' % (got, want, before.place, c.file().hex(), ours.hex()))
             c.ours = ours
-            marks.append(a.place == PANICS)
+            marks.append(False)  # what is over a case file's length was not asked by itself, so that no panic was seen
             if len(c.file()) <= 65536:
                 line, panic = next(by_itself)
                 assert line == before.line() and panic == (before.place == PANICS), (line, panic, before.line(), before.place)
-            else:
-                marks[-1] = False
+                marks[-1] = a.place == PANICS
             found[a.place, a.number, bool(type_)] = found.get((a.place, a.number, bool(type_)), 0) + 1
             numbers.append(a.number)
         assert in_force == (calls[at - 1][1].peer if at else start)

@@ -732,6 +732,13 @@ def limits():
                 yield filled(kind, typed, inputs=1, outputs=1, deps=n)
             for n in (1, 2, 3, 4):
                 yield filled(kind, typed, inputs=1, outputs=1, headers=n)
+        # so is header deps fewer by several, and one more than ours of many
+        for n in (0, 1, 3, 4, 5, 7, 8):
+            c = base('rich', typed)
+            c.ours.headers = [header(i) for i in range(5)]
+            c.peer.headers = [header(i) for i in range(n)]
+            yield c
+            yield changed(c, deps_9)
         # fewer of one thing is none added, and the others still count
         for f in (deps_fewer, headers_fewer, inputs_fewer, outputs_fewer):
             for g in (inputs_65, outputs_4, deps_9, headers_3):

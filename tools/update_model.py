@@ -244,11 +244,6 @@ HEADER_DEPS = 'W6'  # at most 2 header deps are added
 REQUESTS = {HEADER_DEPS: 'three or more added header deps'}  # that changed the rules, with the updates that a run against the Rust leaves out
 
 
-def request_of(ours, peer):
-    """Of two readable transactions: the request by which a run against the Rust leaves the update out, or None."""
-    return HEADER_DEPS if len(peer.headers) - len(ours.headers) > 2 else None
-
-
 def judge_readable(ours, peer, size, lock, type_, source, rate, records, without):
     typed = bool(type_)
     check(4, size <= 133120, 'limits: size')
@@ -326,9 +321,9 @@ def judge(ours, peer, lock, type_, source, rate, records, without=()):
 
 
 def left_out(ours, peer):
-    """The same of bytes; None where they can't be read."""
+    """Of the bytes of two transactions: the request by which a run against the Rust leaves the update out, or None, also where they can't be read."""
     our_tx, peer_tx = read_tx(ours) if ours else Tx(), read_tx(peer)
-    return request_of(our_tx, peer_tx) if our_tx and peer_tx else None
+    return HEADER_DEPS if our_tx and peer_tx and len(peer_tx.headers) - len(our_tx.headers) > 2 else None
 
 
 def judge_file(f, without=()):
@@ -341,6 +336,7 @@ def judge_file(f, without=()):
 
 
 def left_out_file(f):
+    """The same of a case file."""
     try:
         c = read_case(f)
     except Shape:

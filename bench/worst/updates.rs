@@ -33,7 +33,7 @@ fn here(update: &Rc<Update>, answer: u32) -> Clock {
     let update = update.clone();
     Clock::steady(move || assert_eq!(black_box(&*update).call(&mut [0; 4]), answer))
 }
-/// The original from the same bytes. It accepts what a request refuses since.
+/// The original from the same bytes. What it answers was compared before; where a request refuses the update since, it accepts.
 fn there(update: &Rc<Update>) -> Clock {
     let (update, accepted) = (update.clone(), update.read().passes());
     Clock::steady(move || assert_eq!(black_box(&*update).read().passes(), accepted))
@@ -91,7 +91,9 @@ fn headers(size: usize) -> Update {
 }
 fn added_headers(size: usize) -> Update {
     let headers = vec![[0; 32]; small().room(size, 32)];
-    adding(&small(), Tx { headers, ..small() }, size)
+    let update = adding(&small(), Tx { headers, ..small() }, size);
+    assert!(update.read().passes(), "the original has no limit on header deps");
+    update
 }
 fn least_outputs(size: usize) -> Update {
     let (mut tx, least) = (small(), output(1, &peers_lock(), None));

@@ -31,7 +31,7 @@ scripts lock type source = do
 
 -- ---- limits
 
--- the size is that of the bytes and 4
+-- by any limits on what is added; the size is that of the bytes and 4
 unfoldable pub within : Limits → ℕ → Tx → Tx → Ruled (Unit {0})
 within most size ours peer = do
   line 4 "size over 133,120" (leb size 133120)
@@ -40,10 +40,11 @@ within most size ours peer = do
   line 4 "too many added cell deps" (leb (length peer.cell_deps - length ours.cell_deps) most.cell_deps)
   line 4 "too many added header deps" (leb (length peer.header_deps - length ours.header_deps) most.header_deps)
 
--- today's
+-- today's limits
 abbrev pub today : Limits
 today = record { inputs = 64; outputs = 3; cell_deps = 8; header_deps = 2 }
 
+-- by today's
 abbrev pub limits : ℕ → Tx → Tx → Ruled (Unit {0})
 limits size ours peer = within today size ours peer
 

@@ -1,4 +1,5 @@
-// The answer of `update_for_peer`. The rules that decide it are definitions, in specs/; the law over every list of updates is in proofs/.
+// The answer of `update_for_peer`, and the limits by which it judges. The rules that decide are definitions, in specs/; the law over every list of updates is in
+// proofs/.
 #![tactic(auto)]
 
 use error::Refusal;

@@ -28,7 +28,7 @@ impl std::fmt::Display for Verdict {
     }
 }
 
-/// The request W6, and the updates that a comparison with the original leaves out for it: all of them are refused with 4, unless what is lent can't be read.
+/// The request W6, and the updates that a comparison with the original leaves out for it: all of them are refused with 4, unless a transaction or a script can't be read.
 pub const HEADER_DEPS: &str = "W6: three or more added header deps, 4";
 
 /// A cell that an added input spends, as it is lent; none where it is not live.

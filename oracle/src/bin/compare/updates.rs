@@ -111,7 +111,8 @@ pub fn in_force(rng: &mut Rng, c: &Channel) -> Option<Tx> {
     }
     if kind != 3 {
         t.deps = (0..rng.below(4)).map(|i| dep(i as u8, rng.below(2) as u8)).collect();
-        t.headers = (0..rng.below(3)).map(|i| [i as u8; 32]).collect();
+        let most = if rng.once_in(6) { 6 } else { 2 };
+        t.headers = (0..rng.between(0, most)).map(|i| [i as u8; 32]).collect();
         t.witnesses = (0..rng.below(3)).map(|_| rng.bytes(3)).collect();
     }
     Some(t)
