@@ -111,6 +111,13 @@ impl From<u64> for Tokens {
 impl Shannons {
     pub const ZERO: Shannons = Shannons(0);
 
+    // As a function, so that the constant is proved.
+    pub fn zero() -> Shannons
+        ensures { result ≡ in_shannons 0 }
+    {
+        Shannons::ZERO
+    }
+
     // The sum, and the greatest amount where that is wider: a sum of capacities of 64 bits never is. The library has no trait for it.
     pub fn saturating_add(self, other: Shannons) -> Shannons
         ensures { result ≡ capped_sum self other }
@@ -121,6 +128,13 @@ impl Shannons {
 
 impl Tokens {
     pub const ZERO: Tokens = Tokens(0);
+
+    // As a function, so that the constant is proved.
+    pub fn zero() -> Tokens
+        ensures { result ≡ in_tokens 0 }
+    {
+        Tokens::ZERO
+    }
 
     // The amount of the first 16 bytes of a cell's data.
     pub fn from_le_bytes(s: &[u8]) -> Option<Tokens>
