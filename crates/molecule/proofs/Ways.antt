@@ -2,6 +2,6 @@
 use borrow.Author.Rules.{rules}
 use Rattle.molecule.proofs.LayoutLaws.{part-is, part-place, fix_out, fix_out-place, entry_place}
 use Rattle.molecule.proofs.TestLaws.{items-header, ordered_none, ordered_more, ordered_stop, ordered_end, fix_says, bytes_are, walked_no, walked_none, walked_falls, walked_past, walked_more, walked_stop, walked_end}
-use Rattle.molecule.proofs.WriteLaws.{put_far, end_far, put_short, end_short, put_part, end_is}
+use Rattle.molecule.proofs.WriteLaws.{copy_none, copy_more, copy_end, put_far, end_far, put_short, end_short, put_is, end_is}
 
-pub ruleset ways = (rules, part-is, part-place, fix_out, fix_out-place, entry_place, items-header, ordered_none, ordered_more, ordered_stop, ordered_end, fix_says, bytes_are, walked_no, walked_none, walked_falls, walked_past, walked_more, walked_stop, walked_end, put_far, end_far, put_short, end_short, put_part, end_is)
+pub ruleset ways = (rules, part-is, part-place, fix_out, fix_out-place, entry_place, items-header, ordered_none, ordered_more, ordered_stop, ordered_end, fix_says, bytes_are, walked_no, walked_none, walked_falls, walked_past, walked_more, walked_stop, walked_end, copy_none, copy_more, copy_end, put_far, end_far, put_short, end_short, put_is, end_is)

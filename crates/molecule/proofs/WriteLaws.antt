@@ -6,7 +6,6 @@ use native.Mathlib.Nat.{add_assoc, zero-add, add-zero, le_antisymm}
 use native.Mathlib.Numerals.{add-one}
 use native.Mathlib.Omega.{arith}
 use borrow.Author.Tests.{le-leb, lt-leb}
-use borrow.Rule.Slice.PartMut.{put_mid}
 use lib.ListN.{length, take, drop, get_or, set, length-set, take-append-drop, length-append, length-drop}
 use lib.Seq.{take_at, drop-append-add, drop-drop, length-take-le, paste, paste-zero, paste-suc, take-length}
 use Rattle.molecule.specs.Write.{splice, put_at, put_end, Put}
@@ -68,13 +67,6 @@ module _ (out : List ℕ) (at : ℕ) (xs : List ℕ) where
 
   pub put_is : {after : List ℕ} → at ≤ length out → length xs ≤ length out - at → after ≡ splice out at xs → after ≡ put_at out at xs
   put_is h k e = e ∙ sym (put_yes (omega arith))
-
-  -- ys is what stands in the part that was written
-  pub put_part : {ys : List ℕ} → at ≤ length out → length xs ≤ length out - at → ys ≡ xs → put_mid at (at + length xs - at) out ys ≡ put_at out at xs
-  unfolding splice
-  put_part h k e =
-      let n : at + length xs - at ≡ length xs = omega arith in
-      put_is h k (rw (e, n, drop-drop, ← append_assoc))
 
   pub end_is : at ≤ length out → length xs ≤ length out - at → at + length xs ≡ put_end out at xs
   end_is h k = sym (end_yes (omega arith))

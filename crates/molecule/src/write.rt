@@ -6,6 +6,16 @@ ghost use Rattle.molecule.specs.Write.{splice, put_at, put_end};
 
 use arithmetic::little_endian;
 
+// Copies src to `at`, where there is room. By hand: with `copy_from_slice` the library for C would need `memmove` from outside.
+fn copy(out: &mut [u8], at: usize, src: &[u8])
+    requires { at + length src.now ≤ length out.old }
+    ensures { out.new ≡ splice out.old at src.now }
+{
+    for i in 0..src.len() {
+        out[at + i] = src[i];
+    }
+}
+
 // Puts src at `at`, and answers the place after it.
 pub fn put(out: &mut [u8], at: usize, src: &[u8]) -> usize
     ensures out_after { out.new ≡ put_at out.old at src.now }
@@ -14,9 +24,8 @@ pub fn put(out: &mut [u8], at: usize, src: &[u8]) -> usize
     if out.len() < at || out.len() - at < src.len() {
         return at;
     }
-    let next = at + src.len();
-    out[at..next].copy_from_slice(src);
-    next
+    copy(out, at, src);
+    at + src.len()
 }
 
 // Puts the four bytes of x at `at`.
