@@ -8,7 +8,7 @@ use borrow.Rule.Slice.PartMut.{put_mid}
 use lib.ListN.{length, take, drop, get_or, set, length-set, length-drop, drop_of_length-le}
 use Rattle.std.proofs.Common.{append-nil, length-append, length-take-le, take_at, drop_at, take-append-drop}
 use Rattle.std.proofs.Math.Seq.{take-length}
-use Rattle.std.proofs.lemmas.List.{get_or_append_left, get_or-append_right}
+use Rattle.std.proofs.lemmas.List.{ext_get_or, get_or_append_left, get_or-append_right}
 use lib.Seq.{get_or-set_same, get_or-set_other, take_all}
 use Rattle.std.specs.List.{All, Contains}
 use Rattle.std.specs.List.Sorted.{IsPermutation}
@@ -93,6 +93,28 @@ module _ (s a b : List ℕ) (m : ℕ) (h : m ≤ length s) (p : IsPermutation (t
   merged_same {l} {r} {out} {after} el er o e =
       let t : l ++ r ≡ a ++ b = ap₂ ◌++◌ el er ∙ take-append-drop m _ ∙ joined in
       rw e (IsPermutation-trans s (a ++ b) out both (rw t at o))
+
+-- ---- the loop that copies back: the first i of u are those of t
+
+pub record Copying (t u : List ℕ) (i : ℕ) : Type 0 where
+  pub long : length u ≡ length t
+  pub done : (a : ℕ) → a < i → get_or u a 0 ≡ get_or t a 0
+
+pub copy_start : (t s : List ℕ) → length s ≡ length t → Copying t s 0
+copy_start t s h = record { long = h; done = λ a p. absurd (omega arith) }
+
+module _ {t u : List ℕ} {i : ℕ} (k : Copying t u i) where
+  pub copy_end : length u ≤ i → u ≡ t
+  copy_end h = ext_get_or 0 u t k.long (λ a p. k.done a (omega arith))
+
+  pub copy_on : i < length u → Copying t (set u i (get_or t i 0)) (i + 1)
+  copy_on h = record {
+    long = length-set u i (get_or t i 0) ∙ k.long;
+    done = λ a p. three a i
+        (λ w. get_or-set_other u i a (get_or t i 0) 0 (λ z. omega arith) ∙ k.done a w)
+        (λ w. ap (λ (v : ℕ). get_or (set u i (get_or t i 0)) v 0) w ∙ get_or-set_same u i (get_or t i 0) 0 h ∙ ap (λ (v : ℕ). get_or t v 0) (sym w))
+        (λ w. absurd (omega arith));
+  }
 
 -- ---- the index
 

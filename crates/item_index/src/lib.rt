@@ -81,7 +81,7 @@ impl<'a> Keys<'a> {
         if self.comes_first(s[mid], s[mid - 1]) {
             let (left, right) = s.split_at(mid);
             self.merge(left, right, t);
-            s.copy_from_slice(t);
+            copy_back(s, t);
         }
     }
 
@@ -137,6 +137,16 @@ impl<'a> Keys<'a> {
         ensures { result ≡ order_of (keys_of self.entry place) x.now }
     {
         ordering::compare(self.key(place as usize), x)
+    }
+}
+
+// Copies t back to s. By hand: `copy_from_slice` would have the library need C's `memmove`.
+fn copy_back(s: &mut [u32], t: &[u32])
+    requires { length s.old ≡ length t.now }
+    ensures { s.new ≡ t.now }
+{
+    for i in 0..s.len() {
+        s[i] = t[i];
     }
 }
 

@@ -6,7 +6,7 @@ use Rattle.item_index.proofs.Keys.+sort.Goals as goal
 pub returns-then-comes_first-clause-same : goal.returns-then-comes_first-clause-same
 returns-then-comes_first-clause-same t c =
     let m = length c.args.s.now / 2 in
-    merged_same c.args.s.now c.sort.new.s c.sort-2.new.s m (omega arith) c.sort.ensures.same c.sort-2.ensures.same c.split_at.ensures.front c.split_at.ensures.back c.merge.ensures.same c.copy_from_slice.ensures.after
+    merged_same c.args.s.now c.sort.new.s c.sort-2.new.s m (omega arith) c.sort.ensures.same c.sort-2.ensures.same c.split_at.ensures.front c.split_at.ensures.back c.merge.ensures.same c.copy_back.ensures
 
 pub returns-else-comes_first-clause-same : goal.returns-else-comes_first-clause-same
 returns-else-comes_first-clause-same t c =
