@@ -29,6 +29,17 @@ pub struct OutPoint {
     pub index: u32,
 }
 
+// Whether the two name the same output. Where it is asked for each record or item: by the words of the two, of which mostly the first tells them apart, it takes
+// less than `==`, which goes by two structs in memory.
+#[inline(always)]
+pub fn same_point(p: OutPoint, q: OutPoint) -> bool
+    ensures { result ≡ eq_point p q }
+{
+    let x = p.hash;
+    let y = q.hash;
+    x.a == y.a && x.b == y.b && x.c == y.c && x.d == y.d && p.index == q.index
+}
+
 // How many slots there are for marks and hints by which a search is spared.
 pub const SLOTS: usize = 4093;
 
@@ -98,13 +109,13 @@ pub fn point_of(s: &[u8], i: usize) -> OutPoint
     out_point_at(x, 0)
 }
 
-// Whether item i of a lent list, which has it whole, is p. What follows the first word is read only where that is the same.
+// Whether item i of a lent list, which has it whole, is p. A word is read only where those before it are the same.
 fn same_within(s: &[u8], i: usize, p: OutPoint) -> bool
     requires { (i < fix_count s.now) × (40 + 36 * i ≤ length s.now) }
     ensures { result ≡ eq_point p (point_of s.now i) }
 {
     let x = &s[4 + 36 * i..40 + 36 * i];
-    p.hash.a == little_endian::u64_at(x, 0) && p == out_point_at(x, 0)
+    p.hash.a == little_endian::u64_at(x, 0) && same_point(p, out_point_at(x, 0))
 }
 
 // Whether p is among the first n items. The list and n, since bytes that are missing at its end are read as zeros: such items have no slice of their own.

@@ -94,7 +94,7 @@ fn tower_on(r: Hold, p: OutPoint) -> bool
 {
     match r.owner {
         Owner::Funding(_) => false,
-        Owner::Watchtower(_) => p == r.point,
+        Owner::Watchtower(_) => out_points::same_point(p, r.point),
     }
 }
 
