@@ -100,11 +100,7 @@ impl Replay for Files<'_> {
 fn print(files: &Files<'_>) -> fmt::Result {
     let mut out = Printed;
     for (number, tally) in files.by_number.of.iter().enumerate() {
-        writeln!(
-            out,
-            "{number}: {} files, {} wrong",
-            tally.all, tally.wrong
-        )?;
+        writeln!(out, "{number}: {} files, {} wrong", tally.all, tally.wrong)?;
     }
     let sum = files.by_number.sum();
     writeln!(
