@@ -145,7 +145,11 @@ fn copied(kind: Kind, s: &[u8], copy: &[u8]) -> Count {
     let mut work = [0; ROOM];
     let changes = molecule::part(copy, 2, copy.len());
     let n = recorded_calls::changed(&mut work, s, little_endian::byte(copy, 1), changes);
-    damaged(kind, molecule::part(&work, 0, n), little_endian::byte(copy, 0) == 1)
+    damaged(
+        kind,
+        molecule::part(&work, 0, n),
+        little_endian::byte(copy, 0) == 1,
+    )
 }
 
 // ---- the file
