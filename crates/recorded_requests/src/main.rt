@@ -136,8 +136,7 @@ fn is_base_right(r: &Request<'_>) -> bool {
 
 fn is_pick_right(r: &Request<'_>) -> bool {
     let mut buffer = [FILL; BUFFER_ROOM];
-    build_pick(r, &mut buffer) == r.pick
-        && recorded_calls::is_written_to(&buffer, r.room, r.output)
+    build_pick(r, &mut buffer) == r.pick && recorded_calls::is_written_to(&buffer, r.room, r.output)
 }
 
 fn is_right(r: &Request<'_>) -> bool {
