@@ -172,8 +172,8 @@ impl Replay for Requests {
 // A line for each number that is recorded at all, and one for all.
 fn print(requests: &Requests) -> fmt::Result {
     let mut out = Printed;
-    let [by_number @ .., all] = requests.counts.of;
-    for (number, tally) in by_number.iter().enumerate() {
+    let [.., all] = requests.counts.of;
+    for (number, tally) in requests.counts.of.iter().take(NUMBERS).enumerate() {
         if tally.all != 0 {
             writeln!(
                 out,
