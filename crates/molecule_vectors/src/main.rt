@@ -8,16 +8,13 @@ mod rewrite;
 mod types;
 
 use arithmetic::little_endian;
-use recorded_calls::{FILL, Items};
-use std::alloc::{AllocError, Global};
-use std::io::{Read, Write};
-use std::{fmt, io};
+use molecule::write;
+use recorded_calls::{FILL, Items, Printed};
+use std::fmt;
+use std::fmt::Write;
 use types::Kind;
 
-// How much of standard input is read.
-const LONGEST: u64 = 65_536;
-
-// Room for the longest vector and more.
+// Room for the longest vector and more. Of a longer one, and of a copy, what there is no room for is left out.
 const ROOM: usize = 2048;
 
 #[derive(Clone, Copy, Debug, Default, PartialEq, Eq)]
@@ -47,9 +44,10 @@ impl fmt::Display for Count {
     }
 }
 
-fn print(rt: &impl Print, name: &[u8], count: Count) -> io::Result<()> {
-    io::writer(rt).write_all(name)?;
-    println!(rt; ": {count}")
+fn print(name: &[u8], count: Count) -> fmt::Result {
+    let mut out = Printed;
+    out.bytes(name);
+    writeln!(out, ": {count}")
 }
 
 // ---- one string
@@ -112,15 +110,16 @@ fn damaged(kind: Kind, s: &[u8], readable: bool) -> Count {
 
 // ---- damage at each place of a vector
 
-// Cut before the place, and with the byte there one up and one down: of each the answers have a bit, whether it is readable.
-fn at_place(kind: Kind, s: &mut [u8], i: usize, answers: u8) -> Count {
+// Cut before the place, and with the byte there one up and one down: of each the answers have a bit, whether it is readable. `work` begins with the n bytes of
+// s that there is room for.
+fn at_place(kind: Kind, s: &[u8], work: &mut [u8], n: usize, i: usize, answers: u8) -> Count {
     let mut count = damaged(kind, molecule::part(s, 0, i), answers & 1 != 0);
     let byte = little_endian::byte(s, i);
-    set(s, i, byte.wrapping_add(1));
-    count.add(damaged(kind, s, answers & 2 != 0));
-    set(s, i, byte.wrapping_sub(1));
-    count.add(damaged(kind, s, answers & 4 != 0));
-    set(s, i, byte);
+    set(work, i, byte.wrapping_add(1));
+    count.add(damaged(kind, molecule::part(work, 0, n), answers & 2 != 0));
+    set(work, i, byte.wrapping_sub(1));
+    count.add(damaged(kind, molecule::part(work, 0, n), answers & 4 != 0));
+    set(work, i, byte);
     count
 }
 
@@ -130,54 +129,59 @@ fn set(s: &mut [u8], i: usize, byte: u8) {
     }
 }
 
-fn at_places(alloc: Global, kind: Kind, s: &[u8], answers: &[u8]) -> Result<Count, AllocError> {
-    let mut work = s.to_vec(alloc)?;
+fn at_places(kind: Kind, s: &[u8], answers: &[u8]) -> Count {
+    let mut work = [0; ROOM];
+    let n = write::put(&mut work, 0, s);
     let mut count = Count::default();
     for i in 0..s.len() {
-        count.add(at_place(kind, &mut work, i, little_endian::byte(answers, i)));
+        count.add(at_place(kind, s, &mut work, n, i, little_endian::byte(answers, i)));
     }
-    Ok(count)
+    count
 }
 
 // ---- damage to the form
 
-fn copied(alloc: Global, kind: Kind, s: &[u8], copy: &[u8]) -> Result<Count, AllocError> {
+fn copied(kind: Kind, s: &[u8], copy: &[u8]) -> Count {
+    let mut work = [0; ROOM];
     let changes = molecule::part(copy, 2, copy.len());
-    let changed = recorded_calls::changed(alloc, s, little_endian::byte(copy, 1), changes)?;
-    Ok(damaged(kind, &changed, little_endian::byte(copy, 0) == 1))
+    let n = recorded_calls::changed(&mut work, s, little_endian::byte(copy, 1), changes);
+    damaged(
+        kind,
+        molecule::part(&work, 0, n),
+        little_endian::byte(copy, 0) == 1,
+    )
 }
 
 // ---- the file
 
-fn vector(alloc: Global, kind: Kind, v: &[u8]) -> Result<Count, AllocError> {
+fn vector(kind: Kind, v: &[u8]) -> Count {
     let s = molecule::field(v, 3, 0);
     let mut count = good(kind, s);
-    count.add(at_places(alloc, kind, s, molecule::field(v, 3, 1))?);
+    count.add(at_places(kind, s, molecule::field(v, 3, 1)));
     for copy in Items::of(molecule::field(v, 3, 2)) {
-        count.add(copied(alloc, kind, s, copy)?);
+        count.add(copied(kind, s, copy));
     }
-    Ok(count)
+    count
 }
 
 // The vectors of a type.
-fn group(rt: &(impl Print + AllocGlobal), g: &[u8]) -> io::Result<Count> {
+fn group(g: &[u8]) -> Count {
     let number = little_endian::byte(molecule::field(g, 3, 0), 0);
     let kind = Kind::from(number);
     let mut count = Count::default();
     for v in Items::of(molecule::field(g, 3, 2)) {
-        count.add(vector(rt.alloc(), kind, v)?);
+        count.add(vector(kind, v));
     }
-    // a write that fails is passed over
-    let _ = print(rt, molecule::field(g, 3, 1), count);
-    Ok(count)
+    let _ = print(molecule::field(g, 3, 1), count);
+    count
 }
 
-fn main(rt: HostRuntime) -> io::Result<()> {
-    let file = recorded_calls::read_all(&rt, LONGEST)?;
+fn main() {
+    let mut room = io::large_buffer();
+    let n = recorded_calls::read_all(&mut room);
     let mut all = Count::default();
-    for g in Items::of(&file) {
-        all.add(group(&rt, g)?);
+    for g in Items::of(&room[..n]) {
+        all.add(group(g));
     }
-    let _ = print(&rt, b"all", all);
-    Ok(())
+    let _ = print(b"all", all);
 }

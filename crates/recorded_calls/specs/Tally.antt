@@ -12,6 +12,13 @@ added t u = record { all = capped (t.all + u.all); wrong = capped (t.wrong + u.w
 abbrev pub counted : Tally → Bool → Tally
 counted t right = added t (record { all = 1; wrong = cond right 0 1 })
 
+-- with one more in all, and with one more that is wrong
+abbrev pub one_more : Tally → Tally
+one_more t = added t (record { all = 1; wrong = 0 })
+
+abbrev pub one_wrong : Tally → Tally
+one_wrong t = added t (record { all = 0; wrong = 1 })
+
 unfoldable pub total : Tally → List Tally → Tally
 total t [] = t
 total t (u ∷ us) = total (added t u) us

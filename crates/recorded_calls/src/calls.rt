@@ -1,15 +1,15 @@
 // The recorded calls on a table of cells.
 ghost use Rattle.std.specs.Prelude.{◌≡◌, ◌==◌, ◌&&◌, nat_eq, length, drop};
 ghost use Rattle.std.specs.List.{starts_with, list_all};
+ghost use Rattle.molecule.specs.Layout.{part};
 
 use crate::items::Items;
-use crate::parts::{Replay, each_part};
+use crate::parts::{Replay, each_part, zeros};
+use crate::printed::Printed;
 use crate::tally::Tallies;
 use arithmetic::little_endian;
-use std::alloc::{AllocError, Global};
-use std::fmt::Display;
-use std::io;
-use std::io::BufReader;
+use std::fmt;
+use std::fmt::{Display, Write};
 
 // What stands in a lent buffer before the call.
 pub const FILL: u8 = 165;
@@ -92,12 +92,19 @@ pub fn is_written(buffer: &[u8], list: &[u8]) -> bool
     buffer.starts_with(list) && is_filled(&buffer[list.len()..])
 }
 
+// The same of a buffer of which so many bytes were lent. A list that is longer is held to what stands behind them too.
+pub fn is_written_to(buffer: &[u8], room: usize, list: &[u8]) -> bool
+    ensures { result ≡ (starts_with nat_eq buffer.now list.now && list_all (λ x. x == 165) (part buffer.now (length list.now) room)) }
+{
+    buffer.starts_with(list) && is_filled(molecule::part(buffer, list.len(), room))
+}
+
 // A table of cells.
 pub trait Table: Drop {
-    fn empty(alloc: Global) -> Result<Self, AllocError>;
+    fn empty() -> Self;
 
     // Runs the call, and answers whether all is as recorded.
-    fn is_right(&mut self, call: &Call<'_>, alloc: Global) -> Result<bool, AllocError>;
+    fn is_right(&mut self, call: &Call<'_>) -> bool;
 }
 
 #[derive(Clone, Copy, Debug, PartialEq, Eq)]
@@ -116,8 +123,21 @@ impl CallCounts {
         }
     }
 
+    // A recording that names a kind past the last counts where it would stand in the row: that of the kinds, those alike, those over.
+    fn raise(&mut self, place: usize) {
+        match self.kinds.raise(place) {
+            Some(0) => self.alike = self.alike.saturating_add(1),
+            Some(1) => self.over = self.over.saturating_add(1),
+            _ => {}
+        }
+    }
+
     fn count(&mut self, call: &Call<'_>, right: bool) {
-        self.kinds.count(usize::from(call.kind), right);
+        let kind = usize::from(call.kind);
+        self.raise(kind);
+        if !right {
+            self.raise(KINDS + kind);
+        }
         match call.mark {
             Mark::Alike => self.alike = self.alike.saturating_add(1),
             Mark::Over => self.over = self.over.saturating_add(1),
@@ -126,13 +146,15 @@ impl CallCounts {
     }
 
     // Prints a line for each of these kinds but the first, which starts a sequence, and one for all.
-    fn print<K: Display>(&self, rt: &impl Print, kinds: &[K]) -> io::Result<()> {
+    fn print<K: Display>(&self, kinds: &[K]) -> fmt::Result {
+        let mut out = Printed;
         for (kind, tally) in kinds.iter().zip(&self.kinds.of).skip(1) {
-            println!(rt; "{kind}: {} calls, {} wrong", tally.all, tally.wrong)?;
+            writeln!(out, "{kind}: {} calls, {} wrong", tally.all, tally.wrong)?;
         }
         let sum = self.kinds.sum();
         let [sequences, ..] = self.kinds.of;
-        println!(rt;
+        writeln!(
+            out,
             "all: {} sequences, {} calls, of which the Rust answers {} alike and goes over a bound at {}, {} wrong",
             sequences.all,
             sum.all.saturating_sub(sequences.all),
@@ -146,37 +168,28 @@ impl CallCounts {
 // The calls of each part on a table that is empty before them.
 #[derive(Drop)]
 struct Calls<T> {
-    alloc: Global,
     table: T,
     counts: CallCounts,
 }
 
 impl<T: Table> Replay for Calls<T> {
-    fn part(&mut self, part: &[u8]) -> io::Result<()> {
-        self.table = T::empty(self.alloc)?;
+    fn part(&mut self, part: &[u8]) {
+        self.table = T::empty();
         for item in Items::of(part) {
             let call = Call::from(item);
-            let right = self.table.is_right(&call, self.alloc)?;
+            let right = self.table.is_right(&call);
             self.counts.count(&call, right);
         }
-        Ok(())
     }
 }
 
-// Replays the calls of standard input, whose kinds are these by number, and prints how many there are and how many are wrong. A write that fails is passed
-// over.
-pub fn replay_calls<T: Table, K: Display>(
-    rt: &(impl Input + Print + AllocGlobal),
-    kinds: &[K],
-) -> io::Result<()> {
-    let alloc = rt.alloc();
+// Replays the calls of standard input, whose kinds are these by number, and prints how many there are and how many are wrong.
+pub fn replay_calls<T: Table, K: Display>(kinds: &[K]) {
+    let mut room = zeros::<LONGEST>();
     let mut calls = Calls {
-        alloc,
-        table: T::empty(alloc)?,
+        table: T::empty(),
         counts: CallCounts::new(),
     };
-    let input = BufReader::new(alloc, rt.reader())?;
-    each_part(alloc, input, LONGEST, &mut calls)?;
-    let _ = calls.counts.print(rt, kinds);
-    Ok(())
+    each_part(&mut room, &mut calls);
+    let _ = calls.counts.print(kinds);
 }

@@ -7,11 +7,13 @@ mod changes;
 mod items;
 mod numbers;
 mod parts;
+mod printed;
 mod tally;
 
-pub use calls::{Call, FILL, Mark, Table, is_written, replay_calls};
+pub use calls::{Call, FILL, Mark, Table, is_written, is_written_to, replay_calls};
 pub use changes::changed;
 pub use items::Items;
 pub use numbers::u128_of;
-pub use parts::{Replay, each_part, each_sparse_part, read_all};
+pub use parts::{Replay, each_part, each_sparse_part, read_all, zeros};
+pub use printed::Printed;
 pub use tally::{Tallies, Tally};

@@ -1,60 +1,48 @@
-// The parts of a recording. Of one that is cut off, or that says more than there is room for, the missing bytes are what stood in the room before. A read that
-// fails counts as the end of the input.
-ghost use Rattle.std.specs.Prelude.{◌≡◌, IfErr};
-ghost use Rattle.std.specs.IoError.{error_kind};
-ghost use Rattle.std.specs.declared.io.ErrorKind.TheVariants.{OutOfMemory};
+// The parts of a recording, which comes on standard input. Of one that is cut off, or that says more than there is room for, the missing bytes are what stood in
+// the room before. A read that fails counts as the end of the input, and nothing is read that stands behind a recording.
+ghost use Rattle.std.specs.Prelude.{◌≡◌, length};
+ghost use Rattle.io.specs.Counts.{IsPrefixLen};
 
-use std::alloc::Global;
-use std::io;
-use std::io::{ErrorKind, Read};
+use arithmetic::little_endian;
+
+const STDIN_FILENO: i32 = 0;
 
 // What a program does with each part.
 pub trait Replay {
-    fn part(&mut self, part: &[u8]) -> io::Result<()>;
+    fn part(&mut self, part: &[u8]);
 }
 
-// Reads until `buf` is full or the input ends.
-fn fill<I: Read>(input: &mut I, buf: &mut [u8]) {
-    let mut at = 0;
-    // a while: each read says how far it came
-    while at < buf.len() {
-        match input.read(&mut buf[at..]) {
-            Ok(0) | Err(_) => break,
-            Ok(n) => at += n,
-        }
-    }
-}
-
-// The whole input, up to so many bytes. It fails only where there is no memory.
-pub fn read_all(rt: &(impl Input + AllocGlobal), most: u64) -> io::Result<Vec<u8>>
-    ensures { IfErr result (λ e. error_kind e ≡ OutOfMemory) }
+// N zeros. The contract gives the length alone: a proof that sees the zeros of a long array counts them one by one.
+pub fn zeros<const N: usize>() -> [u8; N]
+    ensures { length result ≡ N }
 {
-    let mut bytes = Vec::new(rt.alloc());
-    match rt.reader().take(most).read_to_end(&mut bytes) {
-        Err(e) if e.kind() == ErrorKind::OutOfMemory => Err(e),
-        _ => Ok(bytes),
-    }
+    [0; N]
 }
 
-// A recording, and room for a part of it.
-#[derive(Drop)]
-struct Recording<I> {
-    input: I,
-    room: Vec<u8>,
+// Reads the input until there is no room for more of it, and answers how much that is.
+pub fn read_all(room: &mut [u8]) -> usize
+    ensures { IsPrefixLen result room.new }
+{
+    io::read_full(STDIN_FILENO, room)
 }
 
-impl<I: Read> Recording<I> {
-    fn read_u32(&mut self) -> u32 {
-        let mut bytes = [0; 4];
-        fill(&mut self.input, &mut bytes);
-        u32::from_le_bytes(bytes)
-    }
+fn read_u32() -> u32 {
+    let mut bytes = [0; 4];
+    io::read_full(STDIN_FILENO, &mut bytes);
+    u32::from_le_bytes(bytes)
+}
 
+// Room for a part of a recording.
+#[derive(Debug, Drop)]
+struct Recording<'a> {
+    room: &'a mut [u8],
+}
+
+impl Recording<'_> {
     // Reads n bytes to `at`, if there is room for them.
     fn read_to(&mut self, at: usize, n: usize) {
-        let room = self.room.as_mut_slice();
-        if let Some(stretch) = room.get_mut(at..at.saturating_add(n)) {
-            fill(&mut self.input, stretch);
+        if let Some(stretch) = self.room.get_mut(at..at.saturating_add(n)) {
+            io::read_full(STDIN_FILENO, stretch);
         }
     }
 
@@ -68,7 +56,7 @@ impl<I: Read> Recording<I> {
     // Reads a piece to `at`, and answers where it ends.
     fn piece(&mut self, at: usize) -> usize {
         let mut head = [0; 6];
-        fill(&mut self.input, &mut head);
+        io::read_full(STDIN_FILENO, &mut head);
         let [n, c0, c1, d0, d1, d2] = head;
         let n = usize::from(n);
         let copies = usize::from(u16::from_le_bytes([c0, c1]));
@@ -82,7 +70,7 @@ impl<I: Read> Recording<I> {
     // Reads a part to `at`, piece by piece, and answers where it ends.
     fn pieces(&mut self, at: usize) -> usize {
         let mut end = at;
-        for _ in 0..self.read_u32() {
+        for _ in 0..read_u32() {
             end = self.piece(end);
         }
         end
@@ -90,9 +78,11 @@ impl<I: Read> Recording<I> {
 
     // Reads a part that is stored without a run of zeros, and answers where it ends.
     fn sparse(&mut self) -> usize {
-        let size = self.read_u32() as usize;
-        let place = self.read_u32() as usize;
-        let zeros = self.read_u32() as usize;
+        let mut head = [0; 12];
+        io::read_full(STDIN_FILENO, &mut head);
+        let size = little_endian::u32_at(&head, 0) as usize;
+        let place = little_endian::u32_at(&head, 4) as usize;
+        let zeros = little_endian::u32_at(&head, 8) as usize;
         self.room.fill(0);
         self.read_to(0, place);
         self.read_to(place.saturating_add(zeros), size.saturating_sub(place));
@@ -101,36 +91,22 @@ impl<I: Read> Recording<I> {
 }
 
 // Replays the parts that are stored in pieces, as tools/recorded_tables.py describes, all but the first, which stands in front of each and is only there to
-// be copied from. `longest` is how long it is together with another part at most.
-pub fn each_part<I: Read + Drop, R: Replay>(
-    alloc: Global,
-    input: I,
-    longest: usize,
-    replay: &mut R,
-) -> io::Result<()> {
-    let room = vec![in alloc; 0u8; longest]?;
-    let mut recording = Recording { input, room };
-    let parts = recording.read_u32();
+// be copied from. The room, of zeros, is as long as the first is together with another part at most.
+pub fn each_part<R: Replay>(room: &mut [u8], replay: &mut R) {
+    let mut recording = Recording { room };
+    let parts = read_u32();
     let first = recording.pieces(0);
     for _ in 1..parts {
         let end = recording.pieces(first);
-        replay.part(molecule::part(&recording.room, first, end))?;
+        replay.part(molecule::part(recording.room, first, end));
     }
-    Ok(())
 }
 
-// Replays the parts that are stored without a run of zeros, as tools/recorded_updates.py describes. `longest` is how long a part is at most.
-pub fn each_sparse_part<I: Read + Drop, R: Replay>(
-    alloc: Global,
-    input: I,
-    longest: usize,
-    replay: &mut R,
-) -> io::Result<()> {
-    let room = vec![in alloc; 0u8; longest]?;
-    let mut recording = Recording { input, room };
-    for _ in 0..recording.read_u32() {
+// Replays the parts that are stored without a run of zeros, as tools/recorded_updates.py describes. The room is as long as a part is at most.
+pub fn each_sparse_part<R: Replay>(room: &mut [u8], replay: &mut R) {
+    let mut recording = Recording { room };
+    for _ in 0..read_u32() {
         let end = recording.sparse();
-        replay.part(molecule::part(&recording.room, 0, end))?;
+        replay.part(molecule::part(recording.room, 0, end));
     }
-    Ok(())
 }

@@ -1,6 +1,6 @@
 // Counts of what was replayed.
-ghost use Rattle.std.specs.Prelude.{◌≡◌, ◌≢◌, ℕ, ◌<◌, replicate, slice_index_or};
-ghost use Rattle.recorded_calls.specs.Tally.{added, counted, total};
+ghost use Rattle.std.specs.Prelude.{◌≡◌, ◌≢◌, ℕ, ◌+◌, ◌<◌, replicate, slice_index_or, Some, None};
+ghost use Rattle.recorded_calls.specs.Tally.{added, counted, one_more, one_wrong, total};
 ghost use Rattle.recorded_calls.specs.declared.tally.Tally.{Tally};
 
 // How many there are, and how many of them are wrong.
@@ -53,6 +53,27 @@ impl<const N: usize> Tallies<N> {
             tally.count(right);
             self.of[i] = tally;
         }
+    }
+
+    // One more at a place of the row in which the numbers' counts stand, those of all and then those of the wrong ones. What is answered of a place behind them
+    // is how far behind it stands.
+    pub fn raise(&mut self, place: usize) -> Option<usize>
+        ensures all { (d : Tally) → place < N → slice_index_or self.new.of place d ≡ one_more (slice_index_or self.old.of place d) }
+        ensures wrong { (k : ℕ) (d : Tally) → place ≡ N + k → k < N → slice_index_or self.new.of k d ≡ one_wrong (slice_index_or self.old.of k d) }
+        ensures others { (k : ℕ) (d : Tally) → place ≢ k → place ≢ N + k → slice_index_or self.new.of k d ≡ slice_index_or self.old.of k d }
+        ensures within { place < N + N → result ≡ None }
+        ensures behind { (k : ℕ) → place ≡ N + N + k → result ≡ Some k }
+    {
+        if place < N {
+            self.of[place].add(Tally { all: 1, wrong: 0 });
+            return None;
+        }
+        let i = place - N;
+        if i < N {
+            self.of[i].add(Tally { all: 0, wrong: 1 });
+            return None;
+        }
+        Some(i - N)
     }
 
     #[tactic(auto, unfolding(crate::specs::Tally::total))]

@@ -7,11 +7,10 @@ use arithmetic::little_endian;
 use error::Answer;
 use exclusion_entries::MAP_BYTES;
 use recorded_calls::{Call, FILL, Table};
-use std::alloc::{AllocError, Global};
-use std::{fmt, io};
+use std::fmt;
 use units::BlockNumber;
 
-// How long a lent list is at most.
+// How long a lent list is at most. A call that lends more than that is not run, and answers as one that is done.
 const LIST_ROOM: usize = 20_000;
 
 // ---- the calls
@@ -72,6 +71,14 @@ fn start(map: &mut [u8]) -> Answer {
     Ok(())
 }
 
+fn apply(map: &[u8], call: &Call<'_>, list: &mut [u8]) -> Answer {
+    let [room, _] = call.rooms;
+    match list.get_mut(..room) {
+        Some(out) => exclusion_marks::apply(map, out),
+        None => Ok(()),
+    }
+}
+
 fn answer(map: &mut [u8], call: &Call<'_>, list: &mut [u8]) -> Answer {
     let [hash, new_hash] = call.lent;
     let [block, _] = call.numbers;
@@ -81,7 +88,7 @@ fn answer(map: &mut [u8], call: &Call<'_>, list: &mut [u8]) -> Answer {
         Kind::Remove => exclusions::remove(map, hash),
         Kind::MigrateFundingTx => exclusions::migrate_funding_tx(map, hash, new_hash, call.tx),
         Kind::Truncate => exclusions::truncate(map, BlockNumber(block)),
-        Kind::Apply => exclusion_marks::apply(map, list),
+        Kind::Apply => apply(map, call, list),
         Kind::Start => start(map),
     }
 }
@@ -134,32 +141,30 @@ fn is_map(map: &[u8], rows: &[u8]) -> bool {
 
 #[derive(Debug, Drop, PartialEq, Eq)]
 struct Map {
-    bytes: Vec<u8>,
+    bytes: [u8; MAP_BYTES],
 }
 
 impl Table for Map {
-    fn empty(alloc: Global) -> Result<Map, AllocError> {
-        Ok(Map {
-            bytes: vec![in alloc; 0u8; MAP_BYTES]?,
-        })
+    fn empty() -> Map {
+        Map {
+            bytes: recorded_calls::zeros(),
+        }
     }
 
-    fn is_right(&mut self, call: &Call<'_>, alloc: Global) -> Result<bool, AllocError> {
-        let before = self.bytes.clone()?;
+    fn is_right(&mut self, call: &Call<'_>) -> bool {
+        let before = self.bytes;
         let [room, _] = call.rooms;
         let [written, _] = call.written;
         let [entries, _] = call.table;
-        let mut list = vec![in alloc; FILL; room.min(LIST_ROOM)]?;
+        let mut list = [FILL; LIST_ROOM];
         let number = run(&mut self.bytes, call, &mut list);
-        Ok(
-            number == call.answer
-                && (number == 0 || self.bytes == before)
-                && recorded_calls::is_written(&list, written)
-                && is_map(&self.bytes, entries),
-        )
+        number == call.answer
+            && (number == 0 || self.bytes == before)
+            && recorded_calls::is_written_to(&list, room, written)
+            && is_map(&self.bytes, entries)
     }
 }
 
-fn main(rt: HostRuntime) -> io::Result<()> {
-    recorded_calls::replay_calls::<Map, _>(&rt, &Kind::ALL)
+fn main() {
+    recorded_calls::replay_calls::<Map, _>(&Kind::ALL);
 }

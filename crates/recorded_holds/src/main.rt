@@ -7,11 +7,10 @@ use arithmetic::little_endian;
 use error::Refusal;
 use hold_records::{Held, Hold, Owner, Taker};
 use recorded_calls::{Call, FILL, Table};
-use std::alloc::{AllocError, Global};
-use std::{fmt, io};
+use std::fmt;
 use units::Millis;
 
-// How long a lent list is at most.
+// How long a lent list is at most. A call that lends more than that is not run, and answers as one that is done.
 const LIST_ROOM: usize = 20_000;
 
 // ---- the calls
@@ -69,6 +68,44 @@ impl fmt::Display for Kind {
 
 // ---- one call
 
+fn take(
+    held: Held,
+    call: &Call<'_>,
+    taker: Taker,
+    first: &mut [u8],
+    second: &mut [u8],
+) -> Result<Held, Refusal> {
+    let [_, now] = call.numbers;
+    let [cells, spent] = call.lent;
+    let [room, second_room] = call.rooms;
+    let Some(taken) = first.get_mut(..room) else {
+        return Ok(held);
+    };
+    let Some(refused) = second.get_mut(..second_room) else {
+        return Ok(held);
+    };
+    held_cells::take(held, cells, spent, taker, Millis(now), taken, refused)
+}
+
+fn unavailable(held: Held, call: &Call<'_>, first: &mut [u8]) -> Result<Held, Refusal> {
+    let [_, now] = call.numbers;
+    let [cells, spent] = call.lent;
+    let [room, _] = call.rooms;
+    if let Some(out) = first.get_mut(..room) {
+        held_cells::unavailable(held, cells, spent, Millis(now), out)?;
+    }
+    Ok(held)
+}
+
+fn lock_held(held: Held, call: &Call<'_>, first: &mut [u8]) -> Result<Held, Refusal> {
+    let [_, now] = call.numbers;
+    let [room, _] = call.rooms;
+    match first.get_mut(..room) {
+        Some(out) => held_cells::lock_held(held, Millis(now), out),
+        None => Ok(held),
+    }
+}
+
 // The table after the call.
 fn answer(
     held: Held,
@@ -78,31 +115,16 @@ fn answer(
 ) -> Result<Held, Refusal> {
     let [holder, now] = call.numbers;
     let now = Millis(now);
-    let [cells, spent] = call.lent;
+    let [cells, _] = call.lent;
     match Kind::from(call.kind) {
         Kind::Start => Ok(hold_records::empty()),
         Kind::HoldFunding => held_cells::hold_funding(held, holder, cells),
         Kind::HoldForWatchtower => watchtower_holds::hold_for_watchtower(held, cells, now),
-        Kind::TakeForHolder => {
-            held_cells::take(
-                held,
-                cells,
-                spent,
-                Taker::Funding(holder),
-                now,
-                first,
-                second,
-            )
-        }
-        Kind::TakeForWatchtower => {
-            held_cells::take(held, cells, spent, Taker::Watchtower, now, first, second)
-        }
+        Kind::TakeForHolder => take(held, call, Taker::Funding(holder), first, second),
+        Kind::TakeForWatchtower => take(held, call, Taker::Watchtower, first, second),
         Kind::ReleaseForWatchtower => watchtower_holds::release_for_watchtower(held, cells),
-        Kind::Unavailable => {
-            held_cells::unavailable(held, cells, spent, now, first)?;
-            Ok(held)
-        }
-        Kind::LockHeld => held_cells::lock_held(held, now, first),
+        Kind::Unavailable => unavailable(held, call, first),
+        Kind::LockHeld => lock_held(held, call, first),
     }
 }
 
@@ -154,28 +176,26 @@ struct Holds {
 }
 
 impl Table for Holds {
-    fn empty(_alloc: Global) -> Result<Holds, AllocError> {
-        Ok(Holds {
+    fn empty() -> Holds {
+        Holds {
             held: hold_records::empty(),
-        })
+        }
     }
 
-    fn is_right(&mut self, call: &Call<'_>, alloc: Global) -> Result<bool, AllocError> {
-        let [room, second_room] = call.rooms;
-        let mut first = vec![in alloc; FILL; room.min(LIST_ROOM)]?;
-        let mut second = vec![in alloc; FILL; second_room.min(LIST_ROOM)]?;
+    fn is_right(&mut self, call: &Call<'_>) -> bool {
+        let mut first = [FILL; LIST_ROOM];
+        let mut second = [FILL; LIST_ROOM];
         let number = run(&mut self.held, call, &mut first, &mut second);
+        let [room, second_room] = call.rooms;
         let [first_list, second_list] = call.written;
         let [owners, points] = call.table;
-        Ok(
-            number == call.answer
-                && recorded_calls::is_written(&first, first_list)
-                && recorded_calls::is_written(&second, second_list)
-                && is_table(&self.held, owners, points),
-        )
+        number == call.answer
+            && recorded_calls::is_written_to(&first, room, first_list)
+            && recorded_calls::is_written_to(&second, second_room, second_list)
+            && is_table(&self.held, owners, points)
     }
 }
 
-fn main(rt: HostRuntime) -> io::Result<()> {
-    recorded_calls::replay_calls::<Holds, _>(&rt, &Kind::ALL)
+fn main() {
+    recorded_calls::replay_calls::<Holds, _>(&Kind::ALL);
 }

@@ -4,15 +4,18 @@
 #![tactic(auto)]
 
 use arithmetic::little_endian;
-use recorded_calls::{Items, Replay};
+use molecule::write;
+use recorded_calls::{Items, Printed, Replay};
 use rules::{Surplus, Update};
-use std::alloc::{AllocError, Global};
-use std::io::BufReader;
-use std::{fmt, io};
+use std::fmt;
+use std::fmt::Write;
 use units::{Shannons, Tokens};
 
 // How long a part is at most: in the longest one transaction is over the limit of size.
 const LONGEST: usize = 140_000;
+
+// How long an answer is at most as it is recorded.
+const ANSWER_BYTES: usize = 33;
 
 // ---- what is recorded
 
@@ -71,9 +74,11 @@ impl Proposal<'_> {
         little_endian::byte(self.answer, 0) >= 128
     }
 
-    // Whether this is the recorded answer, but for that mark.
+    // Whether this is the recorded answer, but for that mark, which only a refusal may have.
     fn has_answer(&self, answer: &[u8]) -> bool {
-        little_endian::byte(self.answer, 0) % 128 == little_endian::byte(answer, 0)
+        let number = little_endian::byte(answer, 0);
+        let recorded = little_endian::byte(self.answer, 0);
+        (recorded == number || number != 0 && recorded % 128 == number)
             && molecule::part(self.answer, 1, self.answer.len())
                 == molecule::part(answer, 1, answer.len())
     }
@@ -89,30 +94,28 @@ fn sum(x: Surplus, y: Surplus) -> Surplus {
     }
 }
 
-// An answer as it is recorded: its number and each of its values, or 0 and the surpluses.
-fn recorded(alloc: Global, update: Update) -> Result<Vec<u8>, AllocError> {
-    let mut bytes = Vec::new(alloc);
+// Puts an answer as it is recorded: its number and each of its values, or 0 and the surpluses. It answers how long that is.
+fn put_recorded(out: &mut [u8], update: Update) -> usize {
     match update {
         Ok(surplus) => {
-            bytes.push(0)?;
-            bytes.extend_from_slice(&surplus.capacity.0.to_le_bytes())?;
-            bytes.extend_from_slice(&surplus.token.0.to_le_bytes())?;
+            let at = write::put(out, 0, &[0]);
+            let at = write::put(out, at, &surplus.capacity.0.to_le_bytes());
+            write::put(out, at, &surplus.token.0.to_le_bytes())
         }
         Err(refusal) => {
-            bytes.push(refusal.number())?;
+            let mut at = write::put(out, 0, &[refusal.number()]);
             for i in 0..refusal.value_count() {
-                bytes.extend_from_slice(&refusal.value(i).to_le_bytes())?;
+                at = write::put_u64(out, at, refusal.value(i));
             }
+            at
         }
     }
-    Ok(bytes)
 }
 
 // ---- the negotiations
 
 #[derive(Debug, Drop, PartialEq, Eq)]
 struct Negotiations {
-    alloc: Global,
     all: u64,
     updates: u64,
     accepted: u64,
@@ -121,9 +124,8 @@ struct Negotiations {
 }
 
 impl Negotiations {
-    fn new(alloc: Global) -> Negotiations {
+    fn new() -> Negotiations {
         Negotiations {
-            alloc,
             all: 0,
             updates: 0,
             accepted: 0,
@@ -142,7 +144,7 @@ impl Negotiations {
         negotiation: &Negotiation<'_>,
         ours: &[u8],
         proposal: &Proposal<'_>,
-    ) -> Result<Option<Surplus>, AllocError> {
+    ) -> Option<Surplus> {
         let update = funding_tx::update_for_peer(
             ours,
             proposal.peer,
@@ -154,16 +156,18 @@ impl Negotiations {
         );
         self.updates = self.updates.saturating_add(1);
         self.panics = self.panics.saturating_add(u64::from(proposal.is_marked()));
-        self.judge(proposal.has_answer(&recorded(self.alloc, update)?));
+        let mut answer = [0; ANSWER_BYTES];
+        let n = put_recorded(&mut answer, update);
+        self.judge(proposal.has_answer(molecule::part(&answer, 0, n)));
         self.accepted = self.accepted.saturating_add(u64::from(update.is_ok()));
         let in_force = if update.is_ok() { proposal.peer } else { ours };
         self.judge(funding_tx::in_force(update, ours, proposal.peer) == in_force);
-        Ok(update.ok())
+        update.ok()
     }
 }
 
 impl Replay for Negotiations {
-    fn part(&mut self, part: &[u8]) -> io::Result<()> {
+    fn part(&mut self, part: &[u8]) {
         let negotiation = Negotiation::from(part);
         let mut ours = negotiation.start;
         let mut total = Surplus::default();
@@ -172,7 +176,7 @@ impl Replay for Negotiations {
         for item in Items::of(negotiation.updates) {
             let proposal = Proposal::from(item);
             number = number.saturating_add(1);
-            if let Some(surplus) = self.propose(&negotiation, ours, &proposal)? {
+            if let Some(surplus) = self.propose(&negotiation, ours, &proposal) {
                 total = sum(total, surplus);
                 ours = proposal.peer;
                 in_force = number;
@@ -180,7 +184,6 @@ impl Replay for Negotiations {
         }
         self.judge(total == negotiation.surplus && in_force == negotiation.in_force);
         self.all = self.all.saturating_add(1);
-        Ok(())
     }
 }
 
@@ -194,12 +197,9 @@ impl fmt::Display for Negotiations {
     }
 }
 
-fn main(rt: HostRuntime) -> io::Result<()> {
-    let alloc = rt.alloc();
-    let mut negotiations = Negotiations::new(alloc);
-    let input = BufReader::new(alloc, rt.reader())?;
-    recorded_calls::each_sparse_part(alloc, input, LONGEST, &mut negotiations)?;
-    // a write that fails is passed over
-    let _ = println!(rt; "{negotiations}");
-    Ok(())
+fn main() {
+    let mut room = recorded_calls::zeros::<LONGEST>();
+    let mut negotiations = Negotiations::new();
+    recorded_calls::each_sparse_part(&mut room, &mut negotiations);
+    let _ = writeln!(Printed, "{negotiations}");
 }

@@ -6,20 +6,22 @@
 use arithmetic::little_endian;
 use funding_builder::Lent;
 use funding_cell::FundingRequest;
-use recorded_calls::{FILL, Items, Replay, Tallies, Tally};
-use std::alloc::{AllocError, Global};
-use std::io;
-use std::io::BufReader;
+use recorded_calls::{FILL, Items, Printed, Replay, Tallies};
+use std::fmt;
+use std::fmt::Write;
 use units::{Shannons, Tokens};
 
 // How long a part is at most together with the first one.
 const LONGEST: usize = 600_000;
 
-// How long a lent buffer is at most.
+// How long a lent buffer is at most. A request that lends more than that is not run, and answers as one that writes nothing.
 const BUFFER_ROOM: usize = 133_200;
 
 // As many as there are numbers of answers.
 const NUMBERS: usize = 14;
+
+// The counts: by number, and behind these of all.
+const COUNTS: usize = NUMBERS + 1;
 
 // ---- a request
 
@@ -100,8 +102,11 @@ impl<'a> From<&'a [u8]> for Request<'a> {
 
 // ---- what the library answers
 
-fn build_base(r: &Request<'_>, out: &mut [u8]) -> Told<usize> {
-    funding_builder::build_base(&r.lent, r.figures, out).map_err(|e| e.number())
+fn build_base(r: &Request<'_>, buffer: &mut [u8]) -> Told<usize> {
+    match buffer.get_mut(..r.room) {
+        Some(out) => funding_builder::build_base(&r.lent, r.figures, out).map_err(|e| e.number()),
+        None => Ok(0),
+    }
 }
 
 fn build_cell(r: &Request<'_>) -> Told<(u128, u128)> {
@@ -110,7 +115,10 @@ fn build_cell(r: &Request<'_>) -> Told<(u128, u128)> {
         .map_err(|e| e.number())
 }
 
-fn build_pick(r: &Request<'_>, out: &mut [u8]) -> Told<(usize, u128, u128)> {
+fn build_pick(r: &Request<'_>, buffer: &mut [u8]) -> Told<(usize, u128, u128)> {
+    let Some(out) = buffer.get_mut(..r.room) else {
+        return Ok((0, 0, 0));
+    };
     let lent = r.lent;
     let wanted = Tokens(r.figures.local_amount);
     udt_cells::build_udt_inputs_outputs(lent.cells, lent.udt, lent.source, wanted, out)
@@ -120,58 +128,68 @@ fn build_pick(r: &Request<'_>, out: &mut [u8]) -> Told<(usize, u128, u128)> {
 
 // ---- what it comes to
 
-fn is_right(r: &Request<'_>, alloc: Global) -> Result<bool, AllocError> {
-    let mut base = vec![in alloc; FILL; r.room.min(BUFFER_ROOM)]?;
-    let mut pick = base.clone()?;
-    Ok(
-        build_base(r, &mut base) == r.base
-            && recorded_calls::is_written(&base, r.transaction)
-            && build_cell(r) == r.cell
-            && build_pick(r, &mut pick) == r.pick
-            && recorded_calls::is_written(&pick, r.output),
-    )
+fn is_base_right(r: &Request<'_>) -> bool {
+    let mut buffer = [FILL; BUFFER_ROOM];
+    build_base(r, &mut buffer) == r.base
+        && recorded_calls::is_written_to(&buffer, r.room, r.transaction)
 }
 
-#[derive(Debug, Drop, PartialEq, Eq)]
+fn is_pick_right(r: &Request<'_>) -> bool {
+    let mut buffer = [FILL; BUFFER_ROOM];
+    build_pick(r, &mut buffer) == r.pick && recorded_calls::is_written_to(&buffer, r.room, r.output)
+}
+
+fn is_right(r: &Request<'_>) -> bool {
+    is_base_right(r) && build_cell(r) == r.cell && is_pick_right(r)
+}
+
+#[derive(Clone, Copy, Debug, PartialEq, Eq)]
 struct Requests {
-    alloc: Global,
-    by_number: Tallies<NUMBERS>,
-    all: Tally,
+    counts: Tallies<COUNTS>,
+}
+
+impl Requests {
+    // A request with a number past the last counts where that stands in the row of the counts.
+    fn count(&mut self, number: u8, right: bool) {
+        let i = usize::from(number);
+        self.counts.raise(i);
+        if !right {
+            self.counts.raise(COUNTS + i);
+        }
+        self.counts.count(NUMBERS, right);
+    }
 }
 
 impl Replay for Requests {
-    fn part(&mut self, part: &[u8]) -> io::Result<()> {
+    fn part(&mut self, part: &[u8]) {
         for item in Items::of(part) {
             let request = Request::from(item);
-            let right = is_right(&request, self.alloc)?;
-            self.by_number.count(usize::from(request.number), right);
-            self.all.count(right);
+            self.count(request.number, is_right(&request));
         }
-        Ok(())
     }
 }
 
 // A line for each number that is recorded at all, and one for all.
-fn print(rt: &impl Print, requests: &Requests) -> io::Result<()> {
-    for (number, tally) in requests.by_number.of.iter().enumerate() {
+fn print(requests: &Requests) -> fmt::Result {
+    let mut out = Printed;
+    let [.., all] = requests.counts.of;
+    for (number, tally) in requests.counts.of.iter().take(NUMBERS).enumerate() {
         if tally.all != 0 {
-            println!(rt; "{number}: {} requests, {} wrong", tally.all, tally.wrong)?;
+            writeln!(
+                out,
+                "{number}: {} requests, {} wrong",
+                tally.all, tally.wrong
+            )?;
         }
     }
-    let all = requests.all;
-    println!(rt; "all: {} requests, {} wrong", all.all, all.wrong)
+    writeln!(out, "all: {} requests, {} wrong", all.all, all.wrong)
 }
 
-fn main(rt: HostRuntime) -> io::Result<()> {
-    let alloc = rt.alloc();
+fn main() {
+    let mut room = recorded_calls::zeros::<LONGEST>();
     let mut requests = Requests {
-        alloc,
-        by_number: Tallies::new(),
-        all: Tally::default(),
+        counts: Tallies::new(),
     };
-    let input = BufReader::new(alloc, rt.reader())?;
-    recorded_calls::each_part(alloc, input, LONGEST, &mut requests)?;
-    // a write that fails is passed over
-    let _ = print(&rt, &requests);
-    Ok(())
+    recorded_calls::each_part(&mut room, &mut requests);
+    let _ = print(&requests);
 }

@@ -4,13 +4,12 @@
 #![tactic(auto)]
 
 use arithmetic::little_endian;
-use recorded_calls::{Items, Replay, Tallies};
-use std::alloc::{AllocError, Global};
-use std::io;
-use std::io::BufReader;
+use recorded_calls::{Items, Printed, Replay, Tallies};
+use std::fmt;
+use std::fmt::Write;
 use verdict_line::LINE_BYTES;
 
-// How long a part is at most.
+// How long a part is at most, and a copy.
 const LONGEST: usize = 66_000;
 
 // As many as there are numbers that a line begins with.
@@ -45,66 +44,80 @@ fn is_right(file: &[u8], line: &[u8]) -> bool {
     n == line.len() && out.starts_with(line)
 }
 
-// What was counted, by the digit that a line begins with.
-#[derive(Debug, Drop, PartialEq, Eq)]
-struct Files {
-    alloc: Global,
+// What was counted, by the digit that a line begins with, and room for a copy.
+#[derive(Debug, Drop)]
+struct Files<'a> {
     by_number: Tallies<NUMBERS>,
     panics: u64,
+    copy: &'a mut [u8],
 }
 
-impl Files {
-    // Judges a file, and counts it under the digit that its line begins with.
-    fn judge(&mut self, file: &[u8], line: &[u8]) {
-        let digit = little_endian::byte(line, 0).saturating_sub(b'0');
-        self.by_number
-            .count(usize::from(digit), is_right(file, line));
+impl Files<'_> {
+    fn panic(&mut self) {
+        self.panics = self.panics.saturating_add(1);
     }
 
-    fn judge_copy(&mut self, file: &[u8], copy: &Copied<'_>) -> Result<(), AllocError> {
-        let changed = recorded_calls::changed(self.alloc, file, copy.count, copy.changes)?;
-        self.judge(&changed, copy.line);
-        self.panics = self.panics.saturating_add(u64::from(copy.panics));
-        Ok(())
+    // A line that begins with another byte counts where its number would stand in the row: that of the digits, those at which the Rust panics.
+    fn raise(&mut self, place: usize) {
+        if self.by_number.raise(place) == Some(0) {
+            self.panic();
+        }
+    }
+
+    // Counts a file under the digit that its line begins with.
+    fn count(&mut self, line: &[u8], right: bool) {
+        let digit = usize::from(little_endian::byte(line, 0).saturating_sub(b'0'));
+        self.raise(digit);
+        if !right {
+            self.raise(NUMBERS + digit);
+        }
+    }
+
+    fn judge_copy(&mut self, file: &[u8], copy: &Copied<'_>) {
+        let n = recorded_calls::changed(self.copy, file, copy.count, copy.changes);
+        let right = is_right(molecule::part(self.copy, 0, n), copy.line);
+        self.count(copy.line, right);
+        if copy.panics {
+            self.panic();
+        }
     }
 }
 
-impl Replay for Files {
+impl Replay for Files<'_> {
     // The file itself has a line unless an earlier part had it.
-    fn part(&mut self, part: &[u8]) -> io::Result<()> {
+    fn part(&mut self, part: &[u8]) {
         let file = molecule::field(part, 3, 0);
         let line = molecule::field(part, 3, 1);
         if !line.is_empty() {
-            self.judge(file, line);
+            self.count(line, is_right(file, line));
         }
         for item in Items::of(molecule::field(part, 3, 2)) {
-            self.judge_copy(file, &Copied::from(item))?;
+            self.judge_copy(file, &Copied::from(item));
         }
-        Ok(())
     }
 }
 
-fn print(rt: &impl Print, files: &Files) -> io::Result<()> {
+fn print(files: &Files<'_>) -> fmt::Result {
+    let mut out = Printed;
     for (number, tally) in files.by_number.of.iter().enumerate() {
-        println!(rt; "{number}: {} files, {} wrong", tally.all, tally.wrong)?;
+        writeln!(out, "{number}: {} files, {} wrong", tally.all, tally.wrong)?;
     }
     let sum = files.by_number.sum();
-    println!(rt;
+    writeln!(
+        out,
         "all: {} files, of which the Rust panics at {}, {} wrong",
         sum.all, files.panics, sum.wrong
     )
 }
 
-fn main(rt: HostRuntime) -> io::Result<()> {
-    let alloc = rt.alloc();
+fn main() {
+    let mut room = recorded_calls::zeros::<LONGEST>();
+    let mut copy = recorded_calls::zeros::<LONGEST>();
     let mut files = Files {
-        alloc,
         by_number: Tallies::new(),
         panics: 0,
+        copy: &mut copy,
     };
-    let input = BufReader::new(alloc, rt.reader())?;
-    recorded_calls::each_sparse_part(alloc, input, LONGEST, &mut files)?;
-    // a write that fails is passed over
-    let _ = print(&rt, &files);
-    Ok(())
+    recorded_calls::each_sparse_part(&mut room, &mut files);
+    let _ = print(&files);
 }

@@ -2,11 +2,63 @@
 #![tactic(auto)]
 
 use reader::lists;
-use std::io::{BufWriter, Read, Write};
-use std::{fmt, io};
+use std::fmt;
+use std::fmt::Write;
 use transaction::fields;
 
-const LONGEST: usize = 65_536;
+const STDIN_FILENO: i32 = 0;
+
+const STDOUT_FILENO: i32 = 1;
+
+// How many bytes are gathered before they are written.
+const GATHERED: usize = 4096;
+
+// Standard output. A write that fails is passed over, and the next one is tried.
+#[derive(Debug, Drop)]
+struct Output {
+    bytes: [u8; GATHERED],
+    len: usize,
+}
+
+impl Output {
+    fn new() -> Output {
+        Output {
+            bytes: [0; GATHERED],
+            len: 0,
+        }
+    }
+
+    fn flush(&mut self) {
+        if let Some(gathered) = self.bytes.get(..self.len) {
+            io::write_all(STDOUT_FILENO, gathered);
+        }
+        self.len = 0;
+    }
+
+    // Whether there was room for a piece.
+    fn gather(&mut self, piece: &[u8]) -> bool {
+        let end = self.len.saturating_add(piece.len());
+        let Some(room) = self.bytes.get_mut(self.len..end) else {
+            return false;
+        };
+        room.copy_from_slice(piece);
+        self.len = end;
+        true
+    }
+}
+
+impl fmt::Write for Output {
+    fn write_str(&mut self, s: &str) -> fmt::Result {
+        let piece = s.as_bytes();
+        if !self.gather(piece) {
+            self.flush();
+            if !self.gather(piece) {
+                io::write_all(STDOUT_FILENO, piece);
+            }
+        }
+        Ok(())
+    }
+}
 
 #[derive(Clone, Copy, Debug, PartialEq, Eq)]
 struct Hex<'a>(&'a [u8]);
@@ -46,7 +98,7 @@ impl fmt::Display for Script<'_> {
     }
 }
 
-fn show_cell_deps<W: Write>(out: &mut W, tx: &[u8]) -> io::Result<()> {
+fn show_cell_deps<W: Write>(out: &mut W, tx: &[u8]) -> fmt::Result {
     let n = lists::cell_dep_count(tx);
     writeln!(out, "cell deps {n}")?;
     for i in 0..n as usize {
@@ -63,7 +115,7 @@ fn show_bytes<'a, W: Write, F: Fn(usize) -> &'a [u8]>(
     name: &str,
     n: u32,
     item: F,
-) -> io::Result<()>
+) -> fmt::Result
     requires { F.IsAlwaysCallable item }
 {
     writeln!(out, "{name} {n}")?;
@@ -73,7 +125,7 @@ fn show_bytes<'a, W: Write, F: Fn(usize) -> &'a [u8]>(
     Ok(())
 }
 
-fn show_inputs<W: Write>(out: &mut W, tx: &[u8]) -> io::Result<()> {
+fn show_inputs<W: Write>(out: &mut W, tx: &[u8]) -> fmt::Result {
     let n = lists::input_count(tx);
     writeln!(out, "inputs {n}")?;
     for i in 0..n as usize {
@@ -84,7 +136,7 @@ fn show_inputs<W: Write>(out: &mut W, tx: &[u8]) -> io::Result<()> {
     Ok(())
 }
 
-fn show_output<W: Write>(out: &mut W, tx: &[u8], i: usize) -> io::Result<()> {
+fn show_output<W: Write>(out: &mut W, tx: &[u8], i: usize) -> fmt::Result {
     let output = lists::output(tx, i);
     writeln!(out, "  shannons {}", fields::capacity(output).0)?;
     writeln!(out, "    lock {}", Script(fields::lock(output)))?;
@@ -95,7 +147,7 @@ fn show_output<W: Write>(out: &mut W, tx: &[u8], i: usize) -> io::Result<()> {
     writeln!(out, "    data {}", Hex(lists::output_data(tx, i)))
 }
 
-fn show_outputs<W: Write>(out: &mut W, tx: &[u8]) -> io::Result<()> {
+fn show_outputs<W: Write>(out: &mut W, tx: &[u8]) -> fmt::Result {
     let n = lists::output_count(tx);
     writeln!(out, "outputs {n}")?;
     for i in 0..n as usize {
@@ -104,10 +156,7 @@ fn show_outputs<W: Write>(out: &mut W, tx: &[u8]) -> io::Result<()> {
     Ok(())
 }
 
-fn show<W: Write>(out: &mut W, tx: &[u8]) -> io::Result<()> {
-    if tx.len() > LONGEST {
-        return writeln!(out, "refused: more than 65,536 bytes");
-    }
+fn show<W: Write>(out: &mut W, tx: &[u8]) -> fmt::Result {
     if !transaction::is_transaction(tx) {
         return writeln!(out, "refused with 1: these bytes are no transaction");
     }
@@ -124,17 +173,16 @@ fn show<W: Write>(out: &mut W, tx: &[u8]) -> io::Result<()> {
     })
 }
 
-fn main(rt: HostRuntime) -> io::Result<()> {
-    // one byte more than may be there
-    let most = LONGEST as u64 + 1;
-    let mut tx = Vec::new(rt.alloc());
-    if let Err(e) = rt.reader().take(most).read_to_end(&mut tx)
-        && e.kind() == io::ErrorKind::OutOfMemory
-    {
-        return Err(e);
-    }
-    let mut out = BufWriter::new(rt.alloc(), io::writer(&rt))?;
-    let _ = show(&mut out, &tx);
-    let _ = out.flush();
-    Ok(())
+fn main() {
+    let mut tx = io::large_buffer();
+    let n = io::read_full(STDIN_FILENO, &mut tx);
+    let mut more = [0];
+    let is_longer = io::read_full(STDIN_FILENO, &mut more) != 0;
+    let mut out = Output::new();
+    let _ = if is_longer {
+        writeln!(out, "refused: more than 65,536 bytes")
+    } else {
+        show(&mut out, &tx[..n])
+    };
+    out.flush();
 }

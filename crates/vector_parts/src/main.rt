@@ -4,16 +4,14 @@
 
 mod parts;
 
-use recorded_calls::{Items, Tally};
-use std::io;
-use std::io::{Read, Write};
+use recorded_calls::{Items, Printed, Tally};
+use std::fmt;
+use std::fmt::Write;
 
-// How much of standard input is read.
-const LONGEST: u64 = 65_536;
-
-fn print(rt: &impl Print, name: &[u8], tally: Tally) -> io::Result<()> {
-    io::writer(rt).write_all(name)?;
-    println!(rt; ": {} parts, {} wrong", tally.all, tally.wrong)
+fn print(name: &[u8], tally: Tally) -> fmt::Result {
+    let mut out = Printed;
+    out.bytes(name);
+    writeln!(out, ": {} parts, {} wrong", tally.all, tally.wrong)
 }
 
 // A vector and its parts.
@@ -27,22 +25,21 @@ fn vector(v: &[u8]) -> Tally {
 }
 
 // The vectors of a type.
-fn group(rt: &impl Print, g: &[u8]) -> Tally {
+fn group(g: &[u8]) -> Tally {
     let mut tally = Tally::default();
     for v in Items::of(molecule::field(g, 2, 1)) {
         tally.add(vector(v));
     }
-    // a write that fails is passed over
-    let _ = print(rt, molecule::field(g, 2, 0), tally);
+    let _ = print(molecule::field(g, 2, 0), tally);
     tally
 }
 
-fn main(rt: HostRuntime) -> io::Result<()> {
-    let file = recorded_calls::read_all(&rt, LONGEST)?;
+fn main() {
+    let mut room = io::large_buffer();
+    let n = recorded_calls::read_all(&mut room);
     let mut all = Tally::default();
-    for g in Items::of(&file) {
-        all.add(group(&rt, g));
+    for g in Items::of(&room[..n]) {
+        all.add(group(g));
     }
-    let _ = print(&rt, b"all", all);
-    Ok(())
+    let _ = print(b"all", all);
 }
