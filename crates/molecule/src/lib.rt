@@ -222,7 +222,7 @@ impl Entity for BytesVec {
 impl<T: Entity> Entity for Option<T> {
     ghost ty = { option T.ty };
 
-    // Within the walk: a list of records that are not live is many items of no bytes, and a call for each takes half as long again.
+    // Within the walk: a list of records that are not live is many items of no bytes.
     #[inline(always)]
     fn is(s: &[u8]) -> bool {
         s.is_empty() || T::is(s)
