@@ -1,5 +1,5 @@
 -- One law for each way out of the functions that test a header, a fixvec or the items of a dynvec.
-use mathlib.Core.Path.{◌≡◌, refl, sym, ◌∙◌}
+use mathlib.Core.Path.{◌≡◌, refl, sym, ap, ◌∙◌}
 use Prim.Native.Nat.{ℕ, zero, suc, ◌+◌, ◌-◌, ◌*◌, ◌/◌, ◌^◌, ◌≤◌, ◌<◌}
 use mathlib.Core.List.{List}
 use mathlib.Core.Bool.{Bool, true, false, not, ◌&&◌, and-false}
@@ -13,7 +13,7 @@ use Rattle.molecule.specs.Molecule.{Ty, byte, array, fixvec, dynvec, size, reada
 use Rattle.molecule.proofs.Valid.{fixed}
 use Rattle.molecule.specs.Layout.{part, word, start, has_header, has_items, item_count, item_of}
 use Rattle.molecule.proofs.Offsets.{up_to, in_order, offsets_ok, up_stop, up_all, offsets-parts, start-out}
-use Rattle.molecule.proofs.LayoutLaws.{field_is, item-is}
+use Rattle.molecule.proofs.LayoutLaws.{part_none, part-empty, field_is, item-is}
 use Rattle.molecule.proofs.HeaderLaws.{offsets-has, dynvec-readable, fixvec-says, fixvec-readable}
 
 -- two tests of which each holds where the other does
@@ -190,6 +190,17 @@ module _ {t : Ty} {s : List ℕ} {n i from : ℕ} (g : Walked t s n i from) wher
     walked_stop q =
         let x : readable t (item_of s i) ≡ false = rw (← this) (sym h ∙ not-true _ q) in
         sym (dynvec-readable t s ∙ rw (← g.count) (simp (up_stop (λ j. readable t (item_of s j)) i n l x, and-false)))
+
+  -- an item of no bytes, tested as such
+  module _ {to : ℕ} {f : List ℕ} {r : Bool} (l : i < n) (e : to ≡ start s n (i + 1)) (z : to ≡ from) (k : f ≡ part s 0 0) (h : r ≡ readable t f) where
+    empty : f ≡ part s from to
+    empty = k ∙ part-empty s ∙ sym (part_none s from to (omega arith))
+
+    pub walked_empty : r ≡ true → Walked t s n (i + 1) to
+    walked_empty q = walked_more l e empty h (omega arith) (ap not q)
+
+    pub walked_empty-stop : r ≡ false → false ≡ readable (dynvec t) s
+    walked_empty-stop q = walked_stop l e empty h (ap not q)
 
   pub walked_end : n ≤ i → true ≡ readable (dynvec t) s
   unfolding item_is
