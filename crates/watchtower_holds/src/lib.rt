@@ -1,5 +1,6 @@
 // The watchtower's holds on cells: the table of holds goes in by value and comes back by value, and the caller of a refused call still has the very table that
-// it lent. Parameters stand one by one, as in the C functions of the calls: a struct would be made there for each single call.
+// it lent. Parameters stand one by one, as in the C functions of the calls: a struct would be made there for each single call. Within, what only reads the table,
+// of 14 KB, is lent it in place of a copy; since of a lent array the length is not known, its contract asks for it.
 #![tactic(auto, using(crate::proofs::Ways::ways))]
 
 ghost use Rattle.std.specs.Prelude.{◌≡◌, [], ◌+◌, ◌-◌, ◌*◌, ◌<◌, ◌≤◌, min, not, false, length, get_or, set, IfOk};
@@ -74,9 +75,9 @@ fn is_tower(r: Hold) -> bool
 }
 
 // Notes the watchtower's records of the table.
-fn note_all(h: Held, hints: &mut [u8])
-    requires { length hints.old ≡ 8186 }
-    ensures { Hints hints.new h.records (min h.count 256) }
+fn note_all(h: &Held, hints: &mut [u8])
+    requires { (length hints.old ≡ 8186) × (length h.now.records ≡ 256) }
+    ensures { Hints hints.new h.now.records (min h.now.count 256) }
 {
     let n = hold_records::used(h.count);
     for i in 0..n {
@@ -87,25 +88,26 @@ fn note_all(h: Held, hints: &mut [u8])
     }
 }
 
-// Whether the record is the watchtower's on p.
+// Whether the record is the watchtower's on p. The record is lent and its first word is compared by itself, which tells most of them apart: of a record that is
+// handed over all words are read, and compared at once, which takes up to half as long again.
 #[tactic(auto, using(crate::proofs::Ways::ways), unfolding(out_points::specs::OutPoints::eq_hash, out_points::specs::OutPoints::eq_point))]
-fn tower_on(r: Hold, p: OutPoint) -> bool
-    ensures { result ≡ is_tower_on p r }
+fn tower_on(r: &Hold, p: OutPoint) -> bool
+    ensures { result ≡ is_tower_on p r.now }
 {
     match r.owner {
         Owner::Funding(_) => false,
-        Owner::Watchtower(_) => out_points::same_point(p, r.point),
+        Owner::Watchtower(_) => p.hash.a == r.point.hash.a && out_points::same_point(p, r.point),
     }
 }
 
 // Where the watchtower's first record on p stands, and where a new one goes if there is none. None stands before `from`.
-fn tower_place(h: Held, p: OutPoint, from: usize) -> usize
-    requires { min from (min h.count 256) ≤ tower_place p (records_of h) }
-    ensures { result ≡ tower_place p (records_of h) }
+fn tower_place(h: &Held, p: OutPoint, from: usize) -> usize
+    requires { (length h.now.records ≡ 256) × (min from (min h.now.count 256) ≤ tower_place p (records_of h.now)) }
+    ensures { result ≡ tower_place p (records_of h.now) }
 {
     let n = hold_records::used(h.count);
     for i in from..n {
-        if tower_on(h.records[i], p) {
+        if tower_on(&h.records[i], p) {
             return i;
         }
     }
@@ -154,12 +156,12 @@ fn renew_from(from: Held, cells: &[u8], end: Millis, hints: &mut [u8]) -> Result
             note(hints, point, last);
             continue;
         }
-        if tower_on(g.records[k], point) {
+        if tower_on(&g.records[k], point) {
             g.records[k] = hold;
             continue;
         }
         let others = next(hints, point);
-        let at = tower_place(g, point, others);
+        let at = tower_place(&g, point, others);
         if MOST_RECORDS <= at {
             return Err(Refusal::TooManyHolds);
         }
@@ -176,7 +178,7 @@ fn renew_all(h: Held, cells: &[u8], end: Millis) -> Result<Held, Refusal>
 {
     let g = trimmed(h);
     let mut hints = [255u8; HINTS];
-    note_all(g, &mut hints);
+    note_all(&g, &mut hints);
     renew_from(g, cells, end, &mut hints)
 }
 
@@ -191,9 +193,9 @@ fn mark(marks: &mut [bool], at: usize, on: bool)
 }
 
 // Marks the watchtower's records on the cells: for each cell the first of its slot, and the others, which are looked at only where a slot has more than one.
-fn mark_all(h: Held, cells: &[u8], hints: &[u8], marks: &mut [bool])
-    requires { Hints hints.now h.records (min h.count 256) × ReleaseMarks [] h.records (min h.count 256) marks.old }
-    ensures { ReleaseMarks (points cells.now) h.records (min h.count 256) marks.new }
+fn mark_all(h: &Held, cells: &[u8], hints: &[u8], marks: &mut [bool])
+    requires { (length h.now.records ≡ 256) × Hints hints.now h.now.records (min h.now.count 256) × ReleaseMarks [] h.now.records (min h.now.count 256) marks.old }
+    ensures { ReleaseMarks (points cells.now) h.now.records (min h.now.count 256) marks.new }
 {
     let count = hold_records::used(h.count);
     let n = molecule::fix_count(cells) as usize;
@@ -203,10 +205,10 @@ fn mark_all(h: Held, cells: &[u8], hints: &[u8], marks: &mut [bool])
         if count <= k {
             continue;
         }
-        mark(marks, k, tower_on(h.records[k], p));
+        mark(marks, k, tower_on(&h.records[k], p));
         let others = next(hints, p);
         for j in others..count {
-            mark(marks, j, tower_on(h.records[j], p));
+            mark(marks, j, tower_on(&h.records[j], p));
         }
     }
 }
@@ -220,15 +222,15 @@ fn is_unmarked(marks: &[bool], at: usize) -> bool
 }
 
 // The records without the watchtower's on `cells`.
-fn without(h: Held, cells: &[u8], hints: &[u8]) -> Held
-    requires { Hints hints.now h.records (min h.count 256) }
-    ensures result_value { records_of result ≡ filter (is_unnamed (points cells.now)) (records_of h) }
+fn without(h: &Held, cells: &[u8], hints: &[u8]) -> Held
+    requires { (length h.now.records ≡ 256) × Hints hints.now h.now.records (min h.now.count 256) }
+    ensures result_value { records_of result ≡ filter (is_unnamed (points cells.now)) (records_of h.now) }
     ensures count_bound { result.count ≤ 256 }
 {
     let mut marks = [false; 256];
     mark_all(h, cells, hints, &mut marks);
     let n = hold_records::used(h.count);
-    let mut g = h;
+    let mut g = *h;
     let mut to: usize = 0;
     for i in 0..n {
         let stays = is_unmarked(&marks, i);
@@ -250,8 +252,8 @@ pub fn release_for_watchtower(held: Held, cells: &[u8]) -> Result<Held, Refusal>
         return Err(Refusal::LentBytesUnreadable);
     }
     let mut hints = [255u8; HINTS];
-    note_all(held, &mut hints);
-    Ok(without(held, cells, &hints))
+    note_all(&held, &mut hints);
+    Ok(without(&held, cells, &hints))
 }
 
 // The cells of a transaction that the watchtower sent are held until `WATCHTOWER_HOLD_MS` after `time`.
