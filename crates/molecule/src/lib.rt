@@ -186,8 +186,8 @@ pub fn is_dynvec_of<T: Entity>(s: &[u8]) -> bool
     let mut from = 4 + 4 * n;
     for i in 0..n {
         let to = start(s, n, i + 1);
-        // An item of no bytes is tested apart, and its places are not: a list of cells that are not live has no other items. Of the rest the order alone says that
-        // none starts past the end: tested here too, it spares a part its clamps, a third of the time.
+        // An item of no bytes is tested by itself, without its place: a list of cells that are not live has no other items. Of the others the order alone says
+        // that none starts past the end: tested here too, it spares a part its clamps.
         if to == from {
             if !T::is(part(s, 0, 0)) {
                 return false;

@@ -226,6 +226,13 @@ pub go_start : (t : Millis) (s : List ℕ) (h g : Held) {n : ℕ} {m : List ℕ}
     → Hints m g.records (min g.count 256) → Going t s h g n 0 m m
 go_start t s h g e r c l k = record { renewing = renew-start t s h g e r c l; start = k.enough; hints = k }
 
+-- the hints of a table are those of the same records with no count above 256
+pub go_trimmed : (t : Millis) (s : List ℕ) (h g : Held) {n : ℕ} {m : List ℕ} → n ≡ fix_count s → records_of g ≡ records_of h → g.records ≡ h.records → g.count ≡ min h.count 256
+    → length h.records ≡ 256 → Hints m h.records (min h.count 256) → Going t s h g n 0 m m
+go_trimmed t s h g {m = m} e r q c l k =
+    let z : min g.count 256 ≡ min h.count 256 = omega arith in
+    go_start t s h g e r (omega arith) (ap length q ∙ l) (rw (q, z) k)
+
 module _ {t : Millis} {s : List ℕ} {h g : Held} {n i : ℕ} {m₀ m : List ℕ} (k : Going t s h g n i m₀ m) where
   pub go_enough : length m ≡ 8186
   go_enough = k.hints.enough

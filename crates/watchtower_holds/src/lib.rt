@@ -1,6 +1,6 @@
 // The watchtower's holds on cells: the table of holds goes in by value and comes back by value, and the caller of a refused call still has the very table that
-// it lent. Parameters stand one by one, as in the C functions of the calls: a struct would be made there for each single call. Within, what only reads the table,
-// of 14 KB, is lent it in place of a copy; since of a lent array the length is not known, its contract asks for it.
+// it lent. Parameters stand one by one, as in the C functions of the calls: a struct would be made there for each single call. Within, a function that only
+// reads the table, of 14 KB, is lent it in place of a copy, and asks for its length, which is not known of an array behind a `&`.
 #![tactic(auto, using(crate::proofs::Ways::ways))]
 
 ghost use Rattle.std.specs.Prelude.{◌≡◌, [], ◌+◌, ◌-◌, ◌*◌, ◌<◌, ◌≤◌, min, not, false, length, get_or, set, IfOk};
@@ -88,8 +88,8 @@ fn note_all(h: &Held, hints: &mut [u8])
     }
 }
 
-// Whether the record is the watchtower's on p. The record is lent and its first word is compared by itself, which tells most of them apart: of a record that is
-// handed over all words are read, and compared at once, which takes up to half as long again.
+// Whether the record is the watchtower's on p. It is lent, and the first word of its hash is compared by itself, which tells most records apart: where one
+// is handed over all words are read and compared at once, which takes up to half as long again.
 #[tactic(auto, using(crate::proofs::Ways::ways), unfolding(out_points::specs::OutPoints::eq_hash, out_points::specs::OutPoints::eq_point))]
 fn tower_on(r: &Hold, p: OutPoint) -> bool
     ensures { result ≡ is_tower_on p r.now }
@@ -118,6 +118,7 @@ fn tower_place(h: &Held, p: OutPoint, from: usize) -> usize
 fn trimmed(h: Held) -> Held
     ensures result_value { records_of result ≡ records_of h }
     ensures count_bound { result.count ≤ 256 }
+    ensures same { (result.records ≡ h.records) × (result.count ≡ min h.count 256) }
 {
     let mut g = h;
     g.count = hold_records::used(h.count);
@@ -134,13 +135,13 @@ fn counted(count: usize, at: usize) -> usize
 
 // The watchtower's record on each of the cells lasts until `end`: in its place, or last (without a `push`: see `tally` of crate picks). More than one record is
 // looked at only where a slot has more than one.
-fn renew_from(from: Held, cells: &[u8], end: Millis, hints: &mut [u8]) -> Result<Held, Refusal>
-    requires { (from.count ≤ 256) × Hints hints.old from.records (min from.count 256) }
-    ensures held_value { told result ≡ at_most_256 (renew_all end (records_of from) (points cells.now)) }
+fn renew_from(h: &Held, cells: &[u8], end: Millis, hints: &mut [u8]) -> Result<Held, Refusal>
+    requires { (length h.now.records ≡ 256) × Hints hints.old h.now.records (min h.now.count 256) }
+    ensures held_value { told result ≡ at_most_256 (renew_all end (records_of h.now) (points cells.now)) }
     ensures count_bound { IfOk result (λ g. g.count ≤ 256) }
 {
     let n = molecule::fix_count(cells) as usize;
-    let mut g = from;
+    let mut g = trimmed(*h);
     for i in 0..n {
         let point = out_points::point_of(cells, i);
         let owner = Owner::Watchtower(end);
@@ -176,10 +177,9 @@ fn renew_all(h: Held, cells: &[u8], end: Millis) -> Result<Held, Refusal>
     ensures held_value { told result ≡ at_most_256 (renew_all end (records_of h) (points cells.now)) }
     ensures count_bound { IfOk result (λ g. g.count ≤ 256) }
 {
-    let g = trimmed(h);
     let mut hints = [255u8; HINTS];
-    note_all(&g, &mut hints);
-    renew_from(g, cells, end, &mut hints)
+    note_all(&h, &mut hints);
+    renew_from(&h, cells, end, &mut hints)
 }
 
 // Marks the record at `at`, if it is `on` a cell.
@@ -194,7 +194,8 @@ fn mark(marks: &mut [bool], at: usize, on: bool)
 
 // Marks the watchtower's records on the cells: for each cell the first of its slot, and the others, which are looked at only where a slot has more than one.
 fn mark_all(h: &Held, cells: &[u8], hints: &[u8], marks: &mut [bool])
-    requires { (length h.now.records ≡ 256) × Hints hints.now h.now.records (min h.now.count 256) × ReleaseMarks [] h.now.records (min h.now.count 256) marks.old }
+    requires { (length h.now.records ≡ 256) × Hints hints.now h.now.records (min h.now.count 256)
+        × ReleaseMarks [] h.now.records (min h.now.count 256) marks.old }
     ensures { ReleaseMarks (points cells.now) h.now.records (min h.now.count 256) marks.new }
 {
     let count = hold_records::used(h.count);
