@@ -173,13 +173,14 @@ fn renew_from(h: &Held, cells: &[u8], end: Millis, hints: &mut [u8]) -> Result<H
     Ok(g)
 }
 
-fn renew_all(h: Held, cells: &[u8], end: Millis) -> Result<Held, Refusal>
-    ensures held_value { told result ≡ at_most_256 (renew_all end (records_of h) (points cells.now)) }
+fn renew_all(h: &Held, cells: &[u8], end: Millis) -> Result<Held, Refusal>
+    requires { length h.now.records ≡ 256 }
+    ensures held_value { told result ≡ at_most_256 (renew_all end (records_of h.now) (points cells.now)) }
     ensures count_bound { IfOk result (λ g. g.count ≤ 256) }
 {
     let mut hints = [255u8; HINTS];
-    note_all(&h, &mut hints);
-    renew_from(&h, cells, end, &mut hints)
+    note_all(h, &mut hints);
+    renew_from(h, cells, end, &mut hints)
 }
 
 // Marks the record at `at`, if it is `on` a cell.
@@ -267,5 +268,5 @@ pub fn hold_for_watchtower(held: Held, cells: &[u8], time: Millis) -> Result<Hel
     }
     let wait = Millis(WATCHTOWER_HOLD_MS);
     let end = time.saturating_add(wait);
-    renew_all(held, cells, end)
+    renew_all(&held, cells, end)
 }
