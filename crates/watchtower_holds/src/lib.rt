@@ -88,15 +88,18 @@ fn note_all(h: &Held, hints: &mut [u8])
     }
 }
 
-// Whether the record is the watchtower's on p. It is lent, and the first word of its hash is compared by itself, which tells most records apart: where one
+// Whether the record is the watchtower's on p. It is lent, and the first word of its hash is compared before all else, which tells most records apart: where one
 // is handed over all words are read and compared at once, which takes up to half as long again.
 #[tactic(auto, using(crate::proofs::Ways::ways), unfolding(out_points::specs::OutPoints::eq_hash, out_points::specs::OutPoints::eq_point))]
 fn tower_on(r: &Hold, p: OutPoint) -> bool
     ensures { result ≡ is_tower_on p r.now }
 {
+    if p.hash.a != r.point.hash.a {
+        return false;
+    }
     match r.owner {
         Owner::Funding(_) => false,
-        Owner::Watchtower(_) => p.hash.a == r.point.hash.a && out_points::same_point(p, r.point),
+        Owner::Watchtower(_) => out_points::same_point(p, r.point),
     }
 }
 
