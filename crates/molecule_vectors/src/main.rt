@@ -144,7 +144,7 @@ fn at_places(kind: Kind, s: &[u8], answers: &[u8]) -> Count {
 fn copied(kind: Kind, s: &[u8], copy: &[u8]) -> Count {
     let mut work = [0; ROOM];
     let changes = molecule::part(copy, 2, copy.len());
-    let n = recorded_calls::changed(&mut work, s, little_endian::byte(copy, 1), changes);
+    let n = recorded_calls::put_changed(&mut work, s, little_endian::byte(copy, 1), changes);
     damaged(
         kind,
         molecule::part(&work, 0, n),
@@ -178,7 +178,7 @@ fn group(g: &[u8]) -> Count {
 
 fn main() {
     let mut room = io::large_buffer();
-    let n = recorded_calls::read_all(&mut room);
+    let n = recorded_calls::read_stdin(&mut room);
     let mut all = Count::default();
     for g in Items::of(&room[..n]) {
         all.add(group(g));

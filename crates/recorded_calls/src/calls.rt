@@ -4,12 +4,15 @@ ghost use Rattle.std.specs.List.{starts_with, list_all};
 ghost use Rattle.molecule.specs.Layout.{part};
 
 use crate::items::Items;
-use crate::parts::{Replay, each_part, zeros};
+use crate::parts::{InfallibleReplay, each_stdin_part, zeros};
 use crate::printed::Printed;
+use crate::readers::{Replay, each_part};
 use crate::tally::Tallies;
 use arithmetic::little_endian;
-use std::fmt;
+use std::alloc::{AllocError, Global};
 use std::fmt::{Display, Write};
+use std::io::BufReader;
+use std::{fmt, io};
 
 // What stands in a lent buffer before the call.
 pub const FILL: u8 = 165;
@@ -99,8 +102,16 @@ pub fn is_written_to(buffer: &[u8], room: usize, list: &[u8]) -> bool
     buffer.starts_with(list) && is_filled(molecule::part(buffer, list.len(), room))
 }
 
-// A table of cells.
+// A table of cells, which may lie in a heap.
 pub trait Table: Drop {
+    fn empty(alloc: Global) -> Result<Self, AllocError>;
+
+    // Runs the call, and answers whether all is as recorded.
+    fn is_right(&mut self, call: &Call<'_>, alloc: Global) -> Result<bool, AllocError>;
+}
+
+// A table of cells that needs no heap, and cannot fail.
+pub trait InfallibleTable: Drop {
     fn empty() -> Self;
 
     // Runs the call, and answers whether all is as recorded.
@@ -163,6 +174,23 @@ impl CallCounts {
             sum.wrong
         )
     }
+
+    // Prints the same lines by a runtime.
+    fn print_by<K: Display>(&self, rt: &impl Print, kinds: &[K]) -> io::Result<()> {
+        for (kind, tally) in kinds.iter().zip(&self.kinds.of).skip(1) {
+            println!(rt; "{kind}: {} calls, {} wrong", tally.all, tally.wrong)?;
+        }
+        let sum = self.kinds.sum();
+        let [sequences, ..] = self.kinds.of;
+        println!(rt;
+            "all: {} sequences, {} calls, of which the Rust answers {} alike and goes over a bound at {}, {} wrong",
+            sequences.all,
+            sum.all.saturating_sub(sequences.all),
+            self.alike,
+            self.over,
+            sum.wrong
+        )
+    }
 }
 
 // The calls of each part on a table that is empty before them.
@@ -172,7 +200,7 @@ struct Calls<T> {
     counts: CallCounts,
 }
 
-impl<T: Table> Replay for Calls<T> {
+impl<T: InfallibleTable> InfallibleReplay for Calls<T> {
     fn part(&mut self, part: &[u8]) {
         self.table = T::empty();
         for item in Items::of(part) {
@@ -184,12 +212,50 @@ impl<T: Table> Replay for Calls<T> {
 }
 
 // Replays the calls of standard input, whose kinds are these by number, and prints how many there are and how many are wrong.
-pub fn replay_calls<T: Table, K: Display>(kinds: &[K]) {
+pub fn replay_stdin_calls<T: InfallibleTable, K: Display>(kinds: &[K]) {
     let mut room = zeros::<LONGEST>();
     let mut calls = Calls {
         table: T::empty(),
         counts: CallCounts::new(),
     };
-    each_part(&mut room, &mut calls);
+    each_stdin_part(&mut room, &mut calls);
     let _ = calls.counts.print(kinds);
+}
+
+// The same calls on a table that may lie in a heap.
+#[derive(Drop)]
+struct AllocCalls<T> {
+    alloc: Global,
+    table: T,
+    counts: CallCounts,
+}
+
+impl<T: Table> Replay for AllocCalls<T> {
+    fn part(&mut self, part: &[u8]) -> io::Result<()> {
+        self.table = T::empty(self.alloc)?;
+        for item in Items::of(part) {
+            let call = Call::from(item);
+            let right = self.table.is_right(&call, self.alloc)?;
+            self.counts.count(&call, right);
+        }
+        Ok(())
+    }
+}
+
+// Replays the calls of a runtime's input, whose kinds are these by number, and prints by that runtime how many there are and how many are wrong. A write that fails is
+// passed over.
+pub fn replay_calls<T: Table, K: Display>(
+    rt: &(impl Input + Print + AllocGlobal),
+    kinds: &[K],
+) -> io::Result<()> {
+    let alloc = rt.alloc();
+    let mut calls = AllocCalls {
+        alloc,
+        table: T::empty(alloc)?,
+        counts: CallCounts::new(),
+    };
+    let input = BufReader::new(alloc, rt.reader())?;
+    each_part(alloc, input, LONGEST, &mut calls)?;
+    let _ = calls.counts.print_by(rt, kinds);
+    Ok(())
 }

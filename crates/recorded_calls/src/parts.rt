@@ -8,7 +8,7 @@ use arithmetic::little_endian;
 const STDIN_FILENO: i32 = 0;
 
 // What a program does with each part.
-pub trait Replay {
+pub trait InfallibleReplay {
     fn part(&mut self, part: &[u8]);
 }
 
@@ -20,7 +20,7 @@ pub fn zeros<const N: usize>() -> [u8; N]
 }
 
 // Reads the input until there is no room for more of it, and answers how much that is.
-pub fn read_all(room: &mut [u8]) -> usize
+pub fn read_stdin(room: &mut [u8]) -> usize
     ensures { IsPrefixLen result room.new }
 {
     io::read_full(STDIN_FILENO, room)
@@ -92,7 +92,7 @@ impl Recording<'_> {
 
 // Replays the parts that are stored in pieces, as tools/recorded_tables.py describes, all but the first, which stands in front of each and is only there to
 // be copied from. The room, of zeros, is as long as the first is together with another part at most.
-pub fn each_part<R: Replay>(room: &mut [u8], replay: &mut R) {
+pub fn each_stdin_part<R: InfallibleReplay>(room: &mut [u8], replay: &mut R) {
     let mut recording = Recording { room };
     let parts = read_u32();
     let first = recording.pieces(0);
@@ -103,7 +103,7 @@ pub fn each_part<R: Replay>(room: &mut [u8], replay: &mut R) {
 }
 
 // Replays the parts that are stored without a run of zeros, as tools/recorded_updates.py describes. The room is as long as a part is at most.
-pub fn each_sparse_part<R: Replay>(room: &mut [u8], replay: &mut R) {
+pub fn each_sparse_stdin_part<R: InfallibleReplay>(room: &mut [u8], replay: &mut R) {
     let mut recording = Recording { room };
     for _ in 0..read_u32() {
         let end = recording.sparse();

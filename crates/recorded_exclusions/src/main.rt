@@ -6,7 +6,7 @@
 use arithmetic::little_endian;
 use error::Answer;
 use exclusion_entries::MAP_BYTES;
-use recorded_calls::{Call, FILL, Table};
+use recorded_calls::{Call, FILL, InfallibleTable};
 use std::fmt;
 use units::BlockNumber;
 
@@ -144,7 +144,7 @@ struct Map {
     bytes: [u8; MAP_BYTES],
 }
 
-impl Table for Map {
+impl InfallibleTable for Map {
     fn empty() -> Map {
         Map {
             bytes: recorded_calls::zeros(),
@@ -166,5 +166,5 @@ impl Table for Map {
 }
 
 fn main() {
-    recorded_calls::replay_calls::<Map, _>(&Kind::ALL);
+    recorded_calls::replay_stdin_calls::<Map, _>(&Kind::ALL);
 }

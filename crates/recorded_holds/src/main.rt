@@ -6,7 +6,7 @@
 use arithmetic::little_endian;
 use error::Refusal;
 use hold_records::{Held, Hold, Owner, Taker};
-use recorded_calls::{Call, FILL, Table};
+use recorded_calls::{Call, FILL, InfallibleTable};
 use std::fmt;
 use units::Millis;
 
@@ -175,7 +175,7 @@ struct Holds {
     held: Held,
 }
 
-impl Table for Holds {
+impl InfallibleTable for Holds {
     fn empty() -> Holds {
         Holds {
             held: hold_records::empty(),
@@ -197,5 +197,5 @@ impl Table for Holds {
 }
 
 fn main() {
-    recorded_calls::replay_calls::<Holds, _>(&Kind::ALL);
+    recorded_calls::replay_stdin_calls::<Holds, _>(&Kind::ALL);
 }

@@ -5,7 +5,7 @@
 
 use arithmetic::little_endian;
 use molecule::write;
-use recorded_calls::{Items, Printed, Replay};
+use recorded_calls::{InfallibleReplay, Items, Printed};
 use rules::{Surplus, Update};
 use std::fmt;
 use std::fmt::Write;
@@ -166,7 +166,7 @@ impl Negotiations {
     }
 }
 
-impl Replay for Negotiations {
+impl InfallibleReplay for Negotiations {
     fn part(&mut self, part: &[u8]) {
         let negotiation = Negotiation::from(part);
         let mut ours = negotiation.start;
@@ -200,6 +200,6 @@ impl fmt::Display for Negotiations {
 fn main() {
     let mut room = recorded_calls::zeros::<LONGEST>();
     let mut negotiations = Negotiations::new();
-    recorded_calls::each_sparse_part(&mut room, &mut negotiations);
+    recorded_calls::each_sparse_stdin_part(&mut room, &mut negotiations);
     let _ = writeln!(Printed, "{negotiations}");
 }

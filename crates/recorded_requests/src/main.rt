@@ -6,7 +6,7 @@
 use arithmetic::little_endian;
 use funding_builder::Lent;
 use funding_cell::FundingRequest;
-use recorded_calls::{FILL, Items, Printed, Replay, Tallies};
+use recorded_calls::{FILL, InfallibleReplay, Items, Printed, Tallies};
 use std::fmt;
 use std::fmt::Write;
 use units::{Shannons, Tokens};
@@ -160,7 +160,7 @@ impl Requests {
     }
 }
 
-impl Replay for Requests {
+impl InfallibleReplay for Requests {
     fn part(&mut self, part: &[u8]) {
         for item in Items::of(part) {
             let request = Request::from(item);
@@ -190,6 +190,6 @@ fn main() {
     let mut requests = Requests {
         counts: Tallies::new(),
     };
-    recorded_calls::each_part(&mut room, &mut requests);
+    recorded_calls::each_stdin_part(&mut room, &mut requests);
     let _ = print(&requests);
 }

@@ -4,7 +4,7 @@
 #![tactic(auto)]
 
 use arithmetic::little_endian;
-use recorded_calls::{Items, Printed, Replay, Tallies};
+use recorded_calls::{InfallibleReplay, Items, Printed, Tallies};
 use std::fmt;
 use std::fmt::Write;
 use verdict_line::LINE_BYTES;
@@ -74,7 +74,7 @@ impl Files<'_> {
     }
 
     fn judge_copy(&mut self, file: &[u8], copy: &Copied<'_>) {
-        let n = recorded_calls::changed(self.copy, file, copy.count, copy.changes);
+        let n = recorded_calls::put_changed(self.copy, file, copy.count, copy.changes);
         let right = is_right(molecule::part(self.copy, 0, n), copy.line);
         self.count(copy.line, right);
         if copy.panics {
@@ -83,7 +83,7 @@ impl Files<'_> {
     }
 }
 
-impl Replay for Files<'_> {
+impl InfallibleReplay for Files<'_> {
     // The file itself has a line unless an earlier part had it.
     fn part(&mut self, part: &[u8]) {
         let file = molecule::field(part, 3, 0);
@@ -118,6 +118,6 @@ fn main() {
         panics: 0,
         copy: &mut copy,
     };
-    recorded_calls::each_sparse_part(&mut room, &mut files);
+    recorded_calls::each_sparse_stdin_part(&mut room, &mut files);
     let _ = print(&files);
 }

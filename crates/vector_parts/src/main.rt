@@ -36,7 +36,7 @@ fn group(g: &[u8]) -> Tally {
 
 fn main() {
     let mut room = io::large_buffer();
-    let n = recorded_calls::read_all(&mut room);
+    let n = recorded_calls::read_stdin(&mut room);
     let mut all = Tally::default();
     for g in Items::of(&room[..n]) {
         all.add(group(g));
