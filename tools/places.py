@@ -22,7 +22,7 @@ def sources():
         if len(parts) < 3 or parts[2] != 'src':
             continue
         for name in sorted(names):
-            if name.endswith('.rt'):
+            if name.endswith('.rt') and name != 'tests.rt':
                 yield os.path.join(folder, name)
 
 
